@@ -122,7 +122,7 @@ if [ -z "$library" ] && [ -e "$built" ] && [ -z "$(find "$top/crates/smtcheck_c/
     "$top/scripts/c_library.sh" "$library" >"$work/log" 2>&1 || { cat "$work/log"; library=; }
 fi
 if [ -n "$library" ]; then
-    soname=libsmtcheck.so.0
+    soname=libsmtcheck.so.1
     put 755 "$library/$soname" "lib/$soname"
     link "$soname" lib/libsmtcheck.so
     put 644 "$library/libsmtcheck.a" lib/libsmtcheck.a

@@ -1,9 +1,10 @@
 #!/usr/bin/env python3
-"""Counts how many of a solver's models are confirmed, by kind of script: shares.py [--scripts N] [--seed N] NAME=COMMAND..
+"""Counts how many of a solver's models are confirmed, by kind of script: shares.py [--scripts N] [--seed N] [--profile P] NAME=COMMAND..
 
 It invents N scripts of each kind (40), each with one assertion or more, and lets each solver answer each twice: first without models, and
 then with a `get-model` behind each check that was answered `sat`, since some print nothing for a model behind `unsat`. A solver has 10
-seconds for each run. The table has, for each kind and solver, `confirmed of sat`, and what else was found. SMTCHECK names the program.
+seconds for each run. The table has, for each kind and solver, `confirmed of sat`, and what else was found, in the profile `base` or in that which
+is named. SMTCHECK names the program.
 """
 import argparse
 import os
@@ -143,7 +144,7 @@ def answered(command: Sequence[str], script: str, folder: str) -> str:
     return done.stdout.decode("utf-8", "replace")
 
 
-def found(program: str, command: Sequence[str], logic: str, body: List[str]) -> Dict[str, int]:
+def found(program: Sequence[str], command: Sequence[str], logic: str, body: List[str]) -> Dict[str, int]:
     """What is found of one script: how many checks of each finding, or that the dialogue was refused."""
     head = f"(set-option :produce-models true)\n(set-logic {logic})\n"
     with tempfile.TemporaryDirectory() as folder:
@@ -153,7 +154,7 @@ def found(program: str, command: Sequence[str], logic: str, body: List[str]) -> 
         name = os.path.join(folder, "answers.txt")
         with open(name, "w") as file:
             file.write(answers)
-        words = [program, "--print-success", "off", os.path.join(folder, "script.smt2"), name]
+        words = [*program, "--print-success", "off", os.path.join(folder, "script.smt2"), name]
         report = subprocess.run(words, stdout=subprocess.PIPE, stdin=subprocess.DEVNULL).stdout.decode("ascii").splitlines()
     counts: Dict[str, int] = {}
     for line in report:
@@ -172,9 +173,10 @@ def main() -> int:
     parser = argparse.ArgumentParser(description=(__doc__ or "").split("\n", 1)[0])
     parser.add_argument("--scripts", type=int, default=40)
     parser.add_argument("--seed", type=int, default=1)
+    parser.add_argument("--profile", choices=("base", "wide"), default="base")
     parser.add_argument("solvers", nargs="+", metavar="NAME=COMMAND")
     given = parser.parse_args()
-    program = os.environ.get("SMTCHECK", "smtcheck")
+    program = [os.environ.get("SMTCHECK", "smtcheck"), "--profile", given.profile]
     solvers = [(word.split("=", 1)[0], shlex.split(word.split("=", 1)[1])) for word in given.solvers]
     print("| kind of script | " + " | ".join(name for name, _ in solvers) + " |")
     print("|---" * (len(solvers) + 1) + "|")

@@ -1,6 +1,6 @@
 #!/bin/sh
 # man_page.sh PROGRAM LANGUAGE: prints the manual page, which is made of what the program says to `--help` and `--version`, and of the
-# tables of docs/LANGUAGE.md on the report's lines, on faults and on the lines of standard error.
+# tables of docs/LANGUAGE.md on the profile `wide`, on the report's lines, on faults and on the lines of standard error.
 set -e
 version=$("$1" --version)
 version=${version#smtcheck }
@@ -66,6 +66,16 @@ z3 prints no \(gasuccess\(ga unless it is told to:
 z3 script.smt2 > answers.txt
 smtcheck \-\-print\-success off script.smt2 answers.txt
 .fi
+.SH PROFILES
+What \-\-profile wide takes beside the language of \-\-profile base, and what is said of it there. LANGUAGE.md has the rest.
+END
+rows '| where | with `--profile base` | with `--profile wide` |' "$2" | awk '{
+    split($0, cells, / [|] /)
+    gsub(/\\\(ga/, "", cells[1])
+    print ".TP\n.B " cells[1]
+    print "base: " cells[2] ".\n.br\nwide: " cells[3] "."
+}' | sed 's/!bar!/|/g'
+cat <<'END'
 .SH REPORT LINES
 One line for each check, then the first fault if there is one, then the verdict. Commands, answers, checks, items and assumptions are
 counted from 1, and bytes from 0.

@@ -1,6 +1,6 @@
 #!/bin/sh
-# Runs the program on command lines: which files and which `--print-success` they name, which `--steps` they may name, what `--explain` and
-# `--strict` change, or how they are refused, to the byte. Needs what `rt ci` has built. Says nothing where all is well.
+# Runs the program on command lines: which files, which `--print-success` and which `--profile` they name, which `--steps` they may name, what
+# `--explain` and `--strict` change, or how they are refused, to the byte. Needs what `rt ci` has built. Says nothing where all is well.
 set -e
 cd "$(dirname "$0")/.."
 top=$PWD
@@ -54,10 +54,30 @@ named 'a --steps 5 b' a b on
 named '--print-success off --steps 5 a b' a b off
 named 'a --steps=5 --print-success=off b' a b off
 named '-- --steps=5 b' --steps=5 b on
+named '--profile base a b' a b on
+named '--profile=wide a b' a b on
+named 'a b --profile wide' a b on
+named '--print-success off --profile wide --steps 5 a b' a b off
+named 'a --profile=base --print-success=off b' a b off
+named '-- --profile=wide b' --profile=wide b on
 named '--explain a b' a b on
 named 'a b --explain' a b on
 named '--explain --print-success off --steps 5 a b' a b off
 named '-- --strict --explain' --strict --explain on
+rm -f ./*
+
+# profile WANTED LINE: a script of the profile `wide` has this status with this line.
+profile() {
+    echo '(push)' >script
+    : >answers
+    run "--print-success off $2 script answers"
+    [ "$status" = "$1" ] && [ ! -s errors ] || fail "$2"
+}
+profile 3 ''
+profile 3 '--profile base'
+profile 3 '--profile=base'
+profile 0 '--profile wide'
+profile 0 '--profile=wide'
 rm -f ./*
 
 # strict WANTED SCRIPT ANSWERS: with --strict the status is this one, the report stays, and without it the status is 0 in place of 2.
@@ -168,6 +188,32 @@ error: invalid value '$value' for '--print-success <on|off>'
 For more information, try '--help'.
 END
 done
+for value in yes WIDE; do
+    refused "--profile $value b" <<END
+error: invalid value '$value' for '--profile <base|wide>'
+  [possible values: base, wide]
+
+For more information, try '--help'.
+END
+done
+for value in Wide:wide widen:wide a:base; do
+    refused "--profile ${value%:*} b" <<END
+error: invalid value '${value%:*}' for '--profile <base|wide>'
+  [possible values: base, wide]
+
+  tip: a similar value exists: '${value#*:}'
+
+For more information, try '--help'.
+END
+done
+for line in 'a b --profile' '--profile= a b'; do
+    refused "$line" <<'END'
+error: a value is required for '--profile <base|wide>' but none was supplied
+  [possible values: base, wide]
+
+For more information, try '--help'.
+END
+done
 for line in 'a b --print-success' '--print-success= a b'; do
     refused "$line" <<'END'
 error: a value is required for '--print-success <on|off>' but none was supplied
@@ -239,6 +285,16 @@ For more information, try '--help'.
 END
 done
 
+for last in base wide; do
+    refused "--profile wide --profile $last a b" <<'END'
+error: the argument '--profile <base|wide>' cannot be used multiple times
+
+Usage: smtcheck [OPTIONS] <SCRIPT> <ANSWERS>
+
+For more information, try '--help'.
+END
+done
+
 # helped LINE: the line asks for help, which is printed with status 5.
 cat >wanted <<'END'
 Checks the models that an SMT solver printed.
@@ -264,6 +320,14 @@ Options:
           A script's own (set-option :print-success ..) is followed from there on.
           
           [default: on]
+
+      --profile <base|wide>
+          Which language is taken; docs/LANGUAGE.md has both.
+          
+          base: scripts over truth values, integers and bit vectors, in the forms of SMT-LIB 2.6
+          wide: the same, and forms that real scripts and models have besides: (push) and (pop) without a numeral, define-const, terms as assumptions, the names of more logics, `unsupported` as answer to set-logic, and items of a model that repeat a label or a definition of the script, as z3 prints them
+          
+          [default: base]
 
       --steps <N>
           How many steps the evaluation of a model may take, from 0 to 18446744073709551614. All assertions in force count together, and a model that costs more is told as `too long`, and is not evaluated.
@@ -302,6 +366,7 @@ run --help
 [ "$status" = 5 ] && [ ! -s errors ] && cmp -s wanted output || fail --help
 run 'a b -h'
 [ "$status" = 5 ] && [ ! -s errors ] && grep -q '^Usage: smtcheck' output || fail 'a b -h'
+grep -qxF '      --profile <base|wide>     which language is taken [default: base]' output || fail 'a b -h'
 grep -qxF '      --steps <N>               how many steps the evaluation of a model may take [default: 10000000]' output || fail 'a b -h'
 
 # The version is that of CHANGELOG.md, and the kit is the one that is here.

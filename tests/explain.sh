@@ -58,7 +58,7 @@ explains C5 off '(set-logic QF_LRA)' '' 'fault: s:1:1, command 1: (set-logic QF_
 explains C5 off '(declare-const p Bool)(set-logic QF_UF)' '' 'fault: s:1:23, command 2: (set-logic QF_UF)' "$late"
 explains C6 off '(exit)(check-sat)' '' 'fault: s:1:7, command 2: (check-sat)' '  C6: it stands behind an exit that took effect'
 explains C7 off '(declare-const x Int)(check-sat-assuming (x))' 'sat' 'fault: s:1:22, command 2: (check-sat-assuming (x))' \
-    '  C7: F4: arguments that the head does not take, or another sort than is needed'
+    '  C7: F4: arguments that the head does not take, or another sort than is needed' '  a literal is of sort Int, and Bool is needed'
 explains C7 off '(declare-const p Bool)(check-sat-assuming (p (not q)))' 'sat' 'fault: s:1:23, command 2: (check-sat-assuming (p (not q)))' \
     '  C7: F3: a name, a sort or a literal is unknown there' '  unknown: q'
 
@@ -72,8 +72,29 @@ explains F3 off '(assert (or (let ((a true)) a) a (f true)))' '' 'fault: s:1:1, 
     '  C7: F3: a name, a sort or a literal is unknown there' '  unknown: a'
 explains F3 off '(define-sort S () Bool)(define-fun f ((x S)) T x)' '' 'fault: s:1:24, command 2: (define-fun f ((x S)) T x)' \
     '  C7: F3: a name, a sort or a literal is unknown there' '  unknown: T'
-explains F4 off '(assert (and true))' '' 'fault: s:1:1, command 1: (assert (and true))' \
-    '  C7: F4: arguments that the head does not take, or another sort than is needed'
+ill='  C7: F4: arguments that the head does not take, or another sort than is needed'
+explains F4 off '(assert (and true))' '' 'fault: s:1:1, command 1: (assert (and true))' "$ill" '  ill sorted: (and true)' '    the sorts of its arguments: Bool'
+explains F4 off '(declare-const x Int)(assert (! x :named a))' '' 'fault: s:1:22, command 2: (assert (! x :named a))' "$ill" \
+    '  its term is of sort Int, and Bool is needed'
+explains F4 off '(declare-const x Int)(declare-const p Bool)
+(assert (let ((y x) (x true)) (and (! p :named a) x (= (+ y 1) (ite p y x)))))' '' \
+    'fault: s:2:1, command 3: (assert (let ((y x) (x true)) (and (! p :named a) x (= (+ y 1) (ite p y x)))))' "$ill" \
+    '  ill sorted: (ite p y x)' '    argument 3, x, is of sort Bool, and Int is needed'
+explains F4 off '(define-sort B () (_ BitVec 8))(declare-const v B)(assert (= #b000 (bvadd v ((_ extract 2 0) v))))' '' \
+    'fault: s:1:51, command 3: (assert (= #b000 (bvadd v ((_ extract 2 0) v))))' "$ill" '  ill sorted: (bvadd v ((_ extract 2 0) v))' \
+    '    argument 2, ((_ extract 2 0) v), is of sort (_ BitVec 3), and (_ BitVec 8) is needed'
+explains F4 off '(declare-fun f (Int Bool) Int)(assert (= 1 (f true true)))' '' 'fault: s:1:31, command 2: (assert (= 1 (f true true)))' "$ill" \
+    '  ill sorted: (f true true)' '    argument 1, true, is of sort Bool, and Int is needed'
+explains F4 off '(declare-fun f (Int Bool) Int)(assert (= 1 (f 1)))' '' 'fault: s:1:31, command 2: (assert (= 1 (f 1)))' "$ill" \
+    '  ill sorted: (f 1)' '    arguments needed: 2, and there are 1'
+explains F4 off '(assert (! true :named a))(assert (=> a (= a 1)))' '' 'fault: s:1:27, command 2: (assert (=> a (= a 1)))' "$ill" '  ill sorted: (= a 1)' \
+    '    argument 2, 1, is of sort Int, and Bool is needed'
+explains F4 off '(assert (let ((x 1)) (x 2)))' '' 'fault: s:1:1, command 1: (assert (let ((x 1)) (x 2)))' "$ill" '  ill sorted: (x 2)' \
+    '    its head is a variable, which takes no arguments'
+explains F4 off '(define-fun f ((x Int) (y (_ BitVec 8))) Int y)' '' 'fault: s:1:1, command 1: (define-fun f ((x Int) (y (_ BitVec 8))) Int y)' "$ill" \
+    '  its body is of sort (_ BitVec 8), and Int is needed'
+explains F4 off '(set-logic QF_BV)(push 1)(declare-const x Bool)(pop 1)(declare-const x (_ BitVec 2))(assert (bvult x #b1))' '' \
+    'fault: s:1:85, command 6: (assert (bvult x #b1))' "$ill" '  ill sorted: (bvult x #b1)' '    argument 2, #b1, is of sort (_ BitVec 1), and (_ BitVec 2) is needed'
 explains F5 off '(declare-const x (_ BitVec 256))' '' 'fault: s:1:1, command 1: (declare-const x (_ BitVec 256))' \
     '  C7: F5: an index or a width is wrong; widths go from 1 to 128'
 explains F6 off '(assert (let ((x true) (x true)) x))' '' 'fault: s:1:1, command 1: (assert (let ((x true) (x true)) x))' \
@@ -104,7 +125,23 @@ explains F2 off "$asked" 'sat ((define-fun q () Real 1.5))' "$check" '  item 1: 
 explains F3 off "$asked" 'sat ((define-fun p () Bool q))' "$check" '  item 1: a:1:6: (define-fun p () Bool q)' \
     '  F3: a name, a sort or a literal is unknown there' '  unknown: q'
 explains F4 off "$asked" 'sat ((define-fun p () Int 1))' "$check" '  item 1: a:1:6: (define-fun p () Int 1)' \
-    '  F4: arguments that the head does not take, or another sort than is needed' '  declared: s:1:1, command 1: (declare-const p Bool)'
+    '  F4: arguments that the head does not take, or another sort than is needed' '  declared: s:1:1, command 1: (declare-const p Bool)' \
+    '  its result is of sort Int, and Bool is needed'
+explains F4 off "$asked" 'sat ((define-fun p () Bool 1))' "$check" '  item 1: a:1:6: (define-fun p () Bool 1)' \
+    '  F4: arguments that the head does not take, or another sort than is needed' '  declared: s:1:1, command 1: (declare-const p Bool)' \
+    '  its body is of sort Int, and Bool is needed'
+asked_f='(declare-fun f (Int Int) Bool)(check-sat)(get-model)'
+check_f='check 1: s:1:31, command 2: (check-sat)'
+explains F4 off "$asked_f" 'sat ((define-fun g ((a Int)) Bool (< a 2)) (define-fun f ((x Int) (y Int)) Bool (g (g x))))' "$check_f" \
+    '  item 2: a:1:44: (define-fun f ((x Int) (y Int)) Bool (g (g x)))' \
+    '  F4: arguments that the head does not take, or another sort than is needed' '  declared: s:1:1, command 1: (declare-fun f (Int Int) Bool)' \
+    '  ill sorted: (g (g x))' '    argument 1, (g x), is of sort Bool, and Int is needed'
+explains F4 off "$asked_f" 'sat ((define-fun f ((x Int) (y Bool)) Bool true))' "$check_f" '  item 1: a:1:6: (define-fun f ((x Int) (y Bool)) Bool true)' \
+    '  F4: arguments that the head does not take, or another sort than is needed' '  declared: s:1:1, command 1: (declare-fun f (Int Int) Bool)' \
+    '  its parameter 2 is of sort Bool, and Int is needed'
+explains F4 off "$asked_f" 'sat ((define-fun f ((x Int)) Bool true))' "$check_f" '  item 1: a:1:6: (define-fun f ((x Int)) Bool true)' \
+    '  F4: arguments that the head does not take, or another sort than is needed' '  declared: s:1:1, command 1: (declare-fun f (Int Int) Bool)' \
+    '  parameters declared: 2, and there are 1'
 explains F5 off "$asked" 'sat ((define-fun x () (_ BitVec 0) #b0))' "$check" '  item 1: a:1:6: (define-fun x () (_ BitVec 0) #b0)' \
     '  F5: an index or a width is wrong; widths go from 1 to 128'
 explains F6 off "$asked" 'sat (model

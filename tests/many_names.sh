@@ -54,3 +54,10 @@ awk 'BEGIN { n = 5000
     for (k = 0; k < n; k++) { printf "(push 1)(declare-const x%d Bool)(assert (and", k; for (i = 0; i < 50; i++) printf " x%d", k
         print "))(check-sat)(pop 1)" } }' |
     check '5,000 levels under global declarations' 'check 1 at command 5: unsat' unsat 5000
+
+# names that were chosen to collide
+if command -v python3 >"$work/python"; then
+    PYTHONDONTWRITEBYTECODE=1 python3 tests/colliding_names.py "$program" >"$work/table" || { echo 'many names: names that collide take too long'; cat "$work/table"; exit 1; }
+else
+    echo 'many names: colliding names skipped, no python3' >&2
+fi

@@ -72,6 +72,23 @@ class Main(Files):
         for line in ([], ["--help"], ["--steps", "5", "--steps", "5", *self.files], ["--steps=x", *self.files], ["--print-succ", "off", *self.files]):
             self.assertEqual(run(*line).returncode, 5, line)
         self.told(5, "given twice", "--print-success", "on", "--print-success", "on", *self.files)
+        self.assertEqual(run("--profile", "Wide", *self.files).returncode, 5)
+
+    def test_the_profile(self) -> None:
+        for file, text in zip(self.files, ("(push)", "")):
+            pathlib.Path(file).write_text(text)
+        for words, status in (((), 3), (("--profile=base",), 3), (("--profile", "wide"), 0)):
+            self.assertEqual(run("--print-success=off", *words, *self.files).returncode, status, words)
+        for profile, verdict in (("base", "refused"), ("wide", "valid")):
+            self.assertEqual(smtcheck.check_files(*self.files, print_success=False, profile=profile).verdict, verdict)
+            self.assertEqual(smtcheck.explain("(push)", "", False, profile=profile).verdict, verdict)
+            with smtcheck.Session(print_success=False, profile=profile) as session:
+                session.script("(push)")
+                session.end_script()
+                session.end_answers()
+                self.assertEqual(session.verdict, verdict)
+        with self.assertRaises(ValueError):
+            smtcheck.check(SCRIPT, RIGHT, profile="Wide")
 
     def test_the_version(self) -> None:
         for word in ("-V", "--version"):
@@ -104,6 +121,7 @@ class Arguments(Files):
             "print_success is 0, and not True or False": (SCRIPT, RIGHT, 0),
             "steps is True, and no int": (SCRIPT, RIGHT, False, True),
             "steps is 1.5, and no int": (SCRIPT, RIGHT, False, 1.5),
+            "profile is True, and no str": (SCRIPT, RIGHT, False, 5, True),
         }.items():
             with self.assertRaises(TypeError) as raised:
                 smtcheck.check(*words)  # type: ignore[arg-type]
@@ -203,6 +221,9 @@ class Explanations(unittest.TestCase):
         self.assertEqual([each.spot for each in fault.details], [smtcheck.Spot("script", 2, 2), smtcheck.Spot("script", 1, 1)])
         (fault,) = smtcheck.explain("(assert (f q))", "", print_success=False).told
         self.assertEqual((fault.details[1].kind, fault.details[1].text), ("unknown", "q"))
+        (fault,) = smtcheck.explain("(assert (= 1 true))", "", print_success=False).told
+        self.assertEqual((fault.details[1].kind, fault.details[1].text), ("ill sorted", "(= 1 true)"))
+        self.assertEqual(fault.details[2].text, "argument 2, true, is of sort Bool, and Int is needed")
         check, fault = smtcheck.explain("(check-sat)(frob)", "unsat", print_success=False).told
         self.assertEqual((check.details[0].kind, check.details[0].text), ("answer", "unsat"))
 

@@ -74,7 +74,7 @@ static char *written(const struct text *text) {
     return bytes;
 }
 
-static const struct smtcheck_options options = {SMTCHECK_STEPS, false};
+static const struct smtcheck_options options = {SMTCHECK_STEPS, false, false};
 
 /* The verdict on two whole texts. */
 static uint32_t whole(const char *script, const char *answers) {

@@ -1,7 +1,8 @@
 #!/bin/sh
 # Tries what docs/SOLVERS.md says: of bitwuzla and boolector on answers that are stored (tests/solvers), and of z3, where it is installed, by
-# running it: the table of shares is made with two scripts of each kind, and labels are left out of models by an option. SMTCHECK names the
-# program; without it, that which `rt ci` has built. Skips with a word where z3 or Python is not installed. Says nothing else where all is well.
+# running it: the table of shares is made with two scripts of each kind, and labels are left out of models by an option, and set aside with
+# `--profile wide`. SMTCHECK names the program; without it, that which `rt ci` has built. Skips with a word where z3 or Python is not
+# installed. Says nothing else where all is well.
 set -e
 cd "$(dirname "$0")/.."
 program="${SMTCHECK:-$PWD/crates/smtcheck/out/smtcheck}"
@@ -37,6 +38,7 @@ END
 z3 "$work/label.smt2" >"$work/answers.txt" || true
 "$SMTCHECK" --print-success off "$work/label.smt2" "$work/answers.txt" >"$work/report" || true
 grep -q 'item [1-9] F7' "$work/report" || fail "a label: $(cat "$work/report")"
+"$SMTCHECK" --profile wide --print-success off "$work/label.smt2" "$work/answers.txt" >"$work/report" || fail "a label in wide: $(cat "$work/report")"
 if z3 -pm:model 2>/dev/null | grep -q user_functions; then
     z3 model.user_functions=false "$work/label.smt2" >"$work/answers.txt" || true
     "$SMTCHECK" --print-success off "$work/label.smt2" "$work/answers.txt" >"$work/report" || fail "a label that is left out: $(cat "$work/report")"

@@ -2,7 +2,7 @@
 """Compares the library with the program on the dialogues of a file of rows: compare.py PROGRAM CHECK ROWS.
 
 PROGRAM is `smtcheck`, and CHECK the example in C. Each has to print the same bytes with the same status; so has `check` of smtcheck.py,
-and `python -m smtcheck` on some of the dialogues; `explain` has to tell what the program does with `--explain`, also where the last figure or
+and `python -m smtcheck` on some of the dialogues, but in the profile `wide` that example, which knows no profile; `explain` has to tell what the program does with `--explain`, also where the last figure or
 truth value of the answers is another. It prints the first difference, and has status 1 there.
 """
 import os
@@ -37,14 +37,14 @@ def changed(answers: bytes) -> bytes:
     return found.group(1) + other + found.group(3)
 
 
-def is_explained(program: str, folder: str, start: str, script: bytes, answers: bytes) -> bool:
+def is_explained(program: str, folder: str, start: str, profile: str, script: bytes, answers: bytes) -> bool:
     """Whether `explain` tells what the program prints behind its report, and each line of it is read."""
     for name, text in (("script", script), ("answers", answers)):
         with open(os.path.join(folder, name), "wb") as out:
             out.write(text)
-    status, printed = run(program, "--explain", "--print-success", start, "script", "answers", cwd=folder)
-    report = smtcheck.check(script, answers, print_success=start == "on")
-    told = smtcheck.explain(script, answers, print_success=start == "on")
+    status, printed = run(program, "--explain", "--print-success", start, "--profile", profile, "script", "answers", cwd=folder)
+    report = smtcheck.check(script, answers, print_success=start == "on", profile=profile)
+    told = smtcheck.explain(script, answers, print_success=start == "on", profile=profile)
     lines = sum(line.outcome != "confirmed" for line in report.lines)
     return (status, printed) == (report.status, (report.text + told.text).encode()) and len(told.told) == lines and told.verdict == report.verdict
 
@@ -62,18 +62,21 @@ def main(program: str, check: str, path: str) -> int:
             for file, text in zip(files, texts):
                 with open(file, "wb") as out:
                     out.write(text)
-            start = fields["start"].decode()
-            wanted = run(program, "--print-success", start, *files)
-            report = smtcheck.check(*texts, print_success=start == "on")
-            told = {"the example in C": run(check, start, *files), "check": (report.status, report.text.encode())}
+            start, profile = fields["start"].decode(), fields.get("profile", b"base").decode()
+            words = ("--print-success", start, "--profile", profile, *files)
+            wanted = run(program, *words)
+            report = smtcheck.check(*texts, print_success=start == "on", profile=profile)
+            told = {"check": (report.status, report.text.encode())}
+            if profile == "base":
+                told["the example in C"] = run(check, start, *files)
             if count % 20 == 0:
-                told["python -m smtcheck"] = run(sys.executable, "-m", "smtcheck", "--print-success", start, *files)
+                told["python -m smtcheck"] = run(sys.executable, "-m", "smtcheck", *words)
             for name, given in told.items():
                 if given != wanted:
                     print(f"{row[0][1].decode()}: {name}: {given}, and the program: {wanted}")
                     return 1
             for answers in (texts[1], changed(texts[1])):
-                if not is_explained(program, folder, start, texts[0], answers):
+                if not is_explained(program, folder, start, profile, texts[0], answers):
                     print(f"{row[0][1].decode()}: explain")
                     return 1
             counts = [report.confirmed, report.refuted, report.undecided, report.unchecked]

@@ -49,12 +49,13 @@ import sys
 from typing import Callable, Iterator, List, NamedTuple, NoReturn, Optional, Sequence, Tuple, Union
 
 __all__ = [
-    "Detail", "Explained", "Explanation", "Item", "LibraryError", "Line", "Part", "Place", "Report", "STEPS", "Session", "Spot", "VERDICTS", "Value",
-    "check", "check_files", "explain", "explanation_of", "line_of", "main", "version",
+    "Detail", "Explained", "Explanation", "Item", "LibraryError", "Line", "PROFILES", "Part", "Place", "Report", "STEPS", "Session", "Spot",
+    "VERDICTS", "Value", "check", "check_files", "explain", "explanation_of", "line_of", "main", "version",
 ]
-__version__ = "0.6.0"
+__version__ = "0.7.0"
 
 VERDICTS = ("valid", "invalid", "not decided", "refused")
+PROFILES = ("base", "wide")
 MEMORY, OPTIONS, OPEN, LONG = 4, 5, 6, 7
 STEPS = 10_000_000
 
@@ -248,7 +249,7 @@ class Explanation(NamedTuple):
 
 
 class _Options(ctypes.Structure):
-    _fields_ = [("steps", ctypes.c_uint64), ("print_success", ctypes.c_bool)]
+    _fields_ = [("steps", ctypes.c_uint64), ("print_success", ctypes.c_bool), ("wide", ctypes.c_bool)]
 
 
 class _Summary(ctypes.Structure):
@@ -309,7 +310,7 @@ def _bytes_of(text: Text, name: str) -> bytes:
     raise TypeError(f"{name} is a {type(text).__name__}, and no str or bytes" + (": check_files takes paths" if hasattr(text, "__fspath__") else ""))
 
 
-def _options_of(print_success: bool, steps: int) -> _Options:
+def _options_of(print_success: bool, steps: int, profile: str) -> _Options:
     """The options, if they have the types and the ranges that they need."""
     if not isinstance(print_success, bool):
         raise TypeError(f"print_success is {print_success!r}, and not True or False")
@@ -318,7 +319,11 @@ def _options_of(print_success: bool, steps: int) -> _Options:
     steps = operator.index(steps)
     if not 0 <= steps < 2**64 - 1:
         raise ValueError(f"steps is {steps}, and not from 0 to {2**64 - 2}")
-    return _Options(steps, print_success)
+    if not isinstance(profile, str):
+        raise TypeError(f"profile is {profile!r}, and no str")
+    if profile not in PROFILES:
+        raise ValueError(f"profile is {profile!r}, and neither 'base' nor 'wide'")
+    return _Options(steps, print_success, profile == "wide")
 
 
 def version() -> str:
@@ -351,22 +356,24 @@ def _filled(call: Callable[..., int]) -> Tuple[int, str]:
         room = wanted.value
 
 
-def check(script: Text, answers: Text, print_success: bool = True, steps: int = STEPS) -> Report:
+def check(script: Text, answers: Text, print_success: bool = True, steps: int = STEPS, profile: str = "base") -> Report:
     """The report on a dialogue: the script that a solver read, and the text that it printed, in order.
 
     `print_success` says whether the solver prints `success`, from the start, for each command that has no answer of its own: z3, cvc5,
     cvc4 and bitwuzla don't, unless they are told to. `steps` is how many steps the evaluation of a model may take, below 2^64 - 1.
-    A text that is a `str` is taken in UTF-8.
+    `profile` is the language that is taken, `base` or `wide`. A text that is a `str` is taken in UTF-8.
 
     >>> check("(check-sat)", "unsat", print_success=False).lines
     (Line(check=1, command=1, outcome='unsat', place=Place()),)
     >>> check("(assert (< 1 2))", "", print_success=True).lines
     (Line(check=None, command=1, outcome='fault P1', place=Place()),)
+    >>> [check("(push)", "", print_success=False, profile=profile).verdict for profile in PROFILES]
+    ['refused', 'valid']
 
-    MemoryError is raised where memory was refused, ValueError for a number of steps out of range, and TypeError for an argument of another
-    type, which it names.
+    MemoryError is raised where memory was refused, ValueError for a number of steps out of range or a profile that there is not, and
+    TypeError for an argument of another type, which it names.
     """
-    options, summary = _options_of(print_success, steps), _Summary()
+    options, summary = _options_of(print_success, steps, profile), _Summary()
     texts = [_bytes_of(script, "script"), _bytes_of(answers, "answers")]
     outcome, text = _filled(
         lambda *room: _library().smtcheck_validate(texts[0], len(texts[0]), texts[1], len(texts[1]), options, summary, *room)
@@ -377,7 +384,7 @@ def check(script: Text, answers: Text, print_success: bool = True, steps: int = 
     )
 
 
-def explain(script: Text, answers: Text, print_success: bool = True, steps: int = STEPS) -> Explanation:
+def explain(script: Text, answers: Text, print_success: bool = True, steps: int = STEPS, profile: str = "base") -> Explanation:
     """Where each check that is not confirmed stands in the two texts, and the fault, and why. The arguments are those of `check`.
 
     The verdict is proved to be that of the report, and values are those of the proved evaluator. All else that it says is tested.
@@ -390,22 +397,22 @@ def explain(script: Text, answers: Text, print_success: bool = True, steps: int 
     >>> explain("(check-sat)(get-model)", "sat ()", print_success=False)
     Explanation(verdict='valid', told=(), text='')
     """
-    options = _options_of(print_success, steps)
+    options = _options_of(print_success, steps, profile)
     texts = [_bytes_of(script, "script"), _bytes_of(answers, "answers")]
     outcome, text = _filled(lambda *room: _library().smtcheck_explain(texts[0], len(texts[0]), texts[1], len(texts[1]), options, *room))
     return Explanation(VERDICTS[outcome], explanation_of(text), text)
 
 
-def check_files(script: Path, answers: Path, print_success: bool = True, steps: int = STEPS) -> Report:
+def check_files(script: Path, answers: Path, print_success: bool = True, steps: int = STEPS, profile: str = "base") -> Report:
     """The report on two files, as `check` gives it. OSError is raised where one can't be read."""
-    options = _options_of(print_success, steps)
+    options = _options_of(print_success, steps, profile)
     texts = []
     for name, path in (("script", script), ("answers", answers)):
         if not isinstance(path, (str, bytes)) and not hasattr(path, "__fspath__"):
             raise TypeError(f"{name} is a {type(path).__name__}, and no path")
         with open(path, "rb") as file:
             texts.append(file.read())
-    return check(texts[0], texts[1], options.print_success, options.steps)
+    return check(texts[0], texts[1], options.print_success, options.steps, profile)
 
 
 class Session:
@@ -431,12 +438,12 @@ class Session:
     verdict: invalid, confirmed 0, refuted 1, undecided 0, unchecked 0
     """
 
-    def __init__(self, print_success: bool = True, steps: int = STEPS) -> None:
+    def __init__(self, print_success: bool = True, steps: int = STEPS, profile: str = "base") -> None:
         self._session = _Session()
         self._ended = {"script": False, "answers": False}
         self._lines: List[str] = []
         self._told = 0
-        self._answered(_library().smtcheck_session_new(_options_of(print_success, steps), self._session))
+        self._answered(_library().smtcheck_session_new(_options_of(print_success, steps, profile), self._session))
 
     def __enter__(self) -> "Session":
         return self
@@ -581,7 +588,7 @@ _SPOT = r"(script|answers):(\d+):(\d+)"
 _TOLD = re.compile(rf"(?:check (\d+)|fault): {_SPOT}(?:, command (\d+))?(?:: (.*))?")
 _PART = re.compile(rf"  (true|false|open|value): (?!the (?:outermost )?list at )(.*?)(?:   at {_SPOT}, in (.*))?")
 _DETAIL = re.compile(rf"  ([a-z][a-z ]*?(?:,? \d+)?)(?:: the [a-z ]+)?(?:: | at ){_SPOT}(?:, command (\d+))?(?:: (.*))?")
-_NAMED = re.compile(r"  (unknown|bound twice|claim|also false|too long|no model): (.*)")
+_NAMED = re.compile(r"  (unknown|bound twice|claim|also false|too long|no model|ill sorted|parameters declared): (.*)")
 _ITEM = re.compile(rf"(.*) at {_SPOT}")
 _TOKEN = re.compile(r'\|[^|]*\||"[^"]*"|[()]|[^\s()|",]+|\s')
 
@@ -722,6 +729,7 @@ def main(words: Optional[Sequence[str]] = None) -> int:
     parser.add_argument("script", metavar="SCRIPT", help="the script that the solver read")
     parser.add_argument("answers", metavar="ANSWERS", help="what the solver printed")
     parser.add_argument("--print-success", action=_Once, choices=("on", "off"), default="on", help="whether it prints `success`, from the start")
+    parser.add_argument("--profile", action=_Once, choices=PROFILES, default="base", help="which language is taken")
     parser.add_argument("--steps", action=_Once, metavar="N", type=_steps, default=STEPS, help="how many steps the evaluation of a model may take")
     parser.add_argument("--explain", action="store_true", help="tells behind the report where and why, and calls the files `script` and `answers`")
     parser.add_argument("--strict", action="store_true", help="ends with 2 in place of 0 unless each check is confirmed, and there is one")
@@ -740,7 +748,7 @@ def main(words: Optional[Sequence[str]] = None) -> int:
                     texts.append(file.read())
             except (OSError, ValueError):
                 return _said(name)
-        options = given.print_success == "on", given.steps
+        options = given.print_success == "on", given.steps, given.profile
         report = check(texts[0], texts[1], *options)
         explanation = explain(texts[0], texts[1], *options).text if given.explain else ""
         if not _print(report.text + explanation):

@@ -11,7 +11,7 @@ from flaws import BEFORE_LOGICS, LETTERS, Flaws
 from inventor import ALL_OPERATORS, NAMES, OPERATOR_NAMES, Inventor, width_names
 from models import Structure
 from script import CHECKS, Assertion, Declaration, Definition, Force, Refused, command_of, is_define_fun
-from sorts import ALL_THEORIES, BITS, BOOL, INT, INTS, LOGICS, Faulty
+from sorts import BASE, BITS, BOOL, INT, INTS, LOGICS, THEORIES, Faulty
 from terms import Checker, Context, Rank, check_assertion, check_definition, check_literal
 from text import BINARY, Atom, is_symbol
 from trees import copied, depth_of, keyword, listed, lists_in, numeral, string, symbol, word, written
@@ -62,7 +62,6 @@ KINDS = {
 # The largest limit that the program takes.
 MOST_STEPS = 2**64 - 2
 KIND_NAMES, KIND_WEIGHTS = list(KINDS), list(KINDS.values())
-LOGIC_NAMES = sorted(LOGICS) + ["ALL", "ALL", "QF_BV", "QF_LIA", "QF_UFBV"]
 
 
 def is_right_form(item):
@@ -73,6 +72,9 @@ def is_right_form(item):
 class Story:
     """A dialogue as it is told."""
 
+    PROFILE = BASE
+    LOGIC_NAMES = sorted(LOGICS[BASE]) + ["ALL", "ALL", "QF_BV", "QF_LIA", "QF_UFBV"]
+
     def __init__(self, rng, aim, turn, with_steps):
         self.rng = rng
         self.aim, self.what, number, count = aim
@@ -81,7 +83,7 @@ class Story:
         # How much goes wrong besides the aim.
         self.wild = rng.choice((0.15, 0.15, 0.4)) if self.aim else rng.choice((0.1, 0.5, 1.0, 2.0))
         self.with_steps = with_steps
-        self.force = Force(rng.random() < 0.5)
+        self.force = Force(rng.random() < 0.5, self.PROFILE)
         self.start = self.force.print_success
         self.commands, self.answers = [], []
         self.widths = width_names(rng)
@@ -105,11 +107,11 @@ class Story:
         number = len(self.commands) + 1
         self.commands.append(tree)
         try:
-            command = command_of(tree)
+            command = command_of(tree, self.PROFILE)
         except Refused:
             self.over = True
             return False
-        need, fits = takes(command, self.force.print_success)
+        need, fits = takes(command, self.force.print_success, self.PROFILE)
         if answer is None:
             answer = self.answer_to(command, need)
         if answer is not None:
@@ -298,7 +300,7 @@ class Story:
             self.set_global(rng.random() < 0.8)
         if rng.random() < 0.5 and self.aim != "operator":
             calm = self.aim not in (None, "before logic") and rng.random() < 0.7
-            self.do(listed("set-logic", "ALL" if calm else rng.choice(LOGIC_NAMES)))
+            self.do(listed("set-logic", "ALL" if calm else rng.choice(self.LOGIC_NAMES)))
         elif self.chance(0.03):
             self.do(listed("set-logic", rng.choice(("QF_LRA", "HORN", "", "all"))))
         if rng.random() < 0.1 and not self.over:
@@ -320,7 +322,7 @@ class Story:
         rng = self.rng
         inventor = self.inventor()
         if any_theory or self.chance(0.03):
-            inventor = Inventor(rng, Context(ALL_THEORIES, self.force.abbreviations, self.force.ranks), self.widths)
+            inventor = Inventor(rng, Context(THEORIES[self.PROFILE], self.force.abbreviations, self.force.ranks), self.widths)
         name = self.free_name()
         result = inventor.sort()
         sorts = [inventor.sort() for _ in range(rng.choice((1, 1, 2, 3)))] if rng.random() < 0.35 else []
@@ -616,7 +618,7 @@ class Story:
             if self.rng.random() < 0.5 or self.wild > 0.3:
                 self.do(listed(kind))
         elif kind == "logic" and not self.force.settled and not self.force.with_logic:
-            self.do(listed("set-logic", self.rng.choice(LOGIC_NAMES)))
+            self.do(listed("set-logic", self.rng.choice(self.LOGIC_NAMES)))
         elif kind == "faulty" and self.chance(0.6):
             self.faulty()
         elif kind == "exit" and self.chance(1):
@@ -817,7 +819,7 @@ class Story:
             command, answer = BEFORE_LOGICS[self.turn % len(BEFORE_LOGICS)]
             self.do(copied(command), answer if answer is not None or not self.force.print_success else symbol("success"))
             if not self.over and rng.random() < 0.7:
-                self.do(listed("set-logic", rng.choice(LOGIC_NAMES)))
+                self.do(listed("set-logic", rng.choice(self.LOGIC_NAMES)))
             if not self.over:
                 self.declare(True)
         elif kind == "command" and what == "C6":
@@ -1040,7 +1042,7 @@ class Story:
                 if not self.over:
                     self.set_global(value)
                 if not self.over and not self.force.with_logic and rng.random() < 0.3:
-                    self.do(listed("set-logic", rng.choice(LOGIC_NAMES)))
+                    self.do(listed("set-logic", rng.choice(self.LOGIC_NAMES)))
             if not self.over:
                 self.keep(None)
             return

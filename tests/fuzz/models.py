@@ -1,7 +1,7 @@
 """Printed models: their items, their cost, and what they make of the assertions in force and of the assumptions of their check."""
 from script import Assertion, Declaration, Definition, is_define_fun
-from sorts import Faulty
-from terms import Apply, Context, Let, Literal, Note, Use, Variable, check_definition
+from sorts import WIDE, Faulty
+from terms import Apply, Context, Let, Literal, Note, Use, Variable, check_definition, check_rank
 from text import begins_with, is_symbol
 from values import OPEN
 
@@ -73,28 +73,50 @@ def items_of(tree):
     return tree[1:] if tree and is_symbol(tree[0], "model") else tree
 
 
-def define_item(item, force, declared, ranks, bodies):
+def set_aside(item, context, rank, reached):
+    """One item that repeats a definition of the script, of this rank: it is no part of the model, and its body is not looked at."""
+    try:
+        check_rank(context, *item[2:4], rank)
+    except Faulty as fault:
+        if reached is not None:
+            reached["wide: repeated item " + fault.letter] += 1
+        raise
+    if reached is None:
+        return
+    reached["wide: repeated item"] += 1
+    if rank.parameters:
+        reached["wide: repeated item with parameters"] += 1
+    try:
+        check_definition(context, *item[2:])
+    except Faulty as fault:
+        reached["wide: repeated item whose body would have " + fault.letter] += 1
+
+
+def define_item(item, force, declared, ranks, bodies, reached=None):
     """One item, which is put into the ranks and the bodies of the items before it."""
     if begins_with(item, "define-fun-rec") or begins_with(item, "define-funs-rec"):
         raise Faulty("F2")
     if not begins_with(item, "define-fun") or not is_define_fun(item[1:]):
         raise Faulty("F1")
     name = item[1].text
+    context = Context(force.theories, force.abbreviations, ranks)
+    if force.profile == WIDE and name in force.ranks and name not in declared:
+        set_aside(item, context, force.ranks[name], reached)
+        return
     if name in ranks:
         raise Faulty("F6")
-    context = Context(force.theories, force.abbreviations, ranks)
     if name not in declared and (name in force.ranks or name in context.operators):
         raise Faulty("F7")
     ranks[name], bodies[name] = check_definition(context, *item[2:], rank=declared.get(name))
 
 
-def bodies_of(tree, force):
+def bodies_of(tree, force, reached=None):
     """What a model defines, by name; the fault of its first item with one."""
     declared = {thing.name: thing.rank for thing in force.of_kind(Declaration)}
     ranks, bodies = {}, {}
     for index, item in enumerate(items_of(tree)):
         try:
-            define_item(item, force, declared, ranks, bodies)
+            define_item(item, force, declared, ranks, bodies, reached)
         except Faulty as fault:
             raise ItemFault(index + 1, fault.letter)
     return bodies
@@ -109,7 +131,7 @@ def judged(tree, force, assumed, steps, reached=None):
     It is CONFIRMED, or the words that stand behind the model in the report.
     """
     try:
-        bodies = bodies_of(tree, force)
+        bodies = bodies_of(tree, force, reached)
     except ItemFault as fault:
         return "item %d %s" % (fault.number, fault.letter)
     for thing in force.of_kind(Declaration):

@@ -172,7 +172,7 @@ def operators_in(theories):
     if theories not in TABLE_OF:
         table = {}
         for theory in theories:
-            table.update(TABLES[theory])
+            table.update(TABLES.get(theory, {}))
         TABLE_OF[theories] = table
     return TABLE_OF[theories]
 

@@ -27,9 +27,11 @@ from collections import Counter, namedtuple
 from dialogues import Dialogue, invent
 from inventor import ALL_OPERATORS
 from mutate import Corpus
+from sorts import BASE, WIDE, WIDE_LOGICS
 from text import read
 from trees import copied, lists_in, written
 from validator import STATUS, STEPS, report, with_deep_stack
+from wide import invent_wide, widened
 
 HERE = os.path.dirname(os.path.abspath(__file__))
 TOP = os.path.dirname(os.path.dirname(HERE))
@@ -94,6 +96,20 @@ GLOBALS += ["global: declare-const with an abbreviation whose level is gone"]
 GLOBALS += ["global: model with names whose levels are gone: " + end for end in ("lacks a name", "item F7", "refuted", "confirmed")]
 OTHERS += ASSUMING + GLOBALS
 REQUIRED = LINES + OTHERS + ["operator " + name for name in ALL_OPERATORS]
+# What the profile `wide` has to reach besides.
+WIDE_KINDS = ["wide: " + what for what in (
+    "bare push", "bare pop", "bare push, fault C3", "bare pop, fault C4", "define-const", "a term assumed", "an annotation assumed",
+    "item of a definition", "item of a label", "item of an inner label", "item of a declared name", "two items of a definition",
+    "item of a name whose definition is gone", "item of a definition whose level is gone", "repeated item", "repeated item with parameters", "unknown logic",
+    "logic, unsupported, success on", "logic, unsupported, success off", "unknown logic, unsupported, success on",
+    "unknown logic, unsupported, success off",
+)]
+WIDE_KINDS += ["wide: define-const, fault C7 " + letter for letter in ("F1", "F3", "F4", "F7")]
+WIDE_KINDS += ["wide: repeated item " + letter for letter in LETTERS[:6]]
+WIDE_KINDS += ["wide: repeated item whose body would have " + letter for letter in ("F1", "F2", "F3", "F4", "F8")]
+WIDE_KINDS += ["wide: logic like %s, %s QF_" % (names.split()[0], how) for _, names in WIDE_LOGICS for how in ("with", "without")]
+# What it hardly reaches: a label whose level is gone is set aside in it, and an operator's name is rare.
+NOT_WIDE = "global: model with names whose levels are gone: item F7"
 WITH_STEPS = ["model: too long", "limit on steps", "assuming: too long by its literals", "assuming: as long as the limit"]
 
 ENDS = (
@@ -401,7 +417,7 @@ class Streams:
 class Fuzzer:
     """Runs seeds, and counts what they reach."""
 
-    def __init__(self, program, with_steps, corpus, folder, mutated):
+    def __init__(self, program, with_steps, corpus, folder, mutated, profile):
         # Files in memory, where there are such, are written ten times as fast.
         memory = "/dev/shm" if os.access("/dev/shm", os.W_OK) else None
         self.work = tempfile.mkdtemp(prefix="smtcheck-fuzz-", dir=memory)
@@ -410,6 +426,7 @@ class Fuzzer:
         self.corpus = corpus
         self.folder = folder
         self.mutated = mutated
+        self.profile = profile
         self.counts = Counter()
         self.differences = 0
         self.slowest = (0.0, None)
@@ -434,9 +451,10 @@ class Fuzzer:
             return dialogue
         if self.corpus.dialogues and rng.random() < 0.2:
             self.counts["dialogue mutated"] += 1
-            return self.corpus.mutated(seed, self.with_steps)
+            found = self.corpus.mutated(seed, self.with_steps)
+            return widened(seed, found) if self.profile == WIDE else found
         self.counts["dialogue invented"] += 1
-        return invent(seed, self.with_steps)
+        return (invent_wide if self.profile == WIDE else invent)(seed, self.with_steps)
 
     def options_of(self, dialogue, rng=None):
         """The options for a dialogue."""
@@ -445,12 +463,15 @@ class Fuzzer:
             options += ["--print-success", "on" if dialogue.print_success else "off"]
         if dialogue.steps is not None:
             options += ["--steps", str(dialogue.steps)]
+        if self.profile == WIDE:
+            options += ["--profile", WIDE]
         return options
 
     def expected(self, dialogue, reached=None):
         """The lines and the verdict of the second validator, and whether the program can be asked."""
         steps = STEPS if dialogue.steps is None else dialogue.steps
-        lines, verdict = report(dialogue.script, dialogue.answers, dialogue.print_success, steps, reached=reached)
+        told = dialogue.script, dialogue.answers, dialogue.print_success, steps
+        lines, verdict = report(*told, reached=reached, profile=self.profile)
         # A program that has no limit might take very long.
         return lines, verdict, self.with_steps or not any(line.endswith("too long") for line in lines)
 
@@ -477,7 +498,7 @@ class Fuzzer:
 
             def lines_of(script, answers, *ended):
                 steps = dialogue.steps if dialogue.steps is not None else STEPS
-                return report(script, answers, dialogue.print_success, steps, *ended)
+                return report(script, answers, dialogue.print_success, steps, *ended, profile=self.profile)
 
             streams = Streams(self.program, rng, dialogue, options, lines_of)
             run, trouble = streams.run()
@@ -553,7 +574,7 @@ class Fuzzer:
         print(
             "difference at seed %d: %s\n  alone: tests/fuzz.sh 1 %d%s, or in %s: %s %s script answers\nexpected:\n%sfound:\n%s%s"
             % (
-                seed, trouble, seed, " --mutated" * self.mutated, folder, self.program.path, " ".join(options), expected, found,
+                seed, trouble, seed, " wide" * (self.profile == WIDE) + " --mutated" * self.mutated, folder, self.program.path, " ".join(options), expected, found,
                 small.strip("\n"),
             ),
             flush=True,
@@ -640,8 +661,8 @@ corpus_of = functools.lru_cache(maxsize=1)(Corpus)
 
 def run_some(settings, seeds):
     """Runs some seeds; gives what was counted and measured."""
-    program, with_steps, rows, folder, mutated = settings
-    fuzzer = Fuzzer(program, with_steps, corpus_of(rows), folder, mutated)
+    program, with_steps, rows, folder, mutated, profile = settings
+    fuzzer = Fuzzer(program, with_steps, corpus_of(rows), folder, mutated, profile)
     try:
         for count, seed in enumerate(seeds):
             # A mistake in here may go round for ever: then the run ends, and shows where.
@@ -682,6 +703,7 @@ def main():
     parser.add_argument("seed", type=int, metavar="SEED")
     parser.add_argument("--program", default=os.path.join(TOP, "crates/smtcheck/out/smtcheck"), help="the built program")
     parser.add_argument("--steps-option", choices=("on", "off", "ask"), default="ask", help="whether the program has --steps: by its help")
+    parser.add_argument("--profile", choices=(BASE, WIDE), default=BASE, help="the language of the dialogues and of the program")
     parser.add_argument("--rows", default=os.path.join(TOP, "crates/dialogue_rows/data"), help="the folder of rows whose dialogues are mutated")
     parser.add_argument("--folder", default=None, help="where differences are written: a new folder in the one for temporary files")
     parser.add_argument(
@@ -696,7 +718,7 @@ def main():
         sys.exit("fuzz: no program: " + chosen.program)
     with_steps = knows_steps(chosen.program) if chosen.steps_option == "ask" else chosen.steps_option == "on"
     folder = chosen.folder or os.path.join(tempfile.gettempdir(), "smtcheck-differences")
-    settings = os.path.abspath(chosen.program), with_steps, chosen.rows, folder, chosen.mutated
+    settings = os.path.abspath(chosen.program), with_steps, chosen.rows, folder, chosen.mutated, chosen.profile
     seeds = range(chosen.seed, chosen.seed + chosen.number)
     size = max(1, min(2000, -(-len(seeds) // max(1, chosen.jobs))))
     works = [(settings, seeds[begin : begin + size]) for begin in range(0, len(seeds), size)]
@@ -712,6 +734,8 @@ def main():
         counts["different stored dialogues"] = len(sources)
         counts["different stored dialogues of solvers"] = sum(map(of_solver, sources))
     required = [] if chosen.mutated else REQUIRED + WITH_STEPS * with_steps
+    if required and chosen.profile == WIDE:
+        required = [name for name in required if name != NOT_WIDE] + WIDE_KINDS
     table(counts, required)
     missing = [name for name in required if not counts[name]]
     memory = "the largest had %.1f MB: %s" % (largest[0] / 1024, largest[1]) if largest[0] else "memory was not measured"

@@ -1,9 +1,9 @@
 """Commands: their forms, and what is in force behind them."""
 from collections import namedtuple
 
-from sorts import ALL_THEORIES, BOOL, INT, LOGICS, Faulty
+from sorts import BASE, BOOL, INT, LOGICS, THEORIES, WIDE, Faulty
 from terms import Body, Context, Rank, check_assertion, check_definition, check_literal, is_binding
-from text import KEYWORD, NUMERAL, RESERVED, STRING, is_kind, is_symbol
+from text import KEYWORD, NUMERAL, RESERVED, STRING, Atom, begins_with, is_kind, is_symbol
 
 MOST_LEVELS = 10000
 
@@ -89,8 +89,27 @@ for word in (
 UNSUPPORTED = frozenset("declare-datatype declare-datatypes declare-sort define-fun-rec define-funs-rec".split())
 
 
-def command_of(tree):
+def is_define_const(tree):
+    """The form of a `define-const`, whose first word is a symbol like others."""
+    return type(tree) is list and len(tree) == 4 and is_symbol(tree[0], "define-const") and is_symbol(tree[1])
+
+
+def wide_command_of(tree):
+    """The command of the profile `wide` that a tree is and that it is in no other profile, or None."""
+    if is_define_const(tree):
+        return Command("define-fun", [tree[1], [], tree[2], tree[3]])
+    if type(tree) is list and len(tree) == 1 and is_kind(tree[0], RESERVED) and tree[0].text in ("push", "pop"):
+        return Command(tree[0].text, [Atom(NUMERAL, "1")])
+    if begins_with(tree, "check-sat-assuming") and len(tree) == 2 and type(tree[1]) is list:
+        return Command("check-sat-assuming", tree[1:])
+    return None
+
+
+def command_of(tree, profile=BASE):
     """The command that a tree is; C1 or C2 where it is none."""
+    found = wide_command_of(tree) if profile == WIDE else None
+    if found is not None:
+        return found
     if type(tree) is not list or not tree or not is_kind(tree[0], RESERVED):
         raise Refused("C1")
     word, parts = tree[0].text, tree[1:]
@@ -118,15 +137,16 @@ CHANGING = frozenset("assert declare-const declare-fun define-fun define-sort pu
 class Force:
     """What is in force behind some commands. `start` is the value of print-success that the program was given."""
 
-    def __init__(self, start):
+    def __init__(self, start, profile=BASE):
         self.start = start
+        self.profile = profile
         self.restart()
 
     def restart(self):
         """The start."""
         self.print_success = self.start
         self.global_declarations = False
-        self.theories = ALL_THEORIES
+        self.theories = THEORIES[self.profile]
         self.with_logic = False
         self.settled = False
         self.levels = 0
@@ -179,9 +199,10 @@ class Force:
         word, parts = command
         assumed = []
         if word == "set-logic":
-            if self.with_logic or self.settled or parts[0].text not in LOGICS:
+            logics = LOGICS[self.profile]
+            if self.with_logic or self.settled or parts[0].text not in logics:
                 raise Refused("C5")
-            self.theories = LOGICS[parts[0].text]
+            self.theories = logics[parts[0].text]
             self.with_logic = True
         elif word == "push":
             count = int(parts[0].text)

@@ -1,20 +1,21 @@
-"""selftest.py: the second validator on the dialogues of expected.txt, whose reports were worked out by hand. Says nothing where all is
-well."""
+"""selftest.py: the second validator on the dialogues of expected.txt and expected_wide.txt, whose reports were worked out by hand. Says
+nothing where all is well."""
 import os
 import sys
 
 from rows import rows_of
+from sorts import BASE
 from validator import STATUS, STEPS, report, with_deep_stack
 
 HERE = os.path.dirname(os.path.abspath(__file__))
 
 
-def cut_reports(script, answers, print_success, steps):
+def cut_reports(script, answers, print_success, steps, profile):
     """The lines that are decided by beginnings of both texts, one after another; each has to go on from the one before."""
     told = []
     for place in range(max(len(script), len(answers)) + 1):
         ended = place >= len(script), place >= len(answers)
-        lines, _ = report(script[:place], answers[:place], print_success, steps, *ended)
+        lines, _ = report(script[:place], answers[:place], print_success, steps, *ended, profile=profile)
         if lines[: len(told)] != told:
             return "a line is taken back at byte %d: %s" % (place, told)
         told = lines
@@ -24,18 +25,19 @@ def cut_reports(script, answers, print_success, steps):
 def test():
     """The number of dialogues, and the text of those that fail."""
     failed = []
-    rows = rows_of(os.path.join(HERE, "expected.txt"))
+    rows = rows_of(os.path.join(HERE, "expected.txt")) + rows_of(os.path.join(HERE, "expected_wide.txt"))
     for row in rows:
         fields = dict(row)
         title = fields["dialogue"].decode()
         expected = fields["report"].decode().split("\n")
         steps = int(fields.get("steps", STEPS))
         told = fields["script"], fields["answers"], fields["start"] == b"on", steps
-        lines, verdict = report(*told)
+        profile = fields.get("profile", BASE.encode()).decode()
+        lines, verdict = report(*told, profile=profile)
         if lines != expected or verdict not in STATUS or not lines[-1].startswith("verdict: " + verdict + ","):
             failed.append("%s\n  expected: %s\n  found:    %s" % (title, expected, lines))
-        elif len(told[0]) < 2000 and cut_reports(*told) != expected:
-            failed.append("%s\n  in pieces: %s" % (title, cut_reports(*told)))
+        elif len(told[0]) < 2000 and cut_reports(*told, profile) != expected:
+            failed.append("%s\n  in pieces: %s" % (title, cut_reports(*told, profile)))
     return len(rows), failed
 
 

@@ -4,8 +4,12 @@ from text import NUMERAL, SYMBOL, is_kind, is_symbol, is_word
 BOOL, INT = "Bool", "Int"
 WIDEST = 128
 
-CORE, INTS, BITS = "Core", "Ints", "bit vectors"
+CORE, INTS, BITS, REALS, ARRAYS = "Core", "Ints", "bit vectors", "Reals", "arrays"
 ALL_THEORIES = frozenset([CORE, INTS, BITS])
+
+BASE, WIDE = "base", "wide"
+# No sort and no operator of Reals or of arrays is there yet: a logic with them has what it has besides.
+THEORIES = {BASE: ALL_THEORIES, WIDE: ALL_THEORIES | frozenset([REALS, ARRAYS])}
 
 
 def theories_of():
@@ -16,7 +20,34 @@ def theories_of():
     return table
 
 
-LOGICS = theories_of()
+# The logics of the profile `wide`, by the theories beside Core; each name also with `QF_` before it.
+WIDE_LOGICS = (
+    ((), "UF DT UFDT"),
+    ((INTS,), "IDL LIA NIA UFIDL UFLIA UFNIA UFDTLIA UFDTNIA"),
+    ((REALS,), "RDL LRA NRA UFRDL UFLRA UFNRA"),
+    ((INTS, REALS), "LIRA NIRA UFLIRA UFNIRA UFDTLIRA UFDTNIRA"),
+    ((BITS,), "BV UFBV UFBVDT"),
+    ((BITS, INTS), "BVLIA BVNIA UFBVLIA UFBVNIA"),
+    ((ARRAYS,), "AX"),
+    ((ARRAYS, INTS), "ALIA ANIA AUFLIA AUFNIA AUFDTLIA AUFDTNIA"),
+    ((ARRAYS, REALS), "ALRA ANRA AUFLRA AUFNRA"),
+    ((ARRAYS, INTS, REALS), "ALIRA ANIRA AUFLIRA AUFNIRA AUFDTLIRA AUFDTNIRA"),
+    ((ARRAYS, BITS), "ABV AUFBV AUFBVDT"),
+    ((ARRAYS, BITS, INTS), "ABVLIA AUFBVLIA AUFBVNIA AUFBVDTLIA AUFBVDTNIA"),
+    ((ARRAYS, BITS, INTS, REALS), "ALL ALL_SUPPORTED AUFBVDTNIRA"),
+)
+
+
+def wide_theories_of():
+    """The theories that each logic of the profile `wide` chooses."""
+    table = {}
+    for theories, names in WIDE_LOGICS:
+        for name in names.split():
+            table[name] = table["QF_" + name] = frozenset((CORE,) + theories)
+    return table
+
+
+LOGICS = {BASE: theories_of(), WIDE: wide_theories_of()}
 
 
 class Faulty(Exception):

@@ -236,6 +236,13 @@ def check_parameters(context, checker, trees):
     return scope, tuple(numbers), tuple(sorts)
 
 
+def check_rank(context, parameters, result, rank):
+    """The faults of an item's parameters and sort, and then F4 for another rank than this one."""
+    _, _, sorts = check_parameters(context, Checker(context), parameters)
+    if Rank(sorts, context.sort(result)) != rank:
+        raise Faulty("F4")
+
+
 def check_definition(context, parameters, result, body, rank=None):
     """The rank and the body of a definition; with a rank given, F4 for another one, before the faults of the body."""
     checker = Checker(context)

@@ -7,7 +7,10 @@ import sys
 import threading
 
 from models import CONFIRMED, judged
-from script import CHANGING, CHECKS, Abbreviation, Assertion, Declaration, Definition, Force, Refused, command_of, is_option
+from script import CHANGING, CHECKS, Abbreviation, Assertion, Declaration, Definition, Force, Refused, command_of, is_literal
+from script import is_define_const, is_option
+from sorts import BASE, LOGICS, WIDE, WIDE_LOGICS
+from terms import labels_of
 from text import STRING, begins_with, is_kind, is_symbol, read
 
 STEPS = 10000000
@@ -73,7 +76,7 @@ def is_general(answer):
 NEEDED, IF_FITS, NONE = "a needed answer", "the next answer if it fits", "no answer"
 
 
-def takes(command, print_success):
+def takes(command, print_success, profile=BASE):
     """What answer a command takes: one of the three above, and which trees fit."""
     word, parts = command
     if word in CHECKS:
@@ -90,9 +93,18 @@ def takes(command, print_success):
         return NEEDED if is_option(parts[1], "true") else IF_FITS, is_general
     if print_success:
         return NEEDED, is_general
-    if word in ("set-option", "set-info"):
+    if word in ("set-option", "set-info") or profile == WIDE and word == "set-logic":
         return IF_FITS, lambda answer: is_one_of(answer, "unsupported")
     return NONE, None
+
+
+def form_of(tree):
+    """The form of a command that the profile `wide` has besides, in words, or nothing."""
+    if is_define_const(tree):
+        return "define-const"
+    if type(tree) is list and len(tree) == 1 and (begins_with(tree, "push") or begins_with(tree, "pop")):
+        return "bare " + tree[0].text
+    return ""
 
 
 class Window:
@@ -107,14 +119,16 @@ class Window:
 class Dialogue:
     """A script and its answers, and the lines told so far."""
 
-    def __init__(self, script, answers, print_success, steps, reached):
+    def __init__(self, script, answers, print_success, steps, profile, reached):
         self.script = Trees(script)
         self.answers = Trees(answers)
-        self.force = Force(print_success)
+        self.force = Force(print_success, profile)
         self.steps = steps
         self.reached = reached
         self.lines = []
         self.exited = False
+        # The names that were defined or were labels, in the profile `wide`, where what is reached is counted.
+        self.defined = set()
         self.checks = 0
         self.window = None
         self.counts = dict.fromkeys(("confirmed", "refuted", "undecided", "unchecked"), 0)
@@ -169,6 +183,8 @@ class Dialogue:
         tree = self.script.reading.trees[self.script.taken - 1]
         if begins_with(tree, "check-sat-assuming"):
             self.count("assuming: " + kind)
+        if self.force.profile == WIDE and form_of(tree):
+            self.count("wide: %s, %s" % (form_of(tree), kind))
         if kind == "fault C5":
             self.count("global: fault C5" if begins_with(tree, "set-option") else "global: a logic that is late")
         if kind == "fault C7 F7" and is_symbol(tree[1]) and self.force.outlived:
@@ -193,10 +209,12 @@ class Dialogue:
         """Takes one command, with its answer."""
         if self.exited:
             raise Refused("C6")
-        command = command_of(tree)
+        command = command_of(tree, self.force.profile)
         if command.word in CHECKS:
             self.close_window()
+        self.count_form(tree)
         answer = self.answer_of(number, command)
+        self.count_logic(command, answer)
         if answer is not None and is_no_effect(answer):
             if command.word in CHECKS:
                 self.take_check(number, command, "error" if type(answer) is list else answer.text, [])
@@ -216,7 +234,7 @@ class Dialogue:
 
     def answer_of(self, number, command):
         """The answer that a command takes, or None where it takes none."""
-        need, fits = takes(command, self.force.print_success)
+        need, fits = takes(command, self.force.print_success, self.force.profile)
         if need is NONE:
             return None
         answer = self.answers.next()
@@ -242,6 +260,57 @@ class Dialogue:
             self.window = Window(begin, assumed)
         else:
             self.tell(begin + answer, "unchecked")
+
+    def count_form(self, tree):
+        """Counts commands in a form of the profile `wide`, and keeps the names that are defined."""
+        if self.reached is None or self.force.profile != WIDE:
+            return
+        if form_of(tree):
+            self.count("wide: " + form_of(tree))
+        self.defined.update(thing.name for thing in self.force.of_kind(Definition))
+
+    def count_logic(self, command, answer):
+        """Counts the logics that are set in the profile `wide`, and their answers."""
+        if self.reached is None or self.force.profile != WIDE or command.word != "set-logic":
+            return
+        name = command.parts[0].text
+        kind = "unknown logic"
+        for _, names in WIDE_LOGICS:
+            if name.replace("QF_", "", 1) in names.split() and name in LOGICS[WIDE]:
+                kind = "logic like %s, %s QF_" % (names.split()[0], "with" if name.startswith("QF_") else "without")
+        self.count("wide: " + kind)
+        if is_one_of(answer, "unsupported"):
+            self.count("wide: %s, unsupported, success %s" % (kind.split(" like")[0], "on" if self.force.print_success else "off"))
+
+    def count_items(self, model):
+        """Counts which names of the script a model repeats, and which are the script's no more."""
+        if self.reached is None or self.force.profile != WIDE:
+            return
+        things = {thing.name: thing for thing in self.force.of_kind(Definition)}
+        met = set()
+        for item in model:
+            if type(item) is not list or len(item) < 2 or not is_symbol(item[1]):
+                continue
+            name = item[1].text
+            if name in things:
+                self.count("wide: item of " + self.words_of(things[name]))
+                self.count("wide: item of an inner label" if self.is_inner(things[name]) else "wide: item of another")
+                if name in met:
+                    self.count("wide: two items of a definition")
+                if (Definition, name) in self.force.outlived:
+                    self.count("wide: item of a definition whose level is gone")
+            elif name in self.defined and name not in self.force.ranks:
+                self.count("wide: item of a name whose definition is gone")
+            elif name in self.force.ranks:
+                self.count("wide: item of a declared name")
+            met.add(name)
+
+    def is_inner(self, thing):
+        """Whether a definition is a label that stands inside an assertion."""
+        tree = self.script.reading.trees[thing.command - 1]
+        if not begins_with(tree, "assert"):
+            return False
+        return not begins_with(tree[1], "!") or thing.name not in labels_of(tree[1])
 
     def count_change(self, command, how):
         """Counts what a command does to global declarations."""
@@ -290,6 +359,16 @@ class Dialogue:
 
     def count_literals(self, literals):
         """Counts which kinds of literals a check has."""
+        if not literals:
+            self.count("assuming: nothing")
+        if len(set(map(str, literals))) < len(literals):
+            self.count("assuming: a literal twice")
+        terms = [literal for literal in literals if not is_literal(literal)]
+        for term in terms:
+            self.count("wide: a term assumed")
+            if begins_with(term, "!"):
+                self.count("wide: an annotation assumed")
+        literals = [literal for literal in literals if is_literal(literal)]
         names = [(literal[1] if type(literal) is list else literal).text for literal in literals]
         kinds = {thing.name: thing for thing in self.force.brought if hasattr(thing, "rank")}
         for literal, name in zip(literals, names):
@@ -300,10 +379,6 @@ class Dialogue:
                 self.count("assuming: " + self.words_of(thing))
             if type(literal) is list:
                 self.count("assuming: a negation")
-        if not literals:
-            self.count("assuming: nothing")
-        if len(set(map(str, literals))) < len(literals):
-            self.count("assuming: a literal twice")
         if len(set(names)) < len(set(map(str, literals))):
             self.count("assuming: a literal and its negation")
 
@@ -312,6 +387,7 @@ class Dialogue:
         if self.window is None:
             self.count("model outside windows")
             return
+        self.count_items(model)
         outcome = judged(model, self.force, self.window.assumed, self.steps, self.reached)
         self.window.models += 1
         if self.reached is not None and self.force.outlived:
@@ -338,13 +414,13 @@ class Dialogue:
             self.count("global: model with names whose levels are gone: " + ends[word])
 
 
-def report(script, answers, print_success=True, steps=STEPS, script_ended=True, answers_ended=True, reached=None):
+def report(script, answers, print_success=True, steps=STEPS, script_ended=True, answers_ended=True, reached=None, profile=BASE):
     """The lines of the report on two texts, and the verdict; steps may be None for no limit.
 
     Of texts that have not ended, these are the lines that are decided by what has come, and the verdict is None where it isn't. What is
     reached is counted in `reached`, if that is given.
     """
-    dialogue = Dialogue(read(script, script_ended), read(answers, answers_ended), print_success, steps, reached)
+    dialogue = Dialogue(read(script, script_ended), read(answers, answers_ended), print_success, steps, profile, reached)
     try:
         verdict = dialogue.run()
     except Waits:
@@ -377,20 +453,23 @@ def with_deep_stack(work, *arguments):
 
 
 def main():
-    """validator.py [--print-success on|off] [--steps N] SCRIPT ANSWERS: prints the report, and ends with its status."""
+    """validator.py [--print-success on|off] [--profile base|wide] [--steps N] SCRIPT ANSWERS: prints the report, and ends with its status."""
     arguments = sys.argv[1:]
-    print_success, steps = True, STEPS
+    print_success, steps, profile = True, STEPS, BASE
     while len(arguments) > 2:
         option, value = arguments[:2]
         if option == "--print-success":
             print_success = value == "on"
         elif option == "--steps":
             steps = int(value)
+        elif option == "--profile" and value in (BASE, WIDE):
+            profile = value
         else:
             sys.exit(main.__doc__)
         arguments = arguments[2:]
     with open(arguments[0], "rb") as script, open(arguments[1], "rb") as answers:
-        lines, verdict = with_deep_stack(report, script.read(), answers.read(), print_success, steps)
+        told = script.read(), answers.read(), print_success, steps, True, True, None, profile
+        lines, verdict = with_deep_stack(report, *told)
     print("\n".join(lines))
     return STATUS[verdict]
 

@@ -7,7 +7,7 @@ mod seen;
 use crate::dialogues::pieces::{Dialogue, print_other};
 use anyhow::{Result, bail};
 use row_texts::{Field, is_on, want_key};
-use smt_dialogue::{Limit, Options, Report, validate};
+use smt_dialogue::{Limit, Options, Profile, Report, validate};
 use std::alloc::{AllocError, Global};
 use std::io;
 use std::io::Write;
@@ -29,8 +29,10 @@ pub(crate) fn print<W: Write>(
     want_key(script, "script")?;
     want_key(answers, "answers")?;
     want_key(print_success, "start")?;
+    let (profile, rest) = split_profile(rest)?;
     let options = Options {
         print_success: is_on(print_success)?,
+        profile,
         limit: limit_of(rest)?,
     };
     print_dialogue(alloc, out, script, answers, options)
@@ -39,6 +41,19 @@ pub(crate) fn print<W: Write>(
 /// The limit on steps that the program has where its command line names none.
 pub(crate) fn usual_limit() -> Limit {
     Limit { steps: 10_000_000 }
+}
+
+// The profile that the first field names, if it names one, and the fields behind it. Where none is named it is
+// `base`.
+fn split_profile<'a, 'b>(fields: &'b [Field<'a>]) -> Result<(Profile, &'b [Field<'a>])> {
+    match fields.split_first() {
+        Some((first, rest)) if first.key == "profile" => match first.text.as_str() {
+            "base" => Ok((Profile::Base, rest)),
+            "wide" => Ok((Profile::Wide, rest)),
+            _ => bail!("line {}: this is no profile", first.line),
+        },
+        _ => Ok((Profile::Base, fields)),
+    }
 }
 
 // The limit on steps: that of a field, or the usual one.

@@ -8,7 +8,7 @@ use crate::dialogues::usual_limit;
 use crate::runs::devices::{Calls, Narrow, Text};
 use anyhow::{Result, bail};
 use row_texts::{Field, is_on, want_key};
-use smt_dialogue::{Options, RunFault, Verdict, run, validate};
+use smt_dialogue::{Options, Profile, RunFault, Verdict, run, validate};
 use smt_streams::Device;
 use std::alloc::Global;
 use std::io::Write;
@@ -56,6 +56,7 @@ pub(crate) fn print<W: Write>(
     want_key(print_success, "start")?;
     let options = Options {
         print_success: is_on(print_success)?,
+        profile: Profile::Base,
         limit: usual_limit(),
     };
     let script = script.bytes(alloc)?;

@@ -8,7 +8,7 @@ ghost use Rattle.smt_dialogue.specs.Session.{StandsFor, is_answers_ended, is_scr
 use crate::dialogues::usual_limit;
 use anyhow::{Result, bail};
 use row_texts::{Field, is_on, want_key};
-use smt_dialogue::{Failed, Line, Options, Session};
+use smt_dialogue::{Failed, Line, Options, Profile, Session};
 use std::alloc::Global;
 use std::io;
 use std::io::Write;
@@ -34,6 +34,7 @@ pub(crate) fn print<W: Write>(
     want_key(start, "start")?;
     let options = Options {
         print_success: is_on(start)?,
+        profile: Profile::Base,
         limit: usual_limit(),
     };
     let mut session = Session::new(alloc, options);

@@ -1,20 +1,22 @@
 //! example_session: a session that is fed by hand. Each line of the report is printed once it is
 //! decided.
 //!
-//! A tool that runs a solver does the same with the pieces that it sends and receives.
+//! A tool that runs a solver does the same with the pieces that it sends and receives. This program judges nothing,
+//! and uses no crate but `smt_dialogue`.
 #![tactic(auto)]
 
 ghost use Rattle.std.specs.Prelude.{◌≡◌, false};
 ghost use Rattle.smt_dialogue.specs.History.{History};
 ghost use Rattle.smt_dialogue.specs.Session.{StandsFor, is_answers_ended, is_script_ended};
 
-use smt_dialogue::{Failed, Limit, Options, Session, Verdict};
+use smt_dialogue::{Failed, Limit, Options, Profile, Session, Verdict};
 use std::process::ExitCode;
 
 fn main(rt: HostRuntime) -> ExitCode {
     // z3, cvc5 and cvc4 print no `success` unless they are told to.
     let options = Options {
         print_success: false,
+        profile: Profile::Base,
         limit: Limit { steps: 10_000_000 },
     };
     let mut session = Session::new(rt.alloc(), options);

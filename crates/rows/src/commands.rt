@@ -5,20 +5,25 @@ ghost use Rattle.std.specs.Prelude.{◌<◌, ◌≤◌};
 ghost use Rattle.smt_script.specs.StackView.{last_of};
 
 use crate::names::print_counts;
-use crate::trees::tree_of;
+use crate::trees::{split_profile, tree_of};
 use anyhow::{Result, bail};
 use row_texts::{Field, is_on, want_key};
-use smt_script::{Assertion, Command, CommandFault, Stack, read_command};
+use smt_script::{Assertion, Command, CommandFault, Stack, Start, read_command};
 use smt_trees::Tree;
 use std::alloc::Global;
 use std::io;
 use std::io::Write;
 
 /// Prints of each command `done` or its flaw, in order, and then what the stack holds. Each command has the
-/// number of its place behind `start`, from 1, also where an earlier one was refused.
+/// number of its place behind `profile` and `start`, from 1, also where an earlier one was refused.
 pub(crate) fn print<W: Write>(alloc: Global, out: &mut W, fields: &[Field]) -> Result<()> {
+    let (profile, fields) = split_profile(alloc, fields)?;
     let (print_success, fields) = split_print_success(fields)?;
-    let mut stack = Stack::new(alloc, print_success);
+    let start = Start {
+        print_success,
+        profile,
+    };
+    let mut stack = Stack::new(alloc, start);
     print_from_start(alloc, out, &mut stack, fields)
 }
 
@@ -87,7 +92,7 @@ fn take(stack: &mut Stack, number: u64, tree: Tree) -> Result<(), CommandFault>
     requires { last_of stack.old < number }
     ensures { last_of stack.new ≤ number }
 {
-    let command = read_command(tree)?;
+    let command = read_command(stack.profile(), tree)?;
     let outcome = apply(stack, number, &command);
     drop(command);
     outcome

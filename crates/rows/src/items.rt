@@ -3,7 +3,7 @@
 ghost use Rattle.smt_terms.specs.Library.{HasTheoriesOf};
 
 use crate::names::{print_counts, write_found};
-use crate::trees::{declare, print_answer, tree_of};
+use crate::trees::{assert, declare, define, print_answer, tree_of};
 use anyhow::{Result, bail};
 use row_texts::{Field, refuse};
 use smt_terms::Library;
@@ -24,7 +24,7 @@ pub(crate) fn print<W: Write>(
     print_items(alloc, out, script, items)
 }
 
-// Declares what the first fields say, and answers the fields behind the declarations.
+// Declares, defines and asserts what the first fields say, and answers the fields behind them.
 fn declare_all<'a, 'b, W: Write>(
     alloc: Global,
     out: &mut W,
@@ -32,10 +32,12 @@ fn declare_all<'a, 'b, W: Write>(
     fields: &'b [Field<'a>],
 ) -> Result<&'b [Field<'a>]> {
     for (place, field) in fields.iter().enumerate() {
-        if field.key != "declare" {
-            return Ok(&fields[place..]);
+        match field.key {
+            "declare" => declare(alloc, out, script, place as u64 + 1, field)?,
+            "define" => define(alloc, out, script, field)?,
+            "assert" => assert(alloc, out, script, field)?,
+            _ => return Ok(&fields[place..]),
         }
-        declare(alloc, out, script, place as u64 + 1, field)?;
     }
     Ok(&[])
 }
@@ -78,7 +80,7 @@ fn print_field<W: Write>(
     ensures { HasTheoriesOf model.new script.now }
 {
     match field.key {
-        "item" => define(alloc, out, script, model, field),
+        "item" => define_item(alloc, out, script, model, field),
         "find" => find(alloc, out, script, model, field),
         "names" => {
             print_counts(out, "script", script)?;
@@ -90,7 +92,7 @@ fn print_field<W: Write>(
 }
 
 // Defines the item that a field holds, and prints the answer.
-fn define<W: Write>(
+fn define_item<W: Write>(
     alloc: Global,
     out: &mut W,
     script: &Library,
@@ -101,8 +103,14 @@ fn define<W: Write>(
     ensures { HasTheoriesOf model.new script.now }
 {
     let item = tree_of(alloc, field)?;
+    let before = model.definitions().len();
     let answer = model.define_item(script, &item);
-    print_answer(out, field, "defined", answer.err())
+    let done = if model.definitions().len() == before {
+        "set aside"
+    } else {
+        "defined"
+    };
+    print_answer(out, field, done, answer.err())
 }
 
 // Prints where the name that a field is stands among the declared names and among the items.

@@ -5,7 +5,7 @@ ghost use Rattle.smt_eval.specs.Interpretation.{Fits};
 ghost use Rattle.smt_terms.specs.Library.{HasTheoriesOf, StandsFor};
 ghost use Rattle.smt_terms.specs.Signature.{Signature};
 
-use crate::trees::{declare, parts_of};
+use crate::trees::{assert, declare, define, parts_of};
 use anyhow::{Result, bail};
 use row_texts::{Field, refuse};
 use smt_eval::{Interpretation, ModelFault, ModelFlaw};
@@ -16,8 +16,8 @@ use std::alloc::Global;
 use std::io;
 use std::io::Write;
 
-/// Prints what is answered to declarations and models, in order. Each declaration is the command of its place
-/// behind the logic.
+/// Prints what is answered to declarations, definitions, assertions and models, in order. Each declaration is the
+/// command of its place behind the logic.
 pub(crate) fn print<W: Write>(
     alloc: Global,
     out: &mut W,
@@ -29,6 +29,8 @@ pub(crate) fn print<W: Write>(
     for (command, field) in (1..u64::MAX).zip(fields) {
         match field.key {
             "declare" => declare(alloc, out, library, command, field)?,
+            "define" => define(alloc, out, library, field)?,
+            "assert" => assert(alloc, out, library, field)?,
             "model" => print_if_defined(alloc, out, library, field)?,
             _ => return refuse(field),
         }
@@ -105,7 +107,7 @@ pub(crate) fn definitions_of(declared: &Library, model: &Trees) -> Result<Librar
     let Ok(mut definitions) = declared.for_model() else {
         bail!("out of memory");
     };
-    match define(declared, &mut definitions, model) {
+    match define_items(declared, &mut definitions, model) {
         Ok(()) => Ok(definitions),
         Err(error) => {
             drop(definitions);
@@ -114,7 +116,7 @@ pub(crate) fn definitions_of(declared: &Library, model: &Trees) -> Result<Librar
     }
 }
 
-fn define(declared: &Library, definitions: &mut Library, model: &Trees) -> Result<()>
+fn define_items(declared: &Library, definitions: &mut Library, model: &Trees) -> Result<()>
     requires { HasTheoriesOf definitions.old declared.now }
 {
     for item in model.as_slice() {

@@ -2,10 +2,9 @@
 //! and names. This file evaluates nothing.
 
 use crate::names::{print_counts, print_name, write_sort};
-use crate::trees::{declare, flaw_of, print_answer, tree_of, trees_of};
+use crate::trees::{assert, declare, define, flaw_of, tree_of};
 use anyhow::{Result, bail};
 use row_texts::{Field, refuse};
-use smt_forms::{are_named, params_of};
 use smt_terms::Library;
 use smt_trees::Tree;
 use std::alloc::Global;
@@ -69,43 +68,4 @@ fn write_checked<W: Write>(
     }
     writeln!(out)?;
     Ok(())
-}
-
-// Defines the name that a field holds, and prints the answer. Behind the name stand the parameters, the sort
-// and the body.
-fn define<W: Write>(
-    alloc: Global,
-    out: &mut W,
-    library: &mut Library,
-    field: &Field,
-) -> Result<()> {
-    let trees = trees_of(alloc, field)?;
-    let [Tree::Symbol(name), Tree::List(params), sort, body] = trees.as_slice() else {
-        bail!(
-            "line {}: a definition is a symbol, parameters in a list, a sort and a body",
-            field.line
-        );
-    };
-    if !are_named(params.as_slice()) {
-        bail!(
-            "line {}: a parameter is a list of a symbol and a sort",
-            field.line
-        );
-    }
-    let Ok(params) = params_of(alloc, params.as_slice()) else {
-        bail!("out of memory");
-    };
-    let answer = library.define(name.as_slice(), params.as_slice(), sort, body);
-    print_answer(out, field, "defined", answer.err())
-}
-
-// Asserts the term that a field holds, and prints the answer.
-fn assert<W: Write>(
-    alloc: Global,
-    out: &mut W,
-    library: &mut Library,
-    field: &Field,
-) -> Result<()> {
-    let term = tree_of(alloc, field)?;
-    print_answer(out, field, "asserted", library.assert(&term).err())
 }

@@ -1,5 +1,5 @@
-//! The trees that fields hold, logics, declarations, and what is answered to them. This file knows no kind of
-//! row.
+//! The trees that fields hold, profiles and logics, declarations, definitions and assertions, and what is
+//! answered to them. This file knows no kind of row.
 
 ghost use Rattle.smt_terms.specs.Library.{StandsFor};
 ghost use Rattle.smt_terms.specs.Signature.{Signature};
@@ -7,10 +7,10 @@ ghost use Rattle.smt_terms.specs.Signature.{Signature};
 use anyhow::{Result, bail};
 use row_texts::Field;
 use smt_faults::{TermFault, TermFlaw, TextFault};
-use smt_script::all_theories;
+use smt_forms::{are_named, params_of};
 use smt_terms::Library;
 use smt_text::read_trees;
-use smt_theory::{Theories, theories_of};
+use smt_theory::{Profile, Theories, all_theories, theories_of};
 use smt_trees::{Tree, Trees};
 use std::alloc::Global;
 use std::io::Write;
@@ -41,20 +41,36 @@ pub(crate) fn parts_of(alloc: Global, field: &Field) -> Result<Trees> {
     }
 }
 
-/// The theories of the logic that the first field names, and the fields behind it. Where none is named there
-/// are all theories.
+/// The theories of the profile and the logic that the first fields name, and the fields behind them. Where no
+/// profile is named it is `base`; where no logic is named there are all theories.
 pub(crate) fn split_logic<'a, 'b>(
     alloc: Global,
     fields: &'b [Field<'a>],
 ) -> Result<(Theories, &'b [Field<'a>])> {
+    let (profile, fields) = split_profile(alloc, fields)?;
     match fields.split_first() {
         Some((first, rest)) if first.key == "logic" => {
-            match theories_of(first.bytes(alloc)?.as_slice()) {
+            match theories_of(profile, first.bytes(alloc)?.as_slice()) {
                 Some(theories) => Ok((theories, rest)),
                 None => bail!("line {}: this is no logic", first.line),
             }
         }
-        _ => Ok((all_theories(), fields)),
+        _ => Ok((all_theories(profile), fields)),
+    }
+}
+
+/// The profile that the first field names, and the fields behind it. Where none is named it is `base`.
+pub(crate) fn split_profile<'a, 'b>(
+    alloc: Global,
+    fields: &'b [Field<'a>],
+) -> Result<(Profile, &'b [Field<'a>])> {
+    match fields.split_first() {
+        Some((first, rest)) if first.key == "profile" => match first.bytes(alloc)?.as_slice() {
+            b"base" => Ok((Profile::Base, rest)),
+            b"wide" => Ok((Profile::Wide, rest)),
+            _ => bail!("line {}: this is no profile", first.line),
+        },
+        _ => Ok((Profile::Base, fields)),
     }
 }
 
@@ -82,6 +98,49 @@ pub(crate) fn declare<W: Write>(
     };
     let answer = library.declare(command, name, params, sort);
     print_answer(out, field, "declared", answer.err())
+}
+
+/// Defines the name that a field holds, and prints the answer. Behind the name stand the parameters, the sort
+/// and the body.
+pub(crate) fn define<W: Write>(
+    alloc: Global,
+    out: &mut W,
+    library: &mut Library,
+    field: &Field,
+) -> Result<()>
+    ensures { (s : Signature) → StandsFor library.old s → (later : Signature) × StandsFor library.new later }
+{
+    let trees = trees_of(alloc, field)?;
+    let [Tree::Symbol(name), Tree::List(params), sort, body] = trees.as_slice() else {
+        bail!(
+            "line {}: a definition is a symbol, parameters in a list, a sort and a body",
+            field.line
+        );
+    };
+    if !are_named(params.as_slice()) {
+        bail!(
+            "line {}: a parameter is a list of a symbol and a sort",
+            field.line
+        );
+    }
+    let Ok(params) = params_of(alloc, params.as_slice()) else {
+        bail!("out of memory");
+    };
+    let answer = library.define(name.as_slice(), params.as_slice(), sort, body);
+    print_answer(out, field, "defined", answer.err())
+}
+
+/// Asserts the term that a field holds, and prints the answer.
+pub(crate) fn assert<W: Write>(
+    alloc: Global,
+    out: &mut W,
+    library: &mut Library,
+    field: &Field,
+) -> Result<()>
+    ensures { (s : Signature) → StandsFor library.old s → (later : Signature) × StandsFor library.new later }
+{
+    let term = tree_of(alloc, field)?;
+    print_answer(out, field, "asserted", library.assert(&term).err())
 }
 
 /// Prints the fault of what a field holds, or, where it has none, what was done with it.

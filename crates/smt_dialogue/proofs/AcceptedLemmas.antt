@@ -5,6 +5,9 @@ use Rattle.std.proofs.lemmas.List.Folds.{list_any-append}
 use Rattle.std.specs.List.{list_any}
 use Rattle.std.proofs.Common.{Option, None, Some, ap, sym, ◌∙◌, subst, arith, append_assoc, length-append}
 use Rattle.std.proofs.lemmas.List.{append-nil}
+use Rattle.smt_script.specs.StackView.{last_of, profile_of, start_of}
+use Rattle.smt_script.specs.declared.stack.Stack.{Stack}
+use Rattle.smt_script.specs.declared.stack.Start.{Start}
 use Rattle.smt_trees.specs.Sexp.{Sexp}
 use Rattle.smt_script.specs.Command.{Command, closes_window, is_check, kind_of}
 use Rattle.smt_script.specs.declared.command.Kind.{Kind}
@@ -14,7 +17,6 @@ use Rattle.smt_faults.specs.declared.command_fault.CommandFault.{CommandFault}
 use Rattle.smt_faults.specs.Faults.{flaw_of_command_fault}
 use Rattle.smt_faults.specs.Outcome.{TellsCommand}
 use Rattle.smt_faults.specs.declared.command_flaw.CommandFlaw.{CommandFlaw}
-use Rattle.smt_script.specs.StackView.{last_of}
 use Rattle.smt_dialogue.proofs.CheckLineLemmas.{few_lines, no_faults, no_verdicts}
 use Rattle.smt_dialogue.proofs.ChecksLemmas.{GoesOn, closing_lines, goes_on}
 use Rattle.smt_dialogue.proofs.PairLemmas.{answers_taken-append, checks_in-append, checks_in-le}
@@ -41,6 +43,7 @@ use Rattle.smt_dialogue.specs.declared.checks.PendingCheck.{PendingCheck}
 use Rattle.smt_report.specs.Verdict.{is_fault_line, tally_of, verdict_of}
 use Rattle.smt_report.specs.declared.line.Line.{Line}
 use Rattle.smt_report.specs.declared.line.Line.TheVariants as lines
+use Rattle.smt_theory.specs.declared.profile.Profile.{Profile}
 
 or_true : (b : Bool) → b || true ≡ true
 or_true true = refl
@@ -51,13 +54,13 @@ or_false true = refl
 or_false false = refl
 
 -- the lines of the pairs and one more
-lines_in-push : (steps : ℕ) (closed : Bool) (pairs : List Pair) (p : Pair) (after : List Pair)
-    → lines_in steps closed [] (pairs ++ p ∷ []) after
-    ≡ lines_in steps closed [] pairs (p ∷ after) ++ lines_of_pair steps closed pairs p after
-lines_in-push steps closed pairs p after =
-    lines_in-append steps closed [] pairs (p ∷ []) after
-    ∙ ap (λ (ls : List Line). lines_in steps closed [] pairs (p ∷ after) ++ ls)
-    (append-nil (lines_of_pair steps closed pairs p after))
+lines_in-push : (profile : Profile) (steps : ℕ) (closed : Bool) (pairs : List Pair) (p : Pair) (after : List Pair)
+    → lines_in profile steps closed [] (pairs ++ p ∷ []) after
+    ≡ lines_in profile steps closed [] pairs (p ∷ after) ++ lines_of_pair profile steps closed pairs p after
+lines_in-push profile steps closed pairs p after =
+    lines_in-append profile steps closed [] pairs (p ∷ []) after
+    ∙ ap (λ (ls : List Line). lines_in profile steps closed [] pairs (p ∷ after) ++ ls)
+    (append-nil (lines_of_pair profile steps closed pairs p after))
 
 -- these checks behind one more pair, with the lines that it decides
 abbrev pub step : ChecksState → List Line → Step
@@ -73,22 +76,36 @@ stack_push s t pairs p count stack =
     (ap (λ (n : ℕ). effective_commands pairs ++ numbered_if (is_effective p) (n + 1) p.command) count
     ∙ sym (effective_commands-push pairs p)) stack
 
+-- the lines of a state, by the profile of a stack that began alike
+lines_as : (early : Bool) (s : State) (k : Stack) (pairs : List Pair) → start_of k ≡ start_of s.stack
+    → Fits early s pairs → (closed : Bool) (after : List Pair) → (early ≡ true → Closing closed after)
+    → lines_in (profile_of k) s.checks.limit closed [] pairs after
+    ≡ s.lines ++ pending_lines s.checks.limit closed s.checks.pending (signature_after (profile_of k) pairs)
+    (claims_after (profile_of k) pairs) (length pairs + 1) after
+lines_as early s k pairs same h closed after closing =
+    subst (λ (x : Start). lines_in x.profile s.checks.limit closed [] pairs after
+    ≡ s.lines ++ pending_lines s.checks.limit closed s.checks.pending (signature_after x.profile pairs)
+    (claims_after x.profile pairs) (length pairs + 1) after) (sym same) (h.lines closed after closing)
+
 -- the checks behind one more pair
 checks_push : (early : Bool) (s t : State) (new : List Line) (pairs : List Pair) (c : Command) (o : Option Sexp)
     → Fits early s pairs
     → stacks.StandsFor t.stack (effective_commands (pairs ++ pair_of c o ∷ []))
     → ((cs : List Numbered) → stacks.StandsFor t.stack cs
-    → step t.checks new ≡ checks_after s.checks (signature_in_force cs)
-    (claims_in_force cs) (s.commands + 1) (kind_of c) o)
-    → GoesOn s.checks pairs (pair_of c o) (step t.checks new)
+    → step t.checks new ≡ checks_after s.checks (signature_in_force (profile_of t.stack) cs)
+    (claims_in_force (profile_of t.stack) cs) (s.commands + 1) (kind_of c) o)
+    → GoesOn (profile_of t.stack) s.checks pairs (pair_of c o) (step t.checks new)
 checks_push early s t new pairs c o before stack is =
     let all = pairs ++ pair_of c o ∷ [] in
-    let same : step t.checks new ≡ checks_after s.checks (signature_after all) (claims_after all)
+    let same : step t.checks new ≡ checks_after s.checks (signature_after (profile_of t.stack) all)
+    (claims_after (profile_of t.stack) all)
     (length pairs + 1) (kind_of c) o =
     is (effective_commands all) stack
-    ∙ ap (λ (n : ℕ). checks_after s.checks (signature_after all) (claims_after all)
+    ∙ ap (λ (n : ℕ). checks_after s.checks (signature_after (profile_of t.stack) all)
+    (claims_after (profile_of t.stack) all)
     (n + 1) (kind_of c) o) before.commands in
-    subst (GoesOn s.checks pairs (pair_of c o)) (sym same) (goes_on s.checks pairs c o before.checks)
+    subst (GoesOn (profile_of t.stack) s.checks pairs (pair_of c o)) (sym same)
+    (goes_on (profile_of t.stack) s.checks pairs c o before.checks)
 
 -- a check closes every window
 closing_check : (closed : Bool) (p : Pair) (after : List Pair) → is_check p.command ≡ true → Closing closed (p ∷ after)
@@ -100,46 +117,51 @@ closing_check closed p after check =
     }
 
 -- the lines that are decided behind pairs are no more than the checks among them
-few_of : (steps : ℕ) (pairs : List Pair) (ls rest : List Line) → lines_in steps true [] pairs [] ≡ ls ++ rest
+few_of : (profile : Profile) (steps : ℕ) (pairs : List Pair) (ls rest : List Line)
+    → lines_in profile steps true [] pairs [] ≡ ls ++ rest
     → length ls ≤ checks_in pairs
-few_of steps pairs ls rest is =
-    omega (arith, ap length is, length-append ls rest, few_lines steps true [] pairs [])
+few_of profile steps pairs ls rest is =
+    omega (arith, ap length is, length-append ls rest, few_lines profile steps true [] pairs [])
 
 -- t is s after one more pair, which decides these lines
 pub accepted_stands : (early : Bool) (s t : State) (new : List Line) (pairs : List Pair) (c : Command)
     (o : Option Sexp) → (early ≡ true → is_check c ≡ true) → Fits early s pairs
-    → stacks.StandsFor t.stack
+    → start_of t.stack ≡ start_of s.stack → stacks.StandsFor t.stack
     (effective_commands pairs ++ numbered_if (is_effective_with o) (s.commands + 1) c)
     → last_of t.stack ≤ s.commands + 1
     → ((cs : List Numbered) → stacks.StandsFor t.stack cs
-    → step t.checks new ≡ checks_after s.checks (signature_in_force cs)
-    (claims_in_force cs) (s.commands + 1) (kind_of c) o)
+    → step t.checks new ≡ checks_after s.checks (signature_in_force (profile_of t.stack) cs)
+    (claims_in_force (profile_of t.stack) cs) (s.commands + 1) (kind_of c) o)
     → t.commands ≡ s.commands + 1 → t.answers ≡ s.answers + answer_count o → t.lines ≡ s.lines ++ new
     → s.checks.count + 1 < 2 ^ 64
     → (s.tally ≡ tally_of s.lines → length s.lines + length new < 2 ^ 64 → t.tally ≡ tally_of (s.lines ++ new))
     → StandsFor t (pairs ++ pair_of c o ∷ [])
-accepted_stands early s t new pairs c o check before applied last checks commands answers decided room tally =
+accepted_stands early s t new pairs c o check before start applied last checks commands answers decided room tally =
     let p = pair_of c o in
     let len : length (pairs ++ p ∷ []) ≡ length pairs + 1 = length-append pairs (p ∷ []) ∙ omega arith in
     let stack = stack_push s t pairs p before.commands applied in
     let g = checks_push early s t new pairs c o before stack checks in
     let pending : Bool → List Pair → List Line = λ closed after. pending_lines t.checks.limit closed t.checks.pending
-    (signature_after (pairs ++ p ∷ [])) (claims_after (pairs ++ p ∷ [])) (length (pairs ++ p ∷ []) + 1) after in
-    let lines : (closed : Bool) (after : List Pair) → lines_in t.checks.limit closed [] (pairs ++ p ∷ []) after
+    (signature_after (profile_of t.stack) (pairs ++ p ∷ [])) (claims_after (profile_of t.stack) (pairs ++ p ∷ []))
+    (length (pairs ++ p ∷ []) + 1) after in
+    let lines : (closed : Bool) (after : List Pair)
+    → lines_in (profile_of t.stack) t.checks.limit closed [] (pairs ++ p ∷ []) after
     ≡ (s.lines ++ new) ++ pending closed after = λ closed after.
-    let here = pending_lines s.checks.limit closed s.checks.pending (signature_after pairs) (claims_after pairs)
+    let here = pending_lines s.checks.limit closed s.checks.pending (signature_after (profile_of t.stack) pairs)
+    (claims_after (profile_of t.stack) pairs)
     (length pairs + 1) (p ∷ after) in
-    let own = lines_of_pair s.checks.limit closed pairs p after in
-    ap (λ (n : ℕ). lines_in n closed [] (pairs ++ p ∷ []) after) g.limit
-    ∙ lines_in-push s.checks.limit closed pairs p after
+    let own = lines_of_pair (profile_of t.stack) s.checks.limit closed pairs p after in
+    ap (λ (n : ℕ). lines_in (profile_of t.stack) n closed [] (pairs ++ p ∷ []) after) g.limit
+    ∙ lines_in-push (profile_of t.stack) s.checks.limit closed pairs p after
     ∙ ap (λ (ls : List Line). ls ++ own)
-    (before.lines closed (p ∷ after) (λ e. closing_check closed p after (check e)))
+    (lines_as early s t.stack pairs start before closed (p ∷ after) (λ e. closing_check closed p after (check e)))
     ∙ append_assoc s.lines here own
     ∙ ap (λ (ls : List Line). s.lines ++ ls) (g.lines closed after)
     ∙ sym (append_assoc s.lines new (pending closed after)) in
     let counted : t.checks.count ≡ checks_in (pairs ++ p ∷ []) =
     omega (arith, g.count, before.checks, checks_in-append pairs (p ∷ [])) in
-    let few = few_of t.checks.limit (pairs ++ p ∷ []) (s.lines ++ new) (pending true []) (lines true []) in
+    let few = few_of (profile_of t.stack) t.checks.limit (pairs ++ p ∷ []) (s.lines ++ new) (pending true [])
+    (lines true []) in
     let one : checks_in (p ∷ []) ≤ 1 = checks_in-le (p ∷ []) in
     record {
       stack = stack;
@@ -157,67 +179,77 @@ accepted_stands early s t new pairs c o check before applied last checks command
 -- the fault of a pair is that of its command, if that took effect
 pub flaw_same : (early : Bool) (s : State) (pairs : List Pair) (c : Command) (o : Option Sexp)
     → Fits early s pairs
-    → flaw_of_pair pairs (pair_of c o)
-    ≡ flaw_if (is_effective_with o) (effective_commands pairs) (s.commands + 1) c
+    → flaw_of_pair (profile_of s.stack) pairs (pair_of c o)
+    ≡ flaw_if (profile_of s.stack) (is_effective_with o) (effective_commands pairs) (s.commands + 1) c
 flaw_same early s pairs c o before =
-    ap (λ (n : ℕ). flaw_if (is_effective_with o) (effective_commands pairs) (n + 1) c) (sym before.commands)
+    ap (λ (n : ℕ). flaw_if (profile_of s.stack) (is_effective_with o) (effective_commands pairs) (n + 1) c)
+    (sym before.commands)
 
 -- where the stack is as it was, and nothing else changed
 pub refused_stands : (early : Bool) (s t : State) (pairs : List Pair) → Fits early s pairs
-    → stacks.StandsFor t.stack (effective_commands pairs) → last_of t.stack ≡ last_of s.stack
+    → start_of t.stack ≡ start_of s.stack → stacks.StandsFor t.stack (effective_commands pairs)
+    → last_of t.stack ≡ last_of s.stack
     → t.checks ≡ s.checks → t.commands ≡ s.commands → t.answers ≡ s.answers → t.tally ≡ s.tally
     → t.lines ≡ s.lines → Fits early t pairs
-refused_stands early s t pairs before stack last checks commands answers tally lines = record {
+refused_stands early s t pairs before start stack last checks commands answers tally lines = record {
   stack = stack;
   last = omega (arith, last, commands, before.last);
   commands = commands ∙ before.commands;
   answers = answers ∙ before.answers;
   checks = ap (λ (c : ChecksState). c.count) checks ∙ before.checks;
   tally = tally ∙ before.tally ∙ ap tally_of (sym lines);
-  lines = λ closed after early'. ap (λ (c : ChecksState). lines_in c.limit closed [] pairs after) checks
-      ∙ before.lines closed after early'
-      ∙ ap (λ (ls : List Line). ls ++ pending_lines s.checks.limit closed s.checks.pending (signature_after pairs)
-      (claims_after pairs) (length pairs + 1) after) (sym lines)
+  lines = λ closed after early'.
+      ap (λ (c : ChecksState). lines_in (profile_of t.stack) c.limit closed [] pairs after) checks
+      ∙ lines_as early s t.stack pairs start before closed after early'
+      ∙ ap (λ (ls : List Line). ls ++ pending_lines s.checks.limit closed s.checks.pending
+      (signature_after (profile_of t.stack) pairs)
+      (claims_after (profile_of t.stack) pairs) (length pairs + 1) after) (sym lines)
       ∙ ap (λ (c : ChecksState). t.lines
-      ++ pending_lines c.limit closed c.pending (signature_after pairs) (claims_after pairs) (length pairs + 1)
+      ++ pending_lines c.limit closed c.pending (signature_after (profile_of t.stack) pairs)
+      (claims_after (profile_of t.stack) pairs) (length pairs + 1)
       after) (sym checks);
 }
 
 -- so a refused command has the fault that the stack told, or there was no memory
 pub refused_fault : (early : Bool) (s t : State) (n : ℕ) (pairs : List Pair) (c : Command) (o : Option Sexp)
     (fault : CommandFault) (flaw : CommandFlaw) → n ≡ s.commands + 1 → Fits early s pairs
-    → TellsCommand (flaw_if (is_effective_with o) (effective_commands pairs) n c) fault
+    → TellsCommand (flaw_if (profile_of s.stack) (is_effective_with o) (effective_commands pairs) n c) fault
     → flaw_of_command_fault fault ≡ Some flaw → Fits early t pairs
-    → (flaw_of_pair pairs (pair_of c o) ≡ Some flaw) × Fits early t pairs
+    → (flaw_of_pair (profile_of s.stack) pairs (pair_of c o) ≡ Some flaw) × Fits early t pairs
 refused_fault early s t n pairs c o fault flaw is before (inl memory) told after = let none : None ≡ Some flaw =
     sym (ap flaw_of_command_fault memory) ∙ told in absurd (cc)
 refused_fault early s t n pairs c o fault flaw is before (inr expected) told after = (
   flaw_same early s pairs c o before
-      ∙ ap (λ (k : ℕ). flaw_if (is_effective_with o) (effective_commands pairs) k c) (sym is) ∙ expected.1 ∙ told,
+      ∙ ap (λ (k : ℕ). flaw_if (profile_of s.stack) (is_effective_with o) (effective_commands pairs) k c) (sym is)
+      ∙ expected.1 ∙ told,
   after,
 )
 
 -- the same of a command of this number and kind
 pub accepted : (early : Bool) (s t : State) (new : List Line) (n : ℕ) (pairs : List Pair) (c : Command)
     (o : Option Sexp) (k : Kind) → n ≡ s.commands + 1 → k ≡ kind_of c → (early ≡ true → is_check c ≡ true)
-    → Fits early s pairs
-    → (flaw_if (is_effective_with o) (effective_commands pairs) n c ≡ None)
+    → Fits early s pairs → start_of t.stack ≡ start_of s.stack
+    → (flaw_if (profile_of s.stack) (is_effective_with o) (effective_commands pairs) n c ≡ None)
     × stacks.StandsFor t.stack (effective_commands pairs ++ numbered_if (is_effective_with o) n c)
     → last_of t.stack ≤ n
     → ((cs : List Numbered) → stacks.StandsFor t.stack cs
-    → step t.checks new ≡ checks_after s.checks (signature_in_force cs) (claims_in_force cs) n k o)
+    → step t.checks new ≡ checks_after s.checks (signature_in_force (profile_of t.stack) cs)
+    (claims_in_force (profile_of t.stack) cs) n k o)
     → t.commands ≡ n → t.answers ≡ s.answers + answer_count o → t.lines ≡ s.lines ++ new
     → s.checks.count + 1 < 2 ^ 64
     → (s.tally ≡ tally_of s.lines → length s.lines + length new < 2 ^ 64 → t.tally ≡ tally_of (s.lines ++ new))
-    → (flaw_of_pair pairs (pair_of c o) ≡ None) × StandsFor t (pairs ++ pair_of c o ∷ [])
-accepted early s t new n pairs c o k is kind check before applied last checks commands answers decided room tally =
-    let done = subst (λ (i : ℕ). (flaw_if (is_effective_with o) (effective_commands pairs) i c ≡ None)
+    → (flaw_of_pair (profile_of s.stack) pairs (pair_of c o) ≡ None) × StandsFor t (pairs ++ pair_of c o ∷ [])
+accepted early s t new n pairs c o k is kind check before start applied last checks commands answers decided room tally =
+    let done = subst (λ (i : ℕ). (flaw_if (profile_of s.stack) (is_effective_with o) (effective_commands pairs) i c
+    ≡ None)
     × stacks.StandsFor t.stack (effective_commands pairs ++ numbered_if (is_effective_with o) i c)) is applied in (
       flaw_same early s pairs c o before ∙ done.0,
-      accepted_stands early s t new pairs c o check before done.1 (omega (arith, last, is))
+      accepted_stands early s t new pairs c o check before start done.1 (omega (arith, last, is))
           (λ cs on. checks cs on
-          ∙ ap (λ (i : ℕ). checks_after s.checks (signature_in_force cs) (claims_in_force cs) i k o) is
-          ∙ ap (λ (j : Kind). checks_after s.checks (signature_in_force cs) (claims_in_force cs) (s.commands + 1) j o)
+          ∙ ap (λ (i : ℕ). checks_after s.checks (signature_in_force (profile_of t.stack) cs)
+          (claims_in_force (profile_of t.stack) cs) i k o) is
+          ∙ ap (λ (j : Kind). checks_after s.checks (signature_in_force (profile_of t.stack) cs)
+          (claims_in_force (profile_of t.stack) cs) (s.commands + 1) j o)
           kind)
           (commands ∙ is) answers decided room tally,
     )
@@ -243,8 +275,9 @@ closed_end = record { none = refl; closed = refl }
 
 -- what was decided, and what a check whose window has not ended adds where all are closed
 lines_at_once : (early : Bool) (s : State) (pairs : List Pair) → Fits early s pairs
-    → lines_in s.checks.limit true [] pairs []
-    ≡ s.lines ++ pending_lines s.checks.limit true s.checks.pending (signature_after pairs) (claims_after pairs)
+    → lines_in (profile_of s.stack) s.checks.limit true [] pairs []
+    ≡ s.lines ++ pending_lines s.checks.limit true s.checks.pending (signature_after (profile_of s.stack) pairs)
+    (claims_after (profile_of s.stack) pairs)
     (length pairs + 1) []
 lines_at_once early s pairs h = h.lines true [] (λ e. closed_end)
 
@@ -255,14 +288,16 @@ pub ended_early : (sooner : Bool) (s t : State) (pairs : List Pair) → Fits soo
     → (s.tally ≡ tally_of s.lines → length s.lines + length (closing_lines s.checks.pending) < 2 ^ 64
     → t.tally ≡ tally_of (s.lines ++ closing_lines s.checks.pending)) → Fits true t pairs
 ended_early sooner s t pairs before stack checks commands answers decided room tally =
+    let start = ap start_of stack in
     let line = closing_lines s.checks.pending in
     let lines : (closed : Bool) (after : List Pair) → Closing closed after
-    → lines_in s.checks.limit closed [] pairs after ≡ s.lines ++ line = λ closed after closing.
-    before.lines closed after (λ e. closing)
+    → lines_in (profile_of t.stack) s.checks.limit closed [] pairs after ≡ s.lines ++ line = λ closed after closing.
+    lines_as sooner s t.stack pairs start before closed after (λ e. closing)
     ∙ ap (λ (ls : List Line). s.lines ++ ls)
-    (closing_is s.checks.limit s.checks.pending closed (signature_after pairs) (claims_after pairs)
+    (closing_is s.checks.limit s.checks.pending closed (signature_after (profile_of t.stack) pairs)
+    (claims_after (profile_of t.stack) pairs)
     (length pairs + 1) after closing) in
-    let few = few_of s.checks.limit pairs (s.lines ++ line) []
+    let few = few_of (profile_of t.stack) s.checks.limit pairs (s.lines ++ line) []
     (lines true [] closed_end ∙ sym (append-nil (s.lines ++ line))) in
     record {
       stack = subst (λ k. stacks.StandsFor k (effective_commands pairs)) (sym stack) before.stack;
@@ -273,12 +308,13 @@ ended_early sooner s t pairs before stack checks commands answers decided room t
       tally = tally before.tally (omega (arith, few, length-append s.lines line, before.checks, room))
           ∙ ap tally_of (sym decided);
       lines = λ closed after early.
-          ap (λ (c : ChecksState). lines_in c.limit closed [] pairs after) checks
+          ap (λ (c : ChecksState). lines_in (profile_of t.stack) c.limit closed [] pairs after) checks
           ∙ lines closed after (early refl)
           ∙ sym decided
           ∙ sym (append-nil t.lines)
           ∙ ap (λ (c : ChecksState). t.lines
-          ++ pending_lines c.limit closed c.pending (signature_after pairs) (claims_after pairs) (length pairs + 1)
+          ++ pending_lines c.limit closed c.pending (signature_after (profile_of t.stack) pairs)
+          (claims_after (profile_of t.stack) pairs) (length pairs + 1)
           after) (sym checks);
     }
 
@@ -292,23 +328,25 @@ first_none false b h = refl
 pub lines_faultless : (early : Bool) (s : State) (pairs : List Pair) → Fits early s pairs
     → list_any is_fault_line s.lines ≡ false
 lines_faultless early s pairs h =
-    let pending = pending_lines s.checks.limit true s.checks.pending (signature_after pairs)
-    (claims_after pairs) (length pairs + 1) []
+    let pending = pending_lines s.checks.limit true s.checks.pending (signature_after (profile_of s.stack) pairs)
+    (claims_after (profile_of s.stack) pairs) (length pairs + 1) []
     in
     first_none (list_any is_fault_line s.lines) (list_any is_fault_line pending)
     (sym (list_any-append is_fault_line s.lines pending)
-    ∙ sym (ap (list_any is_fault_line) (lines_at_once early s pairs h)) ∙ no_faults s.checks.limit true [] pairs [])
+    ∙ sym (ap (list_any is_fault_line) (lines_at_once early s pairs h))
+    ∙ no_faults (profile_of s.stack) s.checks.limit true [] pairs [])
 
 -- nor is any that of the verdict
 pub lines_silent : (early : Bool) (s : State) (pairs : List Pair) → Fits early s pairs
     → list_any is_verdict_line s.lines ≡ false
 lines_silent early s pairs h =
-    let pending = pending_lines s.checks.limit true s.checks.pending (signature_after pairs)
-    (claims_after pairs) (length pairs + 1) []
+    let pending = pending_lines s.checks.limit true s.checks.pending (signature_after (profile_of s.stack) pairs)
+    (claims_after (profile_of s.stack) pairs) (length pairs + 1) []
     in
     first_none (list_any is_verdict_line s.lines) (list_any is_verdict_line pending)
     (sym (list_any-append is_verdict_line s.lines pending)
-    ∙ sym (ap (list_any is_verdict_line) (lines_at_once early s pairs h)) ∙ no_verdicts s.checks.limit true [] pairs [])
+    ∙ sym (ap (list_any is_verdict_line) (lines_at_once early s pairs h))
+    ∙ no_verdicts (profile_of s.stack) s.checks.limit true [] pairs [])
 
 pub part_silent : (ls rest all : List Line) → all ≡ ls ++ rest → list_any is_verdict_line all ≡ false
     → list_any is_verdict_line ls ≡ false
@@ -348,38 +386,40 @@ none_pending steps None names claims m = refl
 none_pending steps (Some c) names claims m = refl
 
 pub waiting_lines : (s : State) (pairs : List Pair) → Fits false s pairs
-    → lines_in s.checks.limit false [] pairs [] ≡ s.lines
+    → lines_in (profile_of s.stack) s.checks.limit false [] pairs [] ≡ s.lines
 waiting_lines s pairs h =
     h.lines false [] (λ e. absurd (cc))
     ∙ ap (λ ls. s.lines ++ ls)
-    (none_pending s.checks.limit s.checks.pending (signature_after pairs) (claims_after pairs) (length pairs + 1))
+    (none_pending s.checks.limit s.checks.pending (signature_after (profile_of s.stack) pairs)
+    (claims_after (profile_of s.stack) pairs) (length pairs + 1))
     ∙ append-nil s.lines
 
 -- and where no window is open, nothing where all are closed
 pub closed_lines : (early : Bool) (s : State) (pairs : List Pair) → s.checks.pending ≡ None → Fits early s pairs
-    → lines_in s.checks.limit true [] pairs [] ≡ s.lines
+    → lines_in (profile_of s.stack) s.checks.limit true [] pairs [] ≡ s.lines
 closed_lines early s pairs none h =
     lines_at_once early s pairs h
-    ∙ ap (λ o. s.lines ++ pending_lines s.checks.limit true o (signature_after pairs)
-    (claims_after pairs) (length pairs + 1) [])
+    ∙ ap (λ o. s.lines ++ pending_lines s.checks.limit true o (signature_after (profile_of s.stack) pairs)
+    (claims_after (profile_of s.stack) pairs) (length pairs + 1) [])
     none ∙ append-nil s.lines
 
 -- what is decided begins the lines, whatever comes
 pub decided_first : (early : Bool) (s : State) (pairs : List Pair) → Fits early s pairs
-    → (later : List Line) × (lines_in s.checks.limit early [] pairs [] ≡ s.lines ++ later)
+    → (later : List Line) × (lines_in (profile_of s.stack) s.checks.limit early [] pairs [] ≡ s.lines ++ later)
 decided_first true s pairs h = (_, lines_at_once true s pairs h)
 decided_first false s pairs h = ([], waiting_lines s pairs h ∙ sym (append-nil s.lines))
 
 -- ---- where the dialogue waits
 
 pub settled_closed : (closed : Bool) (u : State) (pairs : List Pair) → closed ≡ true → Fits true u pairs
-    → u.checks.pending ≡ None → Fits closed u pairs × (u.lines ≡ lines_in u.checks.limit closed [] pairs [])
+    → u.checks.pending ≡ None → Fits closed u pairs
+    × (u.lines ≡ lines_in (profile_of u.stack) u.checks.limit closed [] pairs [])
 settled_closed true u pairs is h none = (h, sym (closed_lines true u pairs none h))
 settled_closed false u pairs is h none = absurd (cc)
 
 pub settled_open : (closed early : Bool) (u : State) (pairs : List Pair) → closed ≡ false
     → (early ≡ true → closed ≡ true) → Fits early u pairs
-    → Fits closed u pairs × (u.lines ≡ lines_in u.checks.limit closed [] pairs [])
+    → Fits closed u pairs × (u.lines ≡ lines_in (profile_of u.stack) u.checks.limit closed [] pairs [])
 settled_open true early u pairs is same h = absurd (cc)
 settled_open false true u pairs is same h = absurd (let e = same refl in cc)
 settled_open false false u pairs is same h = (h, sym (waiting_lines u pairs h))
@@ -397,12 +437,13 @@ begins_trans xs ys zs h g = (h.0 ++ g.0, g.1 ∙ ap (λ l. l ++ g.0) h.1 ∙ app
 
 -- lines with which those that are decided begin
 pub begins_end : (early : Bool) (s : State) (pairs : List Pair) (fault : Option Line) (ls rest : List Line)
-    → s.lines ≡ ls ++ rest → Fits early s pairs → IsBeginning ls (lines_at_end s.checks.limit pairs fault)
+    → s.lines ≡ ls ++ rest → Fits early s pairs
+    → IsBeginning ls (lines_at_end (profile_of s.stack) s.checks.limit pairs fault)
 begins_end early s pairs fault ls rest is h =
-    let pending = pending_lines s.checks.limit true s.checks.pending (signature_after pairs)
-    (claims_after pairs) (length pairs + 1) []
+    let pending = pending_lines s.checks.limit true s.checks.pending (signature_after (profile_of s.stack) pairs)
+    (claims_after (profile_of s.stack) pairs) (length pairs + 1) []
     in
-    let mine = lines_in s.checks.limit true [] pairs [] in
+    let mine = lines_in (profile_of s.stack) s.checks.limit true [] pairs [] in
     let first : IsBeginning ls mine = (
       rest ++ pending,
       lines_at_once early s pairs h ∙ ap (λ l. l ++ pending) is ∙ append_assoc ls rest pending,

@@ -4,7 +4,8 @@ use Rattle.std.proofs.Common.{◌≡◌, ◌≤◌, ℕ, ◌+◌, Bool, true, fa
 use Rattle.std.proofs.Common.{arith, refl, ap, sym, ◌∙◌, subst, length-append}
 use Rattle.std.proofs.lemmas.List.{append-nil}
 use Rattle.std.specs.List.{list_any}
-use Rattle.smt_text.specs.Grammar.{limit}
+use Rattle.smt_script.specs.StackView.{profile_of}
+use Rattle.smt_text.specs.Grammar.{max_depth}
 use Rattle.smt_text.specs.Reader.{bytes_fed}
 use Rattle.smt_text.specs.Reading.{Reads}
 use Rattle.smt_trees.specs.Sexp.{Sexp, Sexps, Nil, Cons, count}
@@ -36,6 +37,9 @@ use Rattle.smt_dialogue.specs.declared.options.Options.{Options}
 use Rattle.smt_dialogue.specs.declared.turn.Turn.{Turn}
 use Rattle.smt_dialogue.specs.declared.turn.Turn.TheVariants as turns
 use Rattle.smt_report.specs.declared.line.Line.{Line}
+use Rattle.smt_script.specs.declared.stack.Start.{Start}
+use Rattle.smt_dialogue.specs.InForce.{start_by}
+use Rattle.smt_theory.specs.declared.profile.Profile.{Profile}
 
 -- what `trees_are_no_more_than_bytes` says
 abbrev pub FewTrees : Type 0
@@ -44,24 +48,24 @@ FewTrees = (bound : ℕ) (text : List ℕ) (trees : Sexps) (f : Option TextFlaw)
 
 -- ---- counts
 
-commands_count : (pairs : List Pair) (trees later : Sexps) → AreCommands pairs trees later
+commands_count : (profile : Profile) (pairs : List Pair) (trees later : Sexps) → AreCommands profile pairs trees later
     → count trees ≡ length pairs + count later
-commands_count [] trees later h = ap count h ∙ omega arith
-commands_count (p ∷ ps) Nil later h = absurd h
-commands_count (p ∷ ps) (Cons t ts) later h = omega (arith, commands_count ps ts later h.1)
+commands_count profile [] trees later h = ap count h ∙ omega arith
+commands_count profile (p ∷ ps) Nil later h = absurd h
+commands_count profile (p ∷ ps) (Cons t ts) later h = omega (arith, commands_count profile ps ts later h.1)
 
 -- what the law says that the exchange calls
 abbrev pub TreesAreFew : Type 0
 TreesAreFew = (told : Bool) (bytes : List ℕ) (trees : Sexps) (fault : Option TextFlaw)
-    → Reads limit told bytes trees fault → count trees ≤ length bytes
+    → Reads max_depth told bytes trees fault → count trees ≤ length bytes
 
 pub few_told : EveryTextReads → TreesStay → FewTrees → TreesAreFew
-few_told every stay few true bytes trees f h = few limit bytes trees f h
+few_told every stay few true bytes trees f h = few max_depth bytes trees f h
 few_told every stay few false bytes trees f h =
-    let all = every limit true bytes in
-    let more = stay limit true bytes [] trees all.0 f all.1 h
-    (subst (λ bs. Reads limit true bs all.0 all.1) (sym (append-nil bytes)) all.2) in
-    omega (arith, few limit bytes all.0 all.1 all.2, ap count more.1, count-append trees more.0)
+    let all = every max_depth true bytes in
+    let more = stay max_depth true bytes [] trees all.0 f all.1 h
+    (subst (λ bs. Reads max_depth true bs all.0 all.1) (sym (append-nil bytes)) all.2) in
+    omega (arith, few max_depth bytes all.0 all.1 all.2, ap count more.1, count-append trees more.0)
 
 pub bounded : TreesAreFew → (x : Pairing) (texts : Texts) (pairs : List Pair)
     (later rest : Sexps) → IsUnderWay x texts pairs later rest
@@ -69,7 +73,7 @@ pub bounded : TreesAreFew → (x : Pairing) (texts : Texts) (pairs : List Pair)
 bounded few x texts pairs later rest h =
     omega (
       arith,
-      commands_count pairs texts.script.trees later h.paired.pairing.commands,
+      commands_count (profile_of x.dialogue.stack) pairs texts.script.trees later h.paired.pairing.commands,
       few texts.script.told texts.script_bytes texts.script.trees texts.script.fault h.script_front.reads,
       h.script_front.stands.0,
     )
@@ -142,7 +146,7 @@ turn_kept : (x y : Pairing) (texts : Texts) (pairs : List Pair) (later rest : Se
     → options_of y.dialogue ≡ options_of x.dialogue
     → turn_of y texts pairs later rest ≡ turn_of x texts pairs later rest
 turn_kept x y texts pairs later rest same =
-    ap (λ (o : Options). turn_at o.print_success pairs (record texts.answers { trees = rest }) texts.script.told
+    ap (λ (o : Options). turn_at (start_by o) pairs (record texts.answers { trees = rest }) texts.script.told
     texts.script.fault later) same
 
 -- y is x with what it keeps of the dialogue settled
@@ -153,13 +157,14 @@ pub settled : (x y : Pairing) (texts : Texts) (pairs : List Pair) (later rest : 
     → IsUnderWay x texts pairs later rest → IsUnderWay y texts pairs later rest
 settled x y texts pairs later rest closed script answers command start stands closing h = record {
   left = h.left;
-  in_turn = subst (λ o. IsInTurn o pairs later h.left) (sym command) h.in_turn;
+  in_turn = subst (λ (o : Options). IsInTurn o.profile y.command pairs later h.left) (sym start)
+      (subst (λ o. IsInTurn (profile_of x.dialogue.stack) o pairs later h.left) (sym command) h.in_turn);
   script_front = subst (λ f. HasQueue f texts.script_bytes texts.script h.left) (sym script) h.script_front;
   answers_front = subst (λ f. HasQueue f texts.answers_bytes texts.answers rest) (sym answers) h.answers_front;
   early = closed;
   stands = stands;
   closing = λ e. subst (λ o. IsClosing o texts later) (sym command) (closing e);
-  paired = subst (λ (o : Options). ArePaired o.print_success texts.script texts.answers pairs later rest)
+  paired = subst (λ (o : Options). ArePaired (start_by o) texts.script texts.answers pairs later rest)
       (sym start) h.paired;
 }
 
@@ -170,7 +175,8 @@ pub waits_at : (old x y : Pairing) (texts : Texts) (pairs : List Pair) (later re
     → options_of y.dialogue ≡ options_of x.dialogue
     → ((early : Bool) → Fits early (state_behind texts.taken x.dialogue) pairs → (early ≡ true → closed ≡ true)
     → Fits closed (state_behind texts.taken y.dialogue) pairs
-    × (texts.taken ++ waiting y ≡ lines_in y.dialogue.checks.limit.steps closed [] pairs []))
+    × (texts.taken ++ waiting y
+    ≡ lines_in (profile_of y.dialogue.stack) y.dialogue.checks.limit.steps closed [] pairs []))
     → IsTurned (turns.Waits closed) old x texts pairs later rest
     → HasRested None options y texts
 waits_at old x y texts pairs later rest options closed begun kept script answers command same settle t =
@@ -184,28 +190,28 @@ waits_at old x y texts pairs later rest options closed begun kept script answers
       settled x y texts pairs later rest closed script answers command same done.0 t.2 h,
       same ∙ kept ∙ begun,
       turn_kept x y texts pairs later rest same ∙ turn,
-      done.1 ∙ ap (λ (o : Options). lines_in o.limit.steps closed [] pairs []) (same ∙ kept ∙ begun),
+      done.1 ∙ ap (λ (o : Options). lines_in o.profile o.limit.steps closed [] pairs []) (same ∙ kept ∙ begun),
     )
 
 -- the dialogue has ended behind the pairs
 pub ends_at : (old new : Pairing) (texts : Texts) (pairs : List Pair) (later rest : Sexps) (options : Options)
     (fault : Option Line) → options_of old.dialogue ≡ options
     → IsUnderWay old texts pairs later rest → IsTurned (turns.Ends fault) old new texts pairs later rest
-    → IsTurn options.print_success texts.script texts.answers pairs (first_fault.Ends fault)
+    → IsTurn (start_by options) texts.script texts.answers pairs (first_fault.Ends fault)
 ends_at old new texts pairs later rest options fault begun h t = record {
   later = later;
   rest = rest;
-  paired = subst (λ (o : Options). ArePaired o.print_success texts.script texts.answers pairs later rest) begun
+  paired = subst (λ (o : Options). ArePaired (start_by o) texts.script texts.answers pairs later rest) begun
       h.paired;
-  turn_is = sym (ap (λ (o : Options). turn_at o.print_success pairs
+  turn_is = sym (ap (λ (o : Options). turn_at (start_by o) pairs
       (record texts.answers { trees = rest }) texts.script.told
       texts.script.fault later) begun) ∙ t.2;
 }
 
 -- ---- where memory was refused
 
-next_pair : (start : Bool) (texts : Texts) (o : Option Command) (pairs : List Pair) (later left rest : Sexps)
-    → IsInTurn o pairs later left → IsClosing o texts later
+next_pair : (start : Start) (texts : Texts) (o : Option Command) (pairs : List Pair) (later left rest : Sexps)
+    → IsInTurn start.profile o pairs later left → IsClosing o texts later
     → (w : Way start pairs texts.script.told later texts.script.fault texts.answers.told rest texts.answers.fault)
     → ClosesNext w.pairs w.turn
 next_pair start texts None pairs later left rest turn h w =
@@ -213,8 +219,8 @@ next_pair start texts None pairs later left rest turn h w =
     texts.answers.fault w.turn h.0 h.1 h.2 w.commands w.turn_is
 next_pair start texts (Some c) pairs later left rest turn h w =
     at_tree start pairs w.pairs turn.0 left w.later (command_view c) texts.answers.told w.rest texts.answers.fault
-    w.turn turn.3 turn.2 h (subst (λ ts. AreCommands w.pairs ts w.later) turn.1 w.commands) texts.script.told
-    texts.script.fault w.turn_is w.rests
+    w.turn turn.3 turn.2 h (subst (λ ts. AreCommands start.profile w.pairs ts w.later) turn.1 w.commands)
+    texts.script.told texts.script.fault w.turn_is w.rests
 
 -- what is decided begins the lines so far
 pub cut_at : (x : Pairing) (texts : Texts) (pairs : List Pair) (later rest : Sexps) (ls : List Line)
@@ -222,34 +228,36 @@ pub cut_at : (x : Pairing) (texts : Texts) (pairs : List Pair) (later rest : Sex
     → options_of x.dialogue ≡ options → ls ≡ waiting x → IsUnderWay x texts pairs later rest
     → IsCut options ls texts
 cut_at x texts pairs later rest ls options begun is h =
-    let start = options.print_success in
+    let start = start_by options in
     let steps = options.limit.steps in
     let state = state_behind texts.taken x.dialogue in
     let w = way_through start later pairs texts.script.told texts.script.fault texts.answers.told rest
     texts.answers.fault in
-    let paired = subst (λ (o : Options). ArePaired o.print_success texts.script texts.answers pairs later rest)
+    let paired = subst (λ (o : Options). ArePaired (start_by o) texts.script texts.answers pairs later rest)
     begun h.paired in
     let turn = way_more start texts.script texts.answers pairs later rest paired w in
     let first = decided_first h.early state pairs h.stands in
-    let mine : lines_in steps h.early [] pairs [] ≡ (texts.taken ++ ls) ++ first.0 =
-    sym (ap (λ (o : Options). lines_in o.limit.steps h.early [] pairs []) begun) ∙ first.1
+    let mine : lines_in options.profile steps h.early [] pairs [] ≡ (texts.taken ++ ls) ++ first.0 =
+    sym (ap (λ (o : Options). lines_in o.profile o.limit.steps h.early [] pairs []) begun) ∙ first.1
     ∙ ap (λ xs. (texts.taken ++ xs) ++ first.0) (sym is) in
-    let all = begins_so steps pairs w.pairs w.turn h.early w.rests
-    (λ e. next_pair start texts x.command pairs later h.left rest h.in_turn (h.closing e) w) in (
-      lines_at steps (pairs ++ w.pairs) w.turn,
+    let all = begins_so options.profile steps pairs w.pairs w.turn h.early w.rests
+    (λ e. next_pair start texts x.command pairs later h.left rest
+    (subst (λ (o : Options). IsInTurn o.profile x.command pairs later h.left) begun h.in_turn) (h.closing e) w) in (
+      lines_at options.profile steps (pairs ++ w.pairs) w.turn,
       record { pairs = pairs ++ w.pairs; turn = w.turn; rests = w.rests; turn_is = turn; lines_are = refl },
-      begins_trans (texts.taken ++ ls) (lines_in steps h.early [] pairs []) (lines_at steps (pairs ++ w.pairs) w.turn)
+      begins_trans (texts.taken ++ ls) (lines_in options.profile steps h.early [] pairs [])
+          (lines_at options.profile steps (pairs ++ w.pairs) w.turn)
           (first.0, mine) all,
       ap (λ xs. list_any is_verdict_line (texts.taken ++ xs)) is ∙ lines_silent h.early state pairs h.stands,
     )
 
 -- where the dialogue ends, the first of its lines
 pub cut_ended : (texts : Texts) (pairs : List Pair) (fault : Option Line) (ls : List Line) (options : Options)
-    → IsTurn options.print_success texts.script texts.answers pairs (first_fault.Ends fault)
-    → IsBeginning (texts.taken ++ ls) (lines_at_end options.limit.steps pairs fault)
+    → IsTurn (start_by options) texts.script texts.answers pairs (first_fault.Ends fault)
+    → IsBeginning (texts.taken ++ ls) (lines_at_end options.profile options.limit.steps pairs fault)
     × (list_any is_verdict_line (texts.taken ++ ls) ≡ false) → IsCut options ls texts
 cut_ended texts pairs fault ls options turn first = (
-  lines_at_end options.limit.steps pairs fault,
+  lines_at_end options.profile options.limit.steps pairs fault,
   record { pairs = pairs; turn = first_fault.Ends fault; rests = tt; turn_is = turn; lines_are = refl },
   first.0,
   first.1,

@@ -10,17 +10,19 @@ use Rattle.smt_dialogue.proofs.StructureLemmas.{one_more}
 use Rattle.smt_dialogue.specs.InForce.{assertions_after, levels_after}
 use Rattle.smt_dialogue.specs.Pairs.{Pair, effective_commands, effective_from, is_effective}
 use Rattle.smt_dialogue.specs.Validity.{IsAsserted}
+use Rattle.smt_theory.specs.declared.profile.Profile.{Profile}
 
 -- the laws of the assertions in force: those of commands that stand
 abbrev pub AssertionsStand : Type 0
-AssertionsStand = (commands earlier : List Numbered) (c : Numbered) (term : Sexp) → Stands commands earlier c
+AssertionsStand = (profile : Profile) (commands earlier : List Numbered) (c : Numbered) (term : Sexp)
+    → Stands commands earlier c
     → c.command ≡ Assert term
     → (first last : List Assertion)
-    × (assertions_in_force commands ≡ first ++ record { command = c.number; term = term } ∷ last)
+    × (assertions_in_force profile commands ≡ first ++ record { command = c.number; term = term } ∷ last)
 
 abbrev pub AssertionsAreFound : Type 0
-AssertionsAreFound = (commands : List Numbered) (first last : List Assertion) (a : Assertion)
-    → assertions_in_force commands ≡ first ++ a ∷ last
+AssertionsAreFound = (profile : Profile) (commands : List Numbered) (first last : List Assertion) (a : Assertion)
+    → assertions_in_force profile commands ≡ first ++ a ∷ last
     → (earlier : List Numbered) × (c : Numbered) × Stands commands earlier c × (c.command ≡ Assert a.term)
     × (c.number ≡ a.command)
 
@@ -138,20 +140,21 @@ comes_from before first c a s is_assert is_number =
 -- ## Assertions in force, by pairs
 
 -- an assertion in force is one of a pair that stands
-pub asserted_from : AssertionsAreFound → (before : List Pair) (first last : List Assertion) (a : Assertion)
-    → assertions_after before ≡ first ++ a ∷ last
+pub asserted_from : (profile : Profile) → AssertionsAreFound
+    → (before : List Pair) (first last : List Assertion) (a : Assertion)
+    → assertions_after profile before ≡ first ++ a ∷ last
     → (earlier : List Pair) × IsAsserted before earlier a.term × (a.command ≡ length earlier + 1)
-asserted_from found before first last a h =
-    let standing = found (effective_commands before) first last a h in
+asserted_from profile found before first last a h =
+    let standing = found profile (effective_commands before) first last a h in
     let source = comes_from before standing.0 standing.1 a standing.2 standing.3 standing.4 in
     (source.earlier, source.asserted, source.number)
 
-pub asserted_in_force : AssertionsStand → (before earlier : List Pair) (term : Sexp)
+pub asserted_in_force : (profile : Profile) → AssertionsStand → (before earlier : List Pair) (term : Sexp)
     → IsAsserted before earlier term
     → (first last : List Assertion)
-    × (assertions_after before ≡ first ++ record { command = length earlier + 1; term = term } ∷ last)
-asserted_in_force stand before earlier term asserted =
-    stand (effective_commands before) (effective_commands earlier)
+    × (assertions_after profile before ≡ first ++ record { command = length earlier + 1; term = term } ∷ last)
+asserted_in_force profile stand before earlier term asserted =
+    stand profile (effective_commands before) (effective_commands earlier)
     (numbered (length earlier + 1) (Assert term)) term (asserted_stands before earlier term asserted) refl
 
 -- an assertion that takes effect is in force behind itself

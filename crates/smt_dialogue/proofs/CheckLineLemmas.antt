@@ -32,6 +32,8 @@ use Rattle.smt_report.specs.Verdict.{is_undecided_line, tally_of}
 use Rattle.smt_report.specs.declared.line.CheckAnswer.{CheckAnswer}
 use Rattle.smt_report.specs.declared.line.Line.{Line}
 use Rattle.smt_report.specs.declared.line.Line.TheVariants as lines
+use Rattle.smt_script.specs.declared.stack.Start.{Start}
+use Rattle.smt_theory.specs.declared.profile.Profile.{Profile}
 
 -- one line at most, and it is none of a fault, nor that of a verdict
 pub record IsSmall (ls : List Line) : Type 0 where
@@ -97,12 +99,13 @@ unchecked_small : (k n : ℕ) (u : Option CheckAnswer) (ls : List Line) → IsSm
 unchecked_small k n (Some answer) ls h = record { few = omega arith; faultless = refl; silent = refl }
 unchecked_small k n None ls h = h
 
-answer_small : (steps : ℕ) (closed : Bool) (before : List Pair) (claims : List Claimed) (k : ℕ) (o : Option Sexp)
-    (after : List Pair) → IsSmall (lines_of_answer steps closed before claims k o after)
-answer_small steps closed before claims k None after = none_small
-answer_small steps closed before claims k (Some answer) after =
+answer_small : (profile : Profile) (steps : ℕ) (closed : Bool) (before : List Pair) (claims : List Claimed) (k : ℕ)
+    (o : Option Sexp)
+    (after : List Pair) → IsSmall (lines_of_answer profile steps closed before claims k o after)
+answer_small profile steps closed before claims k None after = none_small
+answer_small profile steps closed before claims k (Some answer) after =
     let n = length before + 1 in
-    let names = signature_after before in
+    let names = signature_after profile before in
     let models = models_from (n + 1) (window after) in
     let ls = lines_of_sat steps closed k n names claims (n + 1) after in
     unchecked_small k n (unchecked_answer answer) (cond (is_symbol (codes "sat") answer) ls [])
@@ -115,47 +118,50 @@ some_small : (b : Bool) (ls : List Line) → IsSmall ls → length (cond b ls []
 some_small true ls h = h.few
 some_small false ls h = omega arith
 
-pub few_lines : (steps : ℕ) (closed : Bool) (before pairs after : List Pair)
-    → length (lines_in steps closed before pairs after) ≤ checks_in pairs
-few_lines steps closed before [] after = omega arith
-few_lines steps closed before (p ∷ ps) after =
-    let mine = lines_of_pair steps closed before p (ps ++ after) in
-    let others = lines_in steps closed (before ++ p ∷ []) ps after in
+pub few_lines : (profile : Profile) (steps : ℕ) (closed : Bool) (before pairs after : List Pair)
+    → length (lines_in profile steps closed before pairs after) ≤ checks_in pairs
+few_lines profile steps closed before [] after = omega arith
+few_lines profile steps closed before (p ∷ ps) after =
+    let mine = lines_of_pair profile steps closed before p (ps ++ after) in
+    let others = lines_in profile steps closed (before ++ p ∷ []) ps after in
     omega (
       arith,
       length-append mine others,
       some_small (is_check p.command)
-          (lines_of_answer steps closed before (claims_of_check before p.command) (checks_in before + 1) p.answer
+          (lines_of_answer profile steps closed before (claims_of_check profile before p.command)
+          (checks_in before + 1) p.answer
           (ps ++ after))
-          (answer_small steps closed before (claims_of_check before p.command) (checks_in before + 1) p.answer
+          (answer_small profile steps closed before (claims_of_check profile before p.command)
+          (checks_in before + 1) p.answer
           (ps ++ after)),
-      few_lines steps closed (before ++ p ∷ []) ps after,
+      few_lines profile steps closed (before ++ p ∷ []) ps after,
     )
 
-pair_small : (steps : ℕ) (closed : Bool) (before : List Pair) (p : Pair) (after : List Pair)
-    → IsSmall (lines_of_pair steps closed before p after)
-pair_small steps closed before p after =
-    let claims = claims_of_check before p.command in
-    if_small (is_check p.command) (lines_of_answer steps closed before claims (checks_in before + 1) p.answer after)
-    (answer_small steps closed before claims (checks_in before + 1) p.answer after)
+pair_small : (profile : Profile) (steps : ℕ) (closed : Bool) (before : List Pair) (p : Pair) (after : List Pair)
+    → IsSmall (lines_of_pair profile steps closed before p after)
+pair_small profile steps closed before p after =
+    let claims = claims_of_check profile before p.command in
+    if_small (is_check p.command) (lines_of_answer profile steps closed before claims
+    (checks_in before + 1) p.answer after)
+    (answer_small profile steps closed before claims (checks_in before + 1) p.answer after)
 
-pub no_faults : (steps : ℕ) (closed : Bool) (before pairs after : List Pair)
-    → list_any is_fault_line (lines_in steps closed before pairs after) ≡ false
-no_faults steps closed before [] after = refl
-no_faults steps closed before (p ∷ ps) after =
-    let others = lines_in steps closed (before ++ p ∷ []) ps after in
-    list_any-append is_fault_line (lines_of_pair steps closed before p (ps ++ after)) others
-    ∙ ap (λ b. b || list_any is_fault_line others) (pair_small steps closed before p (ps ++ after)).faultless
-    ∙ no_faults steps closed (before ++ p ∷ []) ps after
+pub no_faults : (profile : Profile) (steps : ℕ) (closed : Bool) (before pairs after : List Pair)
+    → list_any is_fault_line (lines_in profile steps closed before pairs after) ≡ false
+no_faults profile steps closed before [] after = refl
+no_faults profile steps closed before (p ∷ ps) after =
+    let others = lines_in profile steps closed (before ++ p ∷ []) ps after in
+    list_any-append is_fault_line (lines_of_pair profile steps closed before p (ps ++ after)) others
+    ∙ ap (λ b. b || list_any is_fault_line others) (pair_small profile steps closed before p (ps ++ after)).faultless
+    ∙ no_faults profile steps closed (before ++ p ∷ []) ps after
 
-pub no_verdicts : (steps : ℕ) (closed : Bool) (before pairs after : List Pair)
-    → list_any is_verdict_line (lines_in steps closed before pairs after) ≡ false
-no_verdicts steps closed before [] after = refl
-no_verdicts steps closed before (p ∷ ps) after =
-    let others = lines_in steps closed (before ++ p ∷ []) ps after in
-    list_any-append is_verdict_line (lines_of_pair steps closed before p (ps ++ after)) others
-    ∙ ap (λ b. b || list_any is_verdict_line others) (pair_small steps closed before p (ps ++ after)).silent
-    ∙ no_verdicts steps closed (before ++ p ∷ []) ps after
+pub no_verdicts : (profile : Profile) (steps : ℕ) (closed : Bool) (before pairs after : List Pair)
+    → list_any is_verdict_line (lines_in profile steps closed before pairs after) ≡ false
+no_verdicts profile steps closed before [] after = refl
+no_verdicts profile steps closed before (p ∷ ps) after =
+    let others = lines_in profile steps closed (before ++ p ∷ []) ps after in
+    list_any-append is_verdict_line (lines_of_pair profile steps closed before p (ps ++ after)) others
+    ∙ ap (λ b. b || list_any is_verdict_line others) (pair_small profile steps closed before p (ps ++ after)).silent
+    ∙ no_verdicts profile steps closed (before ++ p ∷ []) ps after
 
 -- ---- the line of a fault is none that is counted
 
@@ -209,18 +215,20 @@ want_turn : (n : ℕ) (o : Option TextFlaw) → IsFaultTurn (Ends (Some (want_of
 want_turn n None = refl
 want_turn n (Some fault) = refl
 
-taken_turn : (pairs : List Pair) (c : Command) (af : Option TextFlaw) (k : Taken)
-    → IsFaultTurn (turn_of_taken pairs c af k)
-taken_turn pairs c af (answering.Takes o) = flaw_turn (length pairs + 1) (flaw_of_pair pairs (pair_of c o))
-taken_turn pairs c af answering.Waits = tt
-taken_turn pairs c af answering.Missing = want_turn (length pairs + 1) af
-taken_turn pairs c af answering.Unexpected = refl
+taken_turn : (profile : Profile) (pairs : List Pair) (c : Command) (af : Option TextFlaw) (k : Taken)
+    → IsFaultTurn (turn_of_taken profile pairs c af k)
+taken_turn profile pairs c af (answering.Takes o) =
+    flaw_turn (length pairs + 1) (flaw_of_pair profile pairs (pair_of c o))
+taken_turn profile pairs c af answering.Waits = tt
+taken_turn profile pairs c af answering.Missing = want_turn (length pairs + 1) af
+taken_turn profile pairs c af answering.Unexpected = refl
 
-command_turn : (start : Bool) (pairs : List Pair) (r : Result Command CommandFlaw) (answers : TextSoFar)
+command_turn : (start : Start) (pairs : List Pair) (r : Result Command CommandFlaw) (answers : TextSoFar)
     → IsFaultTurn (turn_of_command start pairs r answers)
 command_turn start pairs (Err flaw) answers = refl
 command_turn start pairs (Ok c) answers =
-    taken_turn pairs c answers.fault (taken (is_over answers) (need_after start pairs c) (next_of answers.trees))
+    taken_turn start.profile pairs c answers.fault
+    (taken (is_over answers) (need_after start pairs c) (next_of answers.trees))
 
 exit_turn : (b : Bool) (n : ℕ) (turn : Turn) → IsFaultTurn turn
     → IsFaultTurn (cond b (Ends (Some (lines.CommandFault n AfterExit))) turn)
@@ -234,11 +242,12 @@ rest_turn pairs told (Some fault) Nil = refl
 rest_turn pairs true None Nil = tt
 rest_turn pairs false None Nil = tt
 
-pub fault_turn : (start : Bool) (pairs : List Pair) (answers : TextSoFar) (told : Bool) (sf : Option TextFlaw)
+pub fault_turn : (start : Start) (pairs : List Pair) (answers : TextSoFar) (told : Bool) (sf : Option TextFlaw)
     (trees : Sexps) → IsFaultTurn (turn_at start pairs answers told sf trees)
 fault_turn start pairs answers told sf (Cons t ts) =
-    exit_turn (has_exited_after pairs) (length pairs + 1) (turn_of_command start pairs (command_of t) answers)
-    (command_turn start pairs (command_of t) answers)
+    exit_turn (has_exited_after pairs) (length pairs + 1)
+    (turn_of_command start pairs (command_of start.profile t) answers)
+    (command_turn start pairs (command_of start.profile t) answers)
 fault_turn start pairs answers told (Some fault) Nil = refl
 fault_turn start pairs answers true None Nil = rest_turn pairs answers.told answers.fault answers.trees
 fault_turn start pairs answers false None Nil = tt
@@ -255,18 +264,19 @@ flaw_told : (s a : Bool) (n : ℕ) (o : Option CommandFlaw) → IsToldTurn s a (
 flaw_told s a n None = tt
 flaw_told s a n (Some flaw) = tt
 
-taken_told : (s a : Bool) (pairs : List Pair) (c : Command) (af : Option TextFlaw) (k : Taken)
-    → IsToldTurn s a (turn_of_taken pairs c af k)
-taken_told s a pairs c af (answering.Takes o) = flaw_told s a (length pairs + 1) (flaw_of_pair pairs (pair_of c o))
-taken_told s a pairs c af answering.Waits = tt
-taken_told s a pairs c af answering.Missing = tt
-taken_told s a pairs c af answering.Unexpected = tt
+taken_told : (profile : Profile) (s a : Bool) (pairs : List Pair) (c : Command) (af : Option TextFlaw) (k : Taken)
+    → IsToldTurn s a (turn_of_taken profile pairs c af k)
+taken_told profile s a pairs c af (answering.Takes o) =
+    flaw_told s a (length pairs + 1) (flaw_of_pair profile pairs (pair_of c o))
+taken_told profile s a pairs c af answering.Waits = tt
+taken_told profile s a pairs c af answering.Missing = tt
+taken_told profile s a pairs c af answering.Unexpected = tt
 
-command_told : (s a start : Bool) (pairs : List Pair) (r : Result Command CommandFlaw) (answers : TextSoFar)
+command_told : (s a : Bool) (start : Start) (pairs : List Pair) (r : Result Command CommandFlaw) (answers : TextSoFar)
     → IsToldTurn s a (turn_of_command start pairs r answers)
 command_told s a start pairs (Err flaw) answers = tt
 command_told s a start pairs (Ok c) answers =
-    taken_told s a pairs c answers.fault
+    taken_told start.profile s a pairs c answers.fault
     (taken (is_over answers) (need_after start pairs c) (next_of answers.trees))
 
 exit_told : (s a b : Bool) (n : ℕ) (turn : Turn) → IsToldTurn s a turn
@@ -281,12 +291,12 @@ rest_told pairs told (Some fault) Nil = tt
 rest_told pairs true None Nil = (refl, refl)
 rest_told pairs false None Nil = tt
 
-pub told_turn : (start : Bool) (pairs : List Pair) (answers : TextSoFar) (told : Bool) (sf : Option TextFlaw)
+pub told_turn : (start : Start) (pairs : List Pair) (answers : TextSoFar) (told : Bool) (sf : Option TextFlaw)
     (trees : Sexps) → IsToldTurn told answers.told (turn_at start pairs answers told sf trees)
 told_turn start pairs answers told sf (Cons t ts) =
     exit_told told answers.told (has_exited_after pairs) (length pairs + 1)
-    (turn_of_command start pairs (command_of t) answers)
-    (command_told told answers.told start pairs (command_of t) answers)
+    (turn_of_command start pairs (command_of start.profile t) answers)
+    (command_told told answers.told start pairs (command_of start.profile t) answers)
 told_turn start pairs answers told (Some fault) Nil = tt
 told_turn start pairs answers true None Nil = rest_told pairs answers.told answers.fault answers.trees
 told_turn start pairs answers false None Nil = tt

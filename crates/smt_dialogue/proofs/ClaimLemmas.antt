@@ -30,16 +30,18 @@ use Rattle.smt_report.specs.declared.claim.Claim.{Claim}
 use Rattle.smt_report.specs.declared.claim.Claim.TheVariants.{Assertion as OfAssertion, Assumption as OfAssumption}
 use Rattle.smt_faults.specs.declared.term_flaw.TermFlaw.{TermFlaw}
 use Rattle.smt_faults.specs.declared.term_flaw.TermFlaw.TheVariants.{IllSorted}
+use Rattle.smt_theory.specs.declared.profile.Profile.{Profile}
 
 -- ## What stands behind what
 
 -- a pair among faultless ones has no fault
-pub faultless_at : (before xs : List Pair) (p : Pair) (ys : List Pair) → AreFaultless before (xs ++ p ∷ ys)
-    → flaw_of_pair (before ++ xs) p ≡ None
-faultless_at before [] p ys h = ap (λ (b : List Pair). flaw_of_pair b p) (append-nil before) ∙ h.1
-faultless_at before (x ∷ xs) p ys h =
-    ap (λ (b : List Pair). flaw_of_pair b p) (sym (append_assoc before (x ∷ []) xs))
-    ∙ faultless_at (before ++ x ∷ []) xs p ys h.2
+pub faultless_at : (profile : Profile) (before xs : List Pair) (p : Pair) (ys : List Pair)
+    → AreFaultless profile before (xs ++ p ∷ ys)
+    → flaw_of_pair profile (before ++ xs) p ≡ None
+faultless_at profile before [] p ys h = ap (λ (b : List Pair). flaw_of_pair profile b p) (append-nil before) ∙ h.1
+faultless_at profile before (x ∷ xs) p ys h =
+    ap (λ (b : List Pair). flaw_of_pair profile b p) (sym (append_assoc before (x ∷ []) xs))
+    ∙ faultless_at profile (before ++ x ∷ []) xs p ys h.2
 
 -- what is asserted without a fault is a formula, whatever labels it brings
 formula_sort : (r : Result Sort TermFlaw) (labels : List Entry)
@@ -51,11 +53,11 @@ formula_sort (Ok (Bits w)) labels h = absurd (cc)
 formula_sort (Err f) labels h = absurd (cc)
 
 -- an assertion that took effect, without a fault, is a formula
-pub asserted_formula : (earlier : List Pair) (p : Pair) (term : Sexp) → p.command ≡ Assert term
-    → is_effective p ≡ true → flaw_of_pair earlier p ≡ None
-    → sort_in (in_assertion (names_of (signature_after earlier))) [] term ≡ Ok BooleanSort
-asserted_formula earlier p term is effective h =
-    let names = names_of (signature_after earlier) in
+pub asserted_formula : (profile : Profile) (earlier : List Pair) (p : Pair) (term : Sexp) → p.command ≡ Assert term
+    → is_effective p ≡ true → flaw_of_pair profile earlier p ≡ None
+    → sort_in (in_assertion (names_of (signature_after profile earlier))) [] term ≡ Ok BooleanSort
+asserted_formula profile earlier p term is effective h =
+    let names = names_of (signature_after profile earlier) in
     formula_sort (sort_in (in_assertion names) [] term) (label_entries names (labels_in term))
     (rw (effective, is) at h)
 
@@ -83,23 +85,24 @@ literal_at names (Cons l ls) (suc k) t none at =
     literal_at names ls k t
     (none_of_two (flaw_of_formula (sort_in names [] l)) (flaw_of_literals names ls) none).1 at
 
-assumed_by : (before : List Pair) (n k : ℕ) (e : Effect) (t : Sexp)
-    → flaw_by (effective_commands before) n e ≡ None → slice_get (literals_of_effect e) k ≡ Some t
-    → sort_in (names_of (signature_after before)) [] t ≡ Ok BooleanSort
-assumed_by before n k (SetsLogic x) t none at = absurd (cc)
-assumed_by before n k (Brings item) t none at = absurd (cc)
-assumed_by before n k (Pushes levels) t none at = absurd (cc)
-assumed_by before n k (Pops levels) t none at = absurd (cc)
-assumed_by before n k (Removing what) t none at = absurd (cc)
-assumed_by before n k (SetsGlobal on) t none at = absurd (cc)
-assumed_by before n k (Assumes ls) t none at = literal_at (names_of (signature_after before)) ls k t none at
+assumed_by : (profile : Profile) (before : List Pair) (n k : ℕ) (e : Effect) (t : Sexp)
+    → flaw_by profile (effective_commands before) n e ≡ None → slice_get (literals_of_effect e) k ≡ Some t
+    → sort_in (names_of (signature_after profile before)) [] t ≡ Ok BooleanSort
+assumed_by profile before n k (SetsLogic x) t none at = absurd (cc)
+assumed_by profile before n k (Brings item) t none at = absurd (cc)
+assumed_by profile before n k (Pushes levels) t none at = absurd (cc)
+assumed_by profile before n k (Pops levels) t none at = absurd (cc)
+assumed_by profile before n k (Removing what) t none at = absurd (cc)
+assumed_by profile before n k (SetsGlobal on) t none at = absurd (cc)
+assumed_by profile before n k (Assumes ls) t none at =
+    literal_at (names_of (signature_after profile before)) ls k t none at
 
 -- an assumption of a check that took effect, without a fault, is a formula
-assumed_formula : (before : List Pair) (p : Pair) (place : ℕ) (term : Sexp) → IsAssumed p place term
-    → is_effective p ≡ true → flaw_of_pair before p ≡ None
-    → sort_in (names_of (signature_after before)) [] term ≡ Ok BooleanSort
-assumed_formula before p place term h effective none =
-    assumed_by before (length before + 1) h.0 (effect_of p.command) term (rw effective at none) h.2
+assumed_formula : (profile : Profile) (before : List Pair) (p : Pair) (place : ℕ) (term : Sexp) → IsAssumed p place term
+    → is_effective p ≡ true → flaw_of_pair profile before p ≡ None
+    → sort_in (names_of (signature_after profile before)) [] term ≡ Ok BooleanSort
+assumed_formula profile before p place term h effective none =
+    assumed_by profile before (length before + 1) h.0 (effect_of p.command) term (rw effective at none) h.2
 
 -- a check that was answered sat took effect
 pub sat_took_effect : (p : Pair) → IsSatCheck p → is_effective p ≡ true
@@ -109,22 +112,22 @@ sat_took_effect p s =
     (w.1 ∙ ap (λ (x : List ℕ). Atom sexp.Symbol x) w.2))
 
 -- what a check without a fault claims is a formula
-pub claim_sorted : (pairs before after : List Pair) (p : Pair) → pairs ≡ before ++ p ∷ after
-    → AreFaultless [] pairs → IsSatCheck p → (claim : Claim) (earlier : List Pair) (term : Sexp)
+pub claim_sorted : (profile : Profile) (pairs before after : List Pair) (p : Pair) → pairs ≡ before ++ p ∷ after
+    → AreFaultless profile [] pairs → IsSatCheck p → (claim : Claim) (earlier : List Pair) (term : Sexp)
     → IsClaimed before p claim earlier term
-    → sort_in (names_of_claim claim (names_of (signature_after earlier))) [] term ≡ Ok BooleanSort
-claim_sorted pairs before after p place faultless sat (OfAssertion command) earlier term claimed =
+    → sort_in (names_of_claim claim (names_of (signature_after profile earlier))) [] term ≡ Ok BooleanSort
+claim_sorted profile pairs before after p place faultless sat (OfAssertion command) earlier term claimed =
     let asserted = claimed.0 in
     let q = asserted.pair in
     let far : pairs ≡ earlier ++ q ∷ (asserted.between ++ p ∷ after) =
     place ∙ ap (λ (b : List Pair). b ++ p ∷ after) asserted.place
     ∙ append_assoc earlier (q ∷ asserted.between) (p ∷ after) in
-    asserted_formula earlier q term asserted.command asserted.effective
-    (faultless_at [] earlier q (asserted.between ++ p ∷ after) (subst (AreFaultless []) far faultless))
-claim_sorted pairs before after p place faultless sat (OfAssumption n) earlier term claimed =
-    subst (λ (b : List Pair). sort_in (names_of (signature_after b)) [] term ≡ Ok BooleanSort) (sym claimed.0)
-    (assumed_formula before p n term claimed.1 (sat_took_effect p sat)
-    (faultless_at [] before p after (subst (AreFaultless []) place faultless)))
+    asserted_formula profile earlier q term asserted.command asserted.effective
+    (faultless_at profile [] earlier q (asserted.between ++ p ∷ after) (subst (AreFaultless profile []) far faultless))
+claim_sorted profile pairs before after p place faultless sat (OfAssumption n) earlier term claimed =
+    subst (λ (b : List Pair). sort_in (names_of (signature_after profile b)) [] term ≡ Ok BooleanSort) (sym claimed.0)
+    (assumed_formula profile before p n term claimed.1 (sat_took_effect p sat)
+    (faultless_at profile [] before p after (subst (AreFaultless profile []) place faultless)))
 
 -- ## Where a claim stands
 
@@ -162,27 +165,28 @@ assumption_in n (suc k) (x ∷ ts) t h =
     )
 
 -- each claim is one of all
-pub claim_in : AssertionsStand → (before : List Pair) (p : Pair) (claim : Claim) (earlier : List Pair)
+pub claim_in : (profile : Profile) → AssertionsStand
+    → (before : List Pair) (p : Pair) (claim : Claim) (earlier : List Pair)
     (term : Sexp) → IsClaimed before p claim earlier term
-    → IsIn (record { claim = claim; term = term }) (claims_of_check before p.command)
-claim_in stand before p (OfAssertion command) earlier term h =
-    let among = asserted_in_force stand before earlier term h.0 in
+    → IsIn (record { claim = claim; term = term }) (claims_of_check profile before p.command)
+claim_in profile stand before p (OfAssertion command) earlier term h =
+    let among = asserted_in_force profile stand before earlier term h.0 in
     let assumed = assumed_from 1 (literals_of p.command) in
     let it : Claimed = record { claim = OfAssertion command; term = term } in
     let number : length earlier + 1 ≡ command = sym h.1 in (
       claims_of among.0,
       claims_of among.1 ++ assumed,
       ap (λ (cs : List Claimed). cs ++ assumed)
-          (assertion_in (assertions_after before) (record { command = length earlier + 1; term = term }) among.0
+          (assertion_in (assertions_after profile before) (record { command = length earlier + 1; term = term }) among.0
           among.1 among.2
           ∙ ap (λ (n : ℕ). claims_of among.0
           ++ record { claim = OfAssertion n; term = term } ∷ claims_of among.1) number)
           ∙ append_assoc (claims_of among.0) (it ∷ claims_of among.1) assumed,
     )
-claim_in stand before p (OfAssumption place) earlier term h =
+claim_in profile stand before p (OfAssumption place) earlier term h =
     let k = h.1.0 in
     let among = assumption_in 1 k (literals_of p.command) term h.1.2 in
-    let asserted = claims_of (assertions_after before) in
+    let asserted = claims_of (assertions_after profile before) in
     let number : 1 + k ≡ place = omega (arith, h.1.1) in (
       asserted ++ among.0,
       among.1,
@@ -236,15 +240,16 @@ assumption_of n (t ∷ ts) (x ∷ first) last c h =
     (suc rest.0, rest.1 ∙ ap OfAssumption place, rest.2)
 
 -- what is among all claims is claimed
-pub claimed_from : AssertionsAreFound → (before : List Pair) (p : Pair) (first last : List Claimed) (c : Claimed)
-    → claims_of_check before p.command ≡ first ++ c ∷ last
+pub claimed_from : (profile : Profile) → AssertionsAreFound
+    → (before : List Pair) (p : Pair) (first last : List Claimed) (c : Claimed)
+    → claims_of_check profile before p.command ≡ first ++ c ∷ last
     → (earlier : List Pair) × IsClaimed before p c.claim earlier c.term
-claimed_from found before p first last c h =
+claimed_from profile found before p first last c h =
     ⊎_elim
     (λ it.
-    let source = assertion_of (assertions_after before) it.0 it.1 c it.2 in
+    let source = assertion_of (assertions_after profile before) it.0 it.1 c it.2 in
     let a = source.0 in
-    let asserted = asserted_from found before source.2.0 source.2.1 a source.2.2 in (
+    let asserted = asserted_from profile found before source.2.0 source.2.1 a source.2.2 in (
       asserted.0,
       subst (λ (x : Claimed). IsClaimed before p x.claim asserted.0 x.term) (sym source.1)
           (asserted.1, asserted.2),
@@ -256,4 +261,4 @@ claimed_from found before p first last c h =
       subst (λ (x : Claim). IsClaimed before p x before c.term) (sym source.1)
           (refl, (source.0, place, source.2)),
     ))
-    (in_either (claims_of (assertions_after before)) (assumed_from 1 (literals_of p.command)) first last c h)
+    (in_either (claims_of (assertions_after profile before)) (assumed_from 1 (literals_of p.command)) first last c h)

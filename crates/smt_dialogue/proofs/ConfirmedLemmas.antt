@@ -37,29 +37,32 @@ use Rattle.smt_eval.specs.declared.model_fault.ModelFlaw.{ModelFlaw}
 use Rattle.smt_eval.specs.declared.model_fault.ModelFlaw.TheVariants as faults
 use Rattle.smt_report.specs.declared.claim.Claim.{Claim}
 use Rattle.smt_report.specs.declared.line.Line.{Line}
+use Rattle.smt_theory.specs.declared.profile.Profile.{Profile}
 
 -- the lines of a pair are among those of all pairs
-pub lines_at : (steps : ℕ) (before : List Pair) (p : Pair) (after : List Pair)
-    → lines_in steps true [] (before ++ p ∷ after) []
-    ≡ lines_in steps true [] before ((p ∷ after) ++ [])
-    ++ (lines_of_pair steps true before p after ++ lines_in steps true (before ++ p ∷ []) after [])
-lines_at steps before p after =
-    lines_in-append steps true [] before (p ∷ after) []
-    ∙ ap (λ (a : List Pair). lines_in steps true [] before ((p ∷ after) ++ [])
-    ++ (lines_of_pair steps true before p a ++ lines_in steps true (before ++ p ∷ []) after [])) (append-nil after)
+pub lines_at : (profile : Profile) (steps : ℕ) (before : List Pair) (p : Pair) (after : List Pair)
+    → lines_in profile steps true [] (before ++ p ∷ after) []
+    ≡ lines_in profile steps true [] before ((p ∷ after) ++ [])
+    ++ (lines_of_pair profile steps true before p after ++ lines_in profile steps true (before ++ p ∷ []) after [])
+lines_at profile steps before p after =
+    lines_in-append profile steps true [] before (p ∷ after) []
+    ∙ ap (λ (a : List Pair). lines_in profile steps true [] before ((p ∷ after) ++ [])
+    ++ (lines_of_pair profile steps true before p a ++ lines_in profile steps true (before ++ p ∷ []) after []))
+    (append-nil after)
 
 -- the lines of a check that was answered sat
-pub lines_of_sat_at : (steps : ℕ) (before after : List Pair) (p : Pair) → IsSatCheck p
-    → lines_of_pair steps true before p after
-    ≡ lines_of_sat steps true (checks_in before + 1) (length before + 1) (signature_after before)
-    (claims_of_check before p.command) ((length before + 1) + 1) after
-lines_of_sat_at steps before after p s =
+pub lines_of_sat_at : (profile : Profile) (steps : ℕ) (before after : List Pair) (p : Pair) → IsSatCheck p
+    → lines_of_pair profile steps true before p after
+    ≡ lines_of_sat steps true (checks_in before + 1) (length before + 1) (signature_after profile before)
+    (claims_of_check profile before p.command) ((length before + 1) + 1) after
+lines_of_sat_at profile steps before after p s =
     let w = is_word (codes "sat") s.answer s.sat in
     let e : s.answer ≡ Atom sexp.Symbol (codes "sat") = w.1 ∙ ap (λ (x : List ℕ). Atom sexp.Symbol x) w.2 in
-    let claims = claims_of_check before p.command in
-    ap (λ (b : Bool). cond b (lines_of_answer steps true before claims (checks_in before + 1) p.answer after) [])
+    let claims = claims_of_check profile before p.command in
+    ap (λ (b : Bool). cond b (lines_of_answer profile steps true before claims
+    (checks_in before + 1) p.answer after) [])
     s.check
-    ∙ ap (λ (o : Option Sexp). lines_of_answer steps true before claims (checks_in before + 1) o after)
+    ∙ ap (λ (o : Option Sexp). lines_of_answer profile steps true before claims (checks_in before + 1) o after)
     (s.answered ∙ ap (λ (a : Sexp). Some a) e)
 
 -- ## Judgements
@@ -136,23 +139,25 @@ confirmed_over steps script as' (Err (faults.Lacks n)) h = absurd (cc)
 -- ## Models that are confirmed are true
 
 -- a model that is confirmed under what is in force is a true one
-pub true_model : (steps : ℕ) → Laws → (pairs before after : List Pair) (p : Pair) (parts : Sexps)
-    → pairs ≡ before ++ p ∷ after → AreFaultless [] pairs → IsSatCheck p
-    → judgement_of steps (signature_after before) (claims_of_check before p.command) parts ≡ judgements.Confirmed
-    → IsTrueModel before p parts
-true_model steps laws pairs before after p parts place faultless sat h =
-    let all = claims_of_check before p.command in
-    let confirmed = confirmed_over steps (signature_after before) all (model_in (signature_after before) parts) h in
+pub true_model : (profile : Profile) (steps : ℕ) → Laws → (pairs before after : List Pair) (p : Pair) (parts : Sexps)
+    → pairs ≡ before ++ p ∷ after → AreFaultless profile [] pairs → IsSatCheck p
+    → judgement_of steps (signature_after profile before) (claims_of_check profile before p.command) parts
+    ≡ judgements.Confirmed
+    → IsTrueModel profile before p parts
+true_model profile steps laws pairs before after p parts place faultless sat h =
+    let all = claims_of_check profile before p.command in
+    let confirmed = confirmed_over steps (signature_after profile before) all
+    (model_in (signature_after profile before) parts) h in
     record {
       definitions = confirmed.0;
-      model = laws.complete (signature_after before) parts confirmed.0 confirmed.1;
-      structure = structure_behind laws.introduced laws.structures before (p ∷ after) parts confirmed.0
-          (subst (AreFaultless []) place faultless) confirmed.1;
-      sorted = claim_sorted pairs before after p place faultless sat;
+      model = laws.complete (signature_after profile before) parts confirmed.0 confirmed.1;
+      structure = structure_behind profile laws.introduced laws.structures before (p ∷ after) parts confirmed.0
+          (subst (AreFaultless profile []) place faultless) confirmed.1;
+      sorted = claim_sorted profile pairs before after p place faultless sat;
       true_in = λ z claim earlier term claimed.
           let here : Claimed = record { claim = claim; term = term } in
-          let among = claim_in laws.stand before p claim earlier term claimed in
-          let structure = structure_at confirmed.0 before in
+          let among = claim_in profile laws.stand before p claim earlier term claimed in
+          let structure = structure_at profile confirmed.0 before in
           let not_open = first_none (is_open_over structure) among.0 here among.1
           (ap (first_claim (is_open_over structure)) (sym among.2) ∙ confirmed.3) in
           closed_value laws z structure term (Truth true)
@@ -241,26 +246,28 @@ sat_confirmed steps k n names as' [] None is r u = absurd (cc)
 sat_confirmed steps k n names as' (m ∷ ms) None is r u = (m, ms, refl, is)
 
 -- where the lines of all pairs have neither, each check that was answered sat is confirmed
-pub confirmed_at : (steps : ℕ) → Laws → (pairs before after : List Pair) (p : Pair) → pairs ≡ before ++ p ∷ after
-    → AreFaultless [] pairs → list_any is_refuted_line (lines_in steps true [] pairs []) ≡ false
-    → list_any is_undecided_line (lines_in steps true [] pairs []) ≡ false → IsSatCheck p
-    → IsConfirmed before p after
-confirmed_at steps laws pairs before after p place faultless refuted undecided sat =
+pub confirmed_at : (profile : Profile) (steps : ℕ) → Laws → (pairs before after : List Pair) (p : Pair)
+    → pairs ≡ before ++ p ∷ after
+    → AreFaultless profile [] pairs → list_any is_refuted_line (lines_in profile steps true [] pairs []) ≡ false
+    → list_any is_undecided_line (lines_in profile steps true [] pairs []) ≡ false → IsSatCheck p
+    → IsConfirmed profile before p after
+confirmed_at profile steps laws pairs before after p place faultless refuted undecided sat =
     let k = checks_in before + 1 in
     let n = length before + 1 in
-    let names = signature_after before in
-    let claimed = claims_of_check before p.command in
+    let names = signature_after profile before in
+    let claimed = claims_of_check profile before p.command in
     let ms = models_from (n + 1) (window after) in
-    let parts : lines_in steps true [] pairs []
-    ≡ lines_in steps true [] before ((p ∷ after) ++ [])
-    ++ (lines_of_pair steps true before p after ++ lines_in steps true (before ++ p ∷ []) after []) =
-    ap (λ (ps : List Pair). lines_in steps true [] ps []) place ∙ lines_at steps before p after in
-    let here : (test : Line → Bool) → list_any test (lines_in steps true [] pairs []) ≡ false
+    let parts : lines_in profile steps true [] pairs []
+    ≡ lines_in profile steps true [] before ((p ∷ after) ++ [])
+    ++ (lines_of_pair profile steps true before p after ++ lines_in profile steps true (before ++ p ∷ []) after []) =
+    ap (λ (ps : List Pair). lines_in profile steps true [] ps []) place ∙ lines_at profile steps before p after in
+    let here : (test : Line → Bool) → list_any test (lines_in profile steps true [] pairs []) ≡ false
     → list_any test (lines_of_sat steps true k n names claimed (n + 1) after) ≡ false =
-    λ test h. ap (list_any test) (sym (lines_of_sat_at steps before after p sat))
-    ∙ (none_of test (lines_of_pair steps true before p after) (lines_in steps true (before ++ p ∷ []) after [])
-    (none_of test (lines_in steps true [] before ((p ∷ after) ++ []))
-    (lines_of_pair steps true before p after ++ lines_in steps true (before ++ p ∷ []) after [])
+    λ test h. ap (list_any test) (sym (lines_of_sat_at profile steps before after p sat))
+    ∙ (none_of test (lines_of_pair profile steps true before p after)
+    (lines_in profile steps true (before ++ p ∷ []) after [])
+    (none_of test (lines_in profile steps true [] before ((p ∷ after) ++ []))
+    (lines_of_pair profile steps true before p after ++ lines_in profile steps true (before ++ p ∷ []) after [])
     (ap (list_any test) (sym parts) ∙ h)).1).0 in
     let found = sat_confirmed steps k n names claimed ms (unconfirmed_line steps k n names claimed ms) refl
     (here is_refuted_line refuted) (here is_undecided_line undecided) in
@@ -273,6 +280,6 @@ confirmed_at steps laws pairs before after p place faultless refuted undecided s
       others = found.1;
       models = ap (λ (i : ℕ). models_from i (window after)) (omega arith) ∙ found.2;
       true_models = all_weaker (λ (m : Printed). judgement_of steps names claimed m.parts ≡ judgements.Confirmed)
-          (λ (m : Printed). IsTrueModel before p m.parts) (found.0 ∷ found.1)
-          (λ m h. true_model steps laws pairs before after p m.parts place faultless sat h) all;
+          (λ (m : Printed). IsTrueModel profile before p m.parts) (found.0 ∷ found.1)
+          (λ m h. true_model profile steps laws pairs before after p m.parts place faultless sat h) all;
     }

@@ -1,12 +1,12 @@
 -- An exchange goes on as more of a text comes, or its end is told.
 use Rattle.std.proofs.Common.{true, ◌||◌, is_some, ◌≡◌, ℕ, Bool, false, List, Option, Some, None, refl, ap, sym, ◌∙◌, subst}
-use Rattle.smt_text.specs.Grammar.{limit}
+use Rattle.smt_script.specs.StackView.{profile_of, start_of}
+use Rattle.smt_text.specs.Grammar.{max_depth}
 use Rattle.smt_text.specs.Reader as readers
 use Rattle.smt_text.specs.Reader.{is_finished}
 use Rattle.smt_text.specs.Reading.{Reads}
 use Rattle.smt_text.specs.declared.reader.Reader.{Reader}
 use Rattle.smt_trees.specs.Sexp.{Sexps, Nil, append}
-use Rattle.smt_script.specs.StackView.{initial_print_success_of}
 use Rattle.smt_script.specs.declared.command.Command.{Command}
 use Rattle.smt_dialogue.proofs.SoFarLemmas.{paired_more}
 use Rattle.smt_dialogue.proofs.TreesLemmas.{append_assoc, append_nil}
@@ -23,6 +23,7 @@ use Rattle.smt_dialogue.specs.declared.pairing.Pairing.{Pairing}
 use Rattle.smt_dialogue.specs.declared.tree_queue.TreeQueue.{TreeQueue}
 use Rattle.smt_report.specs.declared.line.Side.{Side}
 use Rattle.smt_report.specs.declared.line.Side.TheVariants.{Answers, Script}
+use Rattle.smt_theory.specs.declared.profile.Profile.{Profile}
 
 -- a text that did not grow
 abbrev pub no_more : (text : TextSoFar) → IsGrown text text
@@ -44,17 +45,18 @@ front_more f g bytes more_bytes text grown rest s same stands read h = record {
   stands = subst (λ o. readers.StandsFor g.reader more_bytes (append h.taken (next_trees o))) (sym same)
       (stands (append h.taken (next_trees f.next)) h.stands);
   told = read.told_so;
-  reads = subst (λ b. Reads limit b more_bytes grown.trees grown.fault) (sym read.told_so) read.reads;
+  reads = subst (λ b. Reads max_depth b more_bytes grown.trees grown.fault) (sym read.told_so) read.reads;
   trees = s.trees ∙ ap (λ ts. append ts s.later) h.trees ∙ append_assoc h.taken rest s.later;
   behind = append h.behind s.later;
   begins = ap (λ ts. append ts s.later) h.begins ∙ append_assoc (next_trees f.next) h.behind s.later
       ∙ ap (λ o. append (next_trees o) (append h.behind s.later)) (sym same);
 }
 
-in_turn_more : (o : Option Command) (pairs : List Pair) (later left more : Sexps) → IsInTurn o pairs later left
-    → IsInTurn o pairs (append later more) (append left more)
-in_turn_more None pairs later left more h = ap (λ ts. append ts more) h
-in_turn_more (Some c) pairs later left more h = (h.0, ap (λ ts. append ts more) h.1, h.2, h.3)
+in_turn_more : (profile : Profile) (o : Option Command) (pairs : List Pair) (later left more : Sexps)
+    → IsInTurn profile o pairs later left
+    → IsInTurn profile o pairs (append later more) (append left more)
+in_turn_more profile None pairs later left more h = ap (λ ts. append ts more) h
+in_turn_more profile (Some c) pairs later left more h = (h.0, ap (λ ts. append ts more) h.1, h.2, h.3)
 
 over_told : (text : TextSoFar) → text.told ≡ true → is_over text ≡ true
 over_told text told = ap (λ b. b || is_some text.fault) told
@@ -76,8 +78,11 @@ both_more : (x y : Pairing) (texts grown : Texts) (pairs : List Pair) (later res
     → IsUnderWay y grown pairs (append later s.later) (append rest a.later)
 both_more x y texts grown pairs later rest taken dialogue command h s a script_front answers_front = record {
   left = append h.left s.later;
-  in_turn = subst (λ o. IsInTurn o pairs (append later s.later) (append h.left s.later)) (sym command)
-      (in_turn_more x.command pairs later h.left s.later h.in_turn);
+  in_turn = subst (λ d. IsInTurn (profile_of d.stack) y.command pairs (append later s.later)
+      (append h.left s.later)) (sym dialogue)
+      (subst (λ o. IsInTurn (profile_of x.dialogue.stack) o pairs (append later s.later) (append h.left s.later))
+      (sym command)
+      (in_turn_more (profile_of x.dialogue.stack) x.command pairs later h.left s.later h.in_turn));
   script_front = script_front;
   answers_front = answers_front;
   early = h.early;
@@ -85,9 +90,9 @@ both_more x y texts grown pairs later rest taken dialogue command h s a script_f
       (subst (λ d. Fits h.early (state_behind texts.taken d) pairs) (sym dialogue) h.stands);
   closing = λ e. subst (λ o. IsClosing o grown (append later s.later)) (sym command)
       (closing_more x.command texts grown later s (h.closing e));
-  paired = subst (λ d. ArePaired (initial_print_success_of d.stack) grown.script grown.answers pairs
+  paired = subst (λ d. ArePaired (start_of d.stack) grown.script grown.answers pairs
       (append later s.later) (append rest a.later)) (sym dialogue)
-      (paired_more (initial_print_success_of x.dialogue.stack) texts.script texts.answers grown.script grown.answers
+      (paired_more (start_of x.dialogue.stack) texts.script texts.answers grown.script grown.answers
       pairs later rest s a h.paired);
 }
 
@@ -126,7 +131,7 @@ read_open f bytes text rest open' h =
     let told : text.told ≡ false = h.told ∙ open' in
     record {
       told_so = told;
-      reads = subst (λ b. Reads limit b bytes text.trees text.fault) told h.reads;
+      reads = subst (λ b. Reads max_depth b bytes text.trees text.fault) told h.reads;
     }
 
 pub read_now : (reader : Reader) (told : Bool) (bytes : List ℕ) (text : TextSoFar) → is_finished reader ≡ told

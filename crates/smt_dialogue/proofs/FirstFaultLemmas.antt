@@ -19,6 +19,8 @@ use Rattle.smt_report.specs.declared.line.Line.TheVariants as lines
 use Rattle.smt_report.specs.declared.line.Side.TheVariants.{Script, Answers}
 use Rattle.smt_report.specs.declared.verdict.Verdict.TheVariants as verdicts
 use Rattle.smt_faults.specs.declared.command_flaw.CommandFlaw.{CommandFlaw}
+use Rattle.smt_script.specs.declared.stack.Start.{Start}
+use Rattle.smt_theory.specs.declared.profile.Profile.{Profile}
 
 -- ## Verdicts
 
@@ -101,27 +103,27 @@ turn_of_fault_line : {P : Type 0} (n : ℕ) (f : Option CommandFlaw) (fault : Op
 turn_of_fault_line n None fault e h = absurd (cc)
 turn_of_fault_line n (Some f) fault e h = no_line (lines.CommandFault n f) fault refl e h
 
-taken_line : {P : Type 0} (pairs : List Pair) (c : Command) (af : Option TextFlaw) (t : Taken)
-    (fault : Option Line) → turn_of_taken pairs c af t ≡ Ends fault
+taken_line : (profile : Profile) → {P : Type 0} (pairs : List Pair) (c : Command) (af : Option TextFlaw) (t : Taken)
+    (fault : Option Line) → turn_of_taken profile pairs c af t ≡ Ends fault
     → list_any is_fault_line (lines_of_end fault) ≡ false → P
-taken_line pairs c af (Takes answer) fault e h =
-    turn_of_fault_line (length pairs + 1) (flaw_of_pair pairs (pair_of c answer)) fault e h
-taken_line pairs c af answering.Waits fault e h = absurd (cc)
-taken_line pairs c None Missing fault e h = no_line (lines.MissingAnswer (length pairs + 1)) fault refl e h
-taken_line pairs c (Some f) Missing fault e h = no_line (lines.TextFault Answers f) fault refl e h
-taken_line pairs c af Unexpected fault e h =
+taken_line profile pairs c af (Takes answer) fault e h =
+    turn_of_fault_line (length pairs + 1) (flaw_of_pair profile pairs (pair_of c answer)) fault e h
+taken_line profile pairs c af answering.Waits fault e h = absurd (cc)
+taken_line profile pairs c None Missing fault e h = no_line (lines.MissingAnswer (length pairs + 1)) fault refl e h
+taken_line profile pairs c (Some f) Missing fault e h = no_line (lines.TextFault Answers f) fault refl e h
+taken_line profile pairs c af Unexpected fault e h =
     no_line (lines.UnexpectedAnswer (length pairs + 1) (answers_taken pairs + 1)) fault refl e h
 
-command_line : {P : Type 0} (start : Bool) (pairs : List Pair) (r : Result Command CommandFlaw)
+command_line : {P : Type 0} (start : Start) (pairs : List Pair) (r : Result Command CommandFlaw)
     (answers : TextSoFar) (fault : Option Line) → turn_of_command start pairs r answers ≡ Ends fault
     → list_any is_fault_line (lines_of_end fault) ≡ false → P
 command_line start pairs (Err f) answers fault e h =
     no_line (lines.CommandFault (length pairs + 1) f) fault refl e h
 command_line start pairs (Ok c) answers fault e h =
-    taken_line pairs c answers.fault
+    taken_line start.profile pairs c answers.fault
     (taken (is_over answers) (need_after start pairs c) (next_of answers.trees)) fault e h
 
-exit_line : {P : Type 0} (start : Bool) (b : Bool) (pairs : List Pair) (r : Result Command CommandFlaw)
+exit_line : {P : Type 0} (start : Start) (b : Bool) (pairs : List Pair) (r : Result Command CommandFlaw)
     (answers : TextSoFar) (fault : Option Line)
     → cond b (Ends (Some (lines.CommandFault (length pairs + 1) AfterExit)))
     (turn_of_command start pairs r answers) ≡ Ends fault
@@ -130,12 +132,12 @@ exit_line start true pairs r answers fault e h =
     no_line (lines.CommandFault (length pairs + 1) AfterExit) fault refl e h
 exit_line start false pairs r answers fault e h = command_line start pairs r answers fault e h
 
-pub ends_clean : (start : Bool) (pairs : List Pair) (told answers_told : Bool) (later : Sexps)
+pub ends_clean : (start : Start) (pairs : List Pair) (told answers_told : Bool) (later : Sexps)
     (sf : Option TextFlaw) (rest : Sexps) (af : Option TextFlaw) (fault : Option Line)
     → turn_at start pairs (record { told = answers_told; trees = rest; fault = af }) told sf later
     ≡ Ends fault → list_any is_fault_line (lines_of_end fault) ≡ false → IsClean later sf rest af fault
 ends_clean start pairs told answers_told (Cons t ts) sf rest af fault e h =
-    exit_line start (has_exited_after pairs) pairs (command_of t)
+    exit_line start (has_exited_after pairs) pairs (command_of start.profile t)
     (record { told = answers_told; trees = rest; fault = af }) fault e h
 ends_clean start pairs told answers_told Nil (Some f) rest af fault e h =
     no_line (lines.TextFault Script f) fault refl e h

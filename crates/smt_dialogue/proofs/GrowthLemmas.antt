@@ -19,6 +19,8 @@ use Rattle.smt_dialogue.specs.declared.need.Need.{Need}
 use Rattle.smt_dialogue.specs.declared.need.Need.TheVariants.{Nothing, Optional, Needed}
 use Rattle.smt_report.specs.declared.line.Line.{Line}
 use Rattle.smt_report.specs.declared.line.Line.TheVariants as lines
+use Rattle.smt_script.specs.declared.stack.Start.{Start}
+use Rattle.smt_theory.specs.declared.profile.Profile.{Profile}
 
 -- ---- what a command takes
 
@@ -66,13 +68,13 @@ answers_more [] rest more = refl
 answers_more (x ∷ xs) rest more =
     with_more x.answer (answers_then xs rest) more ∙ ap (with_answer x.answer) (answers_more xs rest more)
 
-pub commands_more : (xs : List Pair) (trees later more : Sexps) → AreCommands xs trees later
-    → AreCommands xs (append trees more) (append later more)
-commands_more [] trees later more h = ap (λ ts. append ts more) h
-commands_more (x ∷ xs) Nil later more h = absurd h
-commands_more (x ∷ xs) (Cons t ts) later more h = (h.0, commands_more xs ts later more h.1)
+pub commands_more : (profile : Profile) (xs : List Pair) (trees later more : Sexps) → AreCommands profile xs trees later
+    → AreCommands profile xs (append trees more) (append later more)
+commands_more profile [] trees later more h = ap (λ ts. append ts more) h
+commands_more profile (x ∷ xs) Nil later more h = absurd h
+commands_more profile (x ∷ xs) (Cons t ts) later more h = (h.0, commands_more profile xs ts later more h.1)
 
-pub taken_more : (over over' start : Bool) (before xs : List Pair) (rest more : Sexps) → IsEnd over over' more
+pub taken_more : (over over' : Bool) (start : Start) (before xs : List Pair) (rest more : Sexps) → IsEnd over over' more
     → AllTake over start before xs rest → AllTake over' start before xs (append rest more)
 taken_more over over' start before [] rest more end h = tt
 taken_more over over' start before (x ∷ xs) rest more end h = (
@@ -127,26 +129,26 @@ missing_over over (Needed form) (Some a) h = by (has_form form a) h
     by true e = absurd (cc)
     by false e = absurd (cc)
 
-command_stays : (start : Bool) (pairs : List Pair) (c : Command) (at' at'' : Bool) (rest more : Sexps)
+command_stays : (start : Start) (pairs : List Pair) (c : Command) (at' at'' : Bool) (rest more : Sexps)
     (af af' : Option TextFlaw) (f : Option Line) (k : Taken) → Growth at' af at'' af' more
     → taken (at' || is_some af) (need_after start pairs c) (next_of rest) ≡ k
-    → turn_of_taken pairs c af k ≡ Ends f
-    → turn_of_taken pairs c af' (taken (at'' || is_some af') (need_after start pairs c)
+    → turn_of_taken start.profile pairs c af k ≡ Ends f
+    → turn_of_taken start.profile pairs c af' (taken (at'' || is_some af') (need_after start pairs c)
     (next_of (append rest more))) ≡ Ends f
 command_stays start pairs c at' at'' rest more af af' f (Takes o) g is h =
-    ap (turn_of_taken pairs c af') (taken_stays (at' || is_some af) (at'' || is_some af')
+    ap (turn_of_taken start.profile pairs c af') (taken_stays (at' || is_some af) (at'' || is_some af')
     (need_after start pairs c) rest more (Takes o) (end_of at' at'' af af' more g) tt is) ∙ h
 command_stays start pairs c at' at'' rest more af af' f answering.Waits g is h = absurd (cc)
 command_stays start pairs c at' at'' rest more af af' f Missing g is h =
     let over = missing_over (at' || is_some af) (need_after start pairs c) (next_of rest) is in
-    ap (turn_of_taken pairs c af') (taken_stays (at' || is_some af) (at'' || is_some af')
+    ap (turn_of_taken start.profile pairs c af') (taken_stays (at' || is_some af) (at'' || is_some af')
     (need_after start pairs c) rest more Missing (end_of at' at'' af af' more g) tt is)
     ∙ ap (λ o. Ends (Some (want_of_answer (length pairs + 1) o))) (g.over over).1 ∙ h
 command_stays start pairs c at' at'' rest more af af' f Unexpected g is h =
-    ap (turn_of_taken pairs c af') (taken_stays (at' || is_some af) (at'' || is_some af')
+    ap (turn_of_taken start.profile pairs c af') (taken_stays (at' || is_some af) (at'' || is_some af')
     (need_after start pairs c) rest more Unexpected (end_of at' at'' af af' more g) tt is) ∙ h
 
-tree_stays : (start b : Bool) (pairs : List Pair) (r : Result Command CommandFlaw) (at' at'' : Bool)
+tree_stays : (start : Start) (b : Bool) (pairs : List Pair) (r : Result Command CommandFlaw) (at' at'' : Bool)
     (rest more : Sexps) (af af' : Option TextFlaw) (f : Option Line) → Growth at' af at'' af' more
     → cond b (Ends (Some (lines.CommandFault (length pairs + 1) AfterExit)))
     (turn_of_command start pairs r (text at' rest af)) ≡ Ends f
@@ -171,13 +173,13 @@ rest_stays pairs true at'' Nil more None af' f g h =
     ∙ ap (λ b. turn_of_end b None) (g.told_stays refl) ∙ h
 rest_stays pairs false at'' Nil more None af' f g h = absurd (cc)
 
-pub turn_stays : (start : Bool) (pairs : List Pair) (st st' : Bool) (later more : Sexps)
+pub turn_stays : (start : Start) (pairs : List Pair) (st st' : Bool) (later more : Sexps)
     (sf sf' : Option TextFlaw) (at' at'' : Bool) (rest further : Sexps) (af af' : Option TextFlaw)
     (f : Option Line) → Growth st sf st' sf' more → Growth at' af at'' af' further
     → turn_after start pairs (text st later sf) (text at' rest af) ≡ Ends f
     → turn_after start pairs (text st' (append later more) sf') (text at'' (append rest further) af') ≡ Ends f
 turn_stays start pairs st st' (Cons t ts) more sf sf' at' at'' rest further af af' f s g h =
-    tree_stays start (has_exited_after pairs) pairs (command_of t) at' at'' rest further af af' f g h
+    tree_stays start (has_exited_after pairs) pairs (command_of start.profile t) at' at'' rest further af af' f g h
 turn_stays start pairs st st' Nil more (Some fault) sf' at' at'' rest further af af' f s g h =
     let e = s.over (fault_over st fault) in
     let answers = text at'' (append rest further) af' in

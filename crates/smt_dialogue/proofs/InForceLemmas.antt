@@ -6,6 +6,8 @@ use Rattle.std.specs.List.{flat_map, list_all}
 use Rattle.std.proofs.lemmas.List.{append-nil}
 use Rattle.std.proofs.lemmas.Grind.{flat_map-append}
 use Rattle.std.proofs.lemmas.List.Sums.{fold-append}
+use Rattle.smt_theory.specs.Theories.{all_theories}
+use Rattle.smt_theory.specs.declared.profile.Profile.{Profile}
 use Rattle.smt_theory.specs.declared.sort.Sort.{Sort}
 use Rattle.smt_theory.specs.declared.theories.Theories.{Theories}
 use Rattle.smt_terms.specs.Signature.{Entry, Signature}
@@ -16,7 +18,7 @@ use Rattle.smt_script.specs.Command.{SetLogic, SetPrintSuccess, SetGlobalDeclara
 use Rattle.smt_script.specs.Command.{DeclareConst, DeclareFun, DefineFun, DefineSort, Assert, Push, Pop, Reset}
 use Rattle.smt_script.specs.Command.{ResetAssertions, Exit, CheckSat, CheckSatAssuming, GetModel, Echo, Get}
 use Rattle.smt_script.specs.Stack.{assumptions_after, assumptions_in_force, literals_of}
-use Rattle.smt_script.specs.Stack.{Brought, Numbered, abbreviations_by, abbreviations_of, all_theories}
+use Rattle.smt_script.specs.Stack.{Brought, Numbered, abbreviations_by, abbreviations_of}
 use Rattle.smt_script.specs.Stack.{abbreviations_of_effect, assertions_by, assertions_in_force, assertions_of}
 use Rattle.smt_script.specs.Stack.{assertions_of_effect, brought_by, brought_from}
 use Rattle.smt_script.specs.Stack.{depth_after, depth_by, depth_in_force, entries_by, entries_of}
@@ -30,7 +32,7 @@ use Rattle.smt_script.specs.StackView.{names_level}
 pub record IsQuiet (c : Command) : Type 0 where
   pub level : (d : ℕ) → depth_after d c ≡ d
   pub resets : is_reset c ≡ false
-  pub theories : (t : Theories) → theories_after t c ≡ t
+  pub theories : (profile : Profile) (t : Theories) → theories_after profile t c ≡ t
   pub entries : (s : Signature) (n : ℕ) → entries_by s n c ≡ []
   pub abbreviations : (s : Signature) → abbreviations_by s c ≡ []
   pub assertions : (n : ℕ) → assertions_by n c ≡ []
@@ -65,7 +67,7 @@ quiet_by : (c : Command) → effect_of c ≡ Removing Nothing → IsQuiet c
 quiet_by c is = record {
   level = λ d. ap (depth_by d) is;
   resets = ap (λ (e : Effect). resets (removed_of_effect e)) is;
-  theories = λ t. ap (theories_by t) is;
+  theories = λ profile t. ap (theories_by profile t) is;
   entries = λ s n. ap (entries_of_effect s n) is;
   abbreviations = λ s. ap (abbreviations_of_effect s) is;
   assertions = λ n. ap (assertions_of_effect n) is;
@@ -75,7 +77,7 @@ assumes_quiet : (c : Command) (literals : Sexps) → effect_of c ≡ Assumes lit
 assumes_quiet c literals is = record {
   level = λ d. ap (depth_by d) is;
   resets = ap (λ (e : Effect). resets (removed_of_effect e)) is;
-  theories = λ t. ap (theories_by t) is;
+  theories = λ profile t. ap (theories_by profile t) is;
   entries = λ s n. ap (entries_of_effect s n) is;
   abbreviations = λ s. ap (abbreviations_of_effect s) is;
   assertions = λ n. ap (assertions_of_effect n) is;
@@ -85,7 +87,7 @@ sets_global_quiet : (c : Command) (on : Bool) → effect_of c ≡ SetsGlobal on 
 sets_global_quiet c on is = record {
   level = λ d. ap (depth_by d) is;
   resets = ap (λ (e : Effect). resets (removed_of_effect e)) is;
-  theories = λ t. ap (theories_by t) is;
+  theories = λ profile t. ap (theories_by profile t) is;
   entries = λ s n. ap (entries_of_effect s n) is;
   abbreviations = λ s. ap (abbreviations_of_effect s) is;
   assertions = λ n. ap (assertions_of_effect n) is;
@@ -197,15 +199,16 @@ depth-push : (cs : List Numbered) (c : Numbered)
     → depth_in_force (cs ++ c ∷ []) ≡ depth_after (depth_in_force cs) c.command
 depth-push cs c = fold-append (λ (d : ℕ) (x : Numbered). depth_after d x.command) 0 cs (c ∷ [])
 
-brought-append : (before : List Numbered) (brought : List Brought) (xs ys : List Numbered)
-    → brought_from before brought (xs ++ ys) ≡ brought_from (before ++ xs) (brought_from before brought xs) ys
-brought-append before brought [] ys =
-    ap (λ (b : List Numbered). brought_from b brought ys) (sym (append-nil before))
-brought-append before brought (x ∷ xs) ys =
-    let b = brought_by before brought x in
-    let all = brought_from (before ++ x ∷ []) (brought ++ b ∷ []) xs in
-    brought-append (before ++ x ∷ []) (brought ++ b ∷ []) xs ys
-    ∙ ap (λ (l : List Numbered). brought_from l all ys) (append_assoc before (x ∷ []) xs)
+brought-append : (profile : Profile) (before : List Numbered) (brought : List Brought) (xs ys : List Numbered)
+    → brought_from profile before brought (xs ++ ys)
+    ≡ brought_from profile (before ++ xs) (brought_from profile before brought xs) ys
+brought-append profile before brought [] ys =
+    ap (λ (b : List Numbered). brought_from profile b brought ys) (sym (append-nil before))
+brought-append profile before brought (x ∷ xs) ys =
+    let b = brought_by profile before brought x in
+    let all = brought_from profile (before ++ x ∷ []) (brought ++ b ∷ []) xs in
+    brought-append profile (before ++ x ∷ []) (brought ++ b ∷ []) xs ys
+    ∙ ap (λ (l : List Numbered). brought_from profile l all ys) (append_assoc before (x ∷ []) xs)
 
 absorbs : (t s : Bool) → (t ≡ true → s ≡ true) → t && s ≡ t
 absorbs true s f = f refl
@@ -214,7 +217,7 @@ absorbs false s f = refl
 abbrev standing : (Brought → Brought → Bool) → Brought → List Brought → Bool
 standing after b later = list_all (after b) later
 
-module _ (after : Brought → Brought → Bool) (level : Brought → ℕ) (rule : IsRule after level) where
+module _ (profile : Profile) (after : Brought → Brought → Bool) (level : Brought → ℕ) (rule : IsRule after level) where
   -- all that stands goes with a level that there still is
   abbrev IsWithin : ℕ → List Brought → Type 0
   IsWithin depth [] = Unit {0}
@@ -229,16 +232,16 @@ module _ (after : Brought → Brought → Bool) (level : Brought → ℕ) (rule 
 
   within_from : (before : List Numbered) (brought : List Brought) (cs : List Numbered)
       → IsWithin (depth_in_force before) brought
-      → IsWithin (depth_in_force (before ++ cs)) (brought_from before brought cs)
+      → IsWithin (depth_in_force (before ++ cs)) (brought_from profile before brought cs)
   within_from before brought [] h =
       subst (λ (b : List Numbered). IsWithin (depth_in_force b) brought) (sym (append-nil before)) h
   within_from before brought (c ∷ cs) h =
-      let b = brought_by before brought c in
+      let b = brought_by profile before brought c in
       let here : IsWithin (depth_in_force (before ++ c ∷ [])) (brought ++ b ∷ []) =
       subst (λ (d : ℕ). IsWithin d (brought ++ b ∷ [])) (sym (depth-push before c)) (within_last brought b)
       in
       subst (λ (l : List Numbered). IsWithin (depth_in_force l)
-      (brought_from (before ++ c ∷ []) (brought ++ b ∷ []) cs)) (append_assoc before (c ∷ []) cs)
+      (brought_from profile (before ++ c ∷ []) (brought ++ b ∷ []) cs)) (append_assoc before (c ∷ []) cs)
       (within_from (before ++ c ∷ []) (brought ++ b ∷ []) cs here)
 
   -- all that stands does so behind what resets nothing and leaves as many levels
@@ -255,15 +258,15 @@ module _ (after : Brought → Brought → Bool) (level : Brought → ℕ) (rule 
 
   -- one more command
   in_force-push : (cs : List Numbered) (c : Numbered) → IsQuiet c.command
-      → in_force (standing after) (history (cs ++ c ∷ []))
-      ≡ in_force (standing after) (history cs) ++ brought_by cs (history cs) c ∷ []
+      → in_force (standing after) (history profile (cs ++ c ∷ []))
+      ≡ in_force (standing after) (history profile cs) ++ brought_by profile cs (history profile cs) c ∷ []
   in_force-push cs c quiet =
-      let b = brought_by cs (history cs) c in
-      let within : IsWithin b.level (history cs) =
-      subst (λ (d : ℕ). IsWithin d (history cs)) (sym (quiet.level (depth_in_force cs)))
+      let b = brought_by profile cs (history profile cs) c in
+      let within : IsWithin b.level (history profile cs) =
+      subst (λ (d : ℕ). IsWithin d (history profile cs)) (sym (quiet.level (depth_in_force cs)))
       (within_from [] [] cs tt) in
-      ap (in_force (standing after)) (brought-append [] [] cs (c ∷ []))
-      ∙ stands-push (history cs) b quiet.resets within
+      ap (in_force (standing after)) (brought-append profile [] [] cs (c ∷ []))
+      ∙ stands-push (history profile cs) b quiet.resets within
 
 -- what brings nothing adds nothing
 brings_none : {A : Type 0} (f : Brought → List A) (xs : List Brought) (b : Brought) → f b ≡ []
@@ -272,36 +275,36 @@ brings_none {A} f xs b none =
     flat_map-append f xs (b ∷ []) ∙ ap (λ (l : List A). flat_map f xs ++ (l ++ [])) none
     ∙ append-nil (flat_map f xs)
 
-pub assertions-quiet : (cs : List Numbered) (c : Numbered) → IsQuiet c.command
-    → assertions_in_force (cs ++ c ∷ []) ≡ assertions_in_force cs
-assertions-quiet cs c quiet =
-    ap assertions_of (in_force-push assertion_stands_after level_of assertions_rule cs c quiet)
-    ∙ brings_none (λ (b : Brought). b.assertions) ((in_force assertions_stand) (history cs))
-    (brought_by cs (history cs) c) (quiet.assertions c.number)
+pub assertions-quiet : (profile : Profile) (cs : List Numbered) (c : Numbered) → IsQuiet c.command
+    → assertions_in_force profile (cs ++ c ∷ []) ≡ assertions_in_force profile cs
+assertions-quiet profile cs c quiet =
+    ap assertions_of (in_force-push profile assertion_stands_after level_of assertions_rule cs c quiet)
+    ∙ brings_none (λ (b : Brought). b.assertions) ((in_force assertions_stand) (history profile cs))
+    (brought_by profile cs (history profile cs) c) (quiet.assertions c.number)
 
-pub signature-quiet : (cs : List Numbered) (c : Numbered) → IsQuiet c.command
-    → signature_in_force (cs ++ c ∷ []) ≡ signature_in_force cs
-signature-quiet cs c quiet =
-    let old = (in_force names_stand) (history cs) in
-    let b = brought_by cs (history cs) c in
-    let s = signature_of (theories_in_force cs) old in
-    let theories : theories_in_force (cs ++ c ∷ []) ≡ theories_in_force cs =
-    fold-append (λ (t : Theories) (x : Numbered). theories_after t x.command) all_theories cs (c ∷ [])
-    ∙ quiet.theories (theories_in_force cs) in
+pub signature-quiet : (profile : Profile) (cs : List Numbered) (c : Numbered) → IsQuiet c.command
+    → signature_in_force profile (cs ++ c ∷ []) ≡ signature_in_force profile cs
+signature-quiet profile cs c quiet =
+    let old = (in_force names_stand) (history profile cs) in
+    let b = brought_by profile cs (history profile cs) c in
+    let s = signature_of (theories_in_force profile cs) old in
+    let theories : theories_in_force profile (cs ++ c ∷ []) ≡ theories_in_force profile cs =
+    fold-append (λ (t : Theories) (x : Numbered). theories_after profile t x.command) (all_theories profile) cs (c ∷ [])
+    ∙ quiet.theories profile (theories_in_force profile cs) in
     let entries : entries_of (old ++ b ∷ []) ≡ entries_of old =
     brings_none (λ (x : Brought). x.entries) old b (quiet.entries s c.number) in
     let abbreviations : abbreviations_of (old ++ b ∷ []) ≡ abbreviations_of old =
     brings_none (λ (x : Brought). x.abbreviations) old b (quiet.abbreviations s) in
-    ap (λ (t : Theories). signature_of t ((in_force names_stand) (history (cs ++ c ∷ [])))) theories
-    ∙ ap (λ (l : List Brought). signature_of (theories_in_force cs) l)
-    (in_force-push name_stands_after names_level names_rule cs c quiet)
+    ap (λ (t : Theories). signature_of t ((in_force names_stand) (history profile (cs ++ c ∷ [])))) theories
+    ∙ ap (λ (l : List Brought). signature_of (theories_in_force profile cs) l)
+    (in_force-push profile name_stands_after names_level names_rule cs c quiet)
     ∙ ap (λ (es : List Entry).
     record {
-      theories = theories_in_force cs;
+      theories = theories_in_force profile cs;
       abbreviations = abbreviations_of (old ++ b ∷ []);
       entries =
           es;
     }) entries
     ∙ ap (λ (as' : List (List ℕ × Sort)).
-    record { theories = theories_in_force cs; abbreviations = as'; entries = entries_of old })
+    record { theories = theories_in_force profile cs; abbreviations = as'; entries = entries_of old })
     abbreviations

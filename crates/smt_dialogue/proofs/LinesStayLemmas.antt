@@ -26,6 +26,7 @@ use Rattle.smt_report.specs.Verdict.{tally_of, verdict_of}
 use Rattle.smt_report.specs.declared.line.CheckAnswer.{CheckAnswer}
 use Rattle.smt_report.specs.declared.line.Line.{Line}
 use Rattle.smt_report.specs.declared.line.Line.TheVariants as lines
+use Rattle.smt_theory.specs.declared.profile.Profile.{Profile}
 
 -- ---- windows
 
@@ -73,17 +74,18 @@ window_whole : (xs : List Pair) → list_any closes xs ≡ false → window xs �
 window_whole xs h = ap window (sym (append-nil xs)) ∙ (window_open xs [] h).0 ∙ append-nil xs
 
 -- pairs of which none closes a window have no line of their own
-no_lines : (steps : ℕ) (c : Bool) (before xs after : List Pair) → list_any closes xs ≡ false
-    → lines_in steps c before xs after ≡ []
-no_lines steps c before [] after h = refl
-no_lines steps c before (x ∷ xs) after h =
+no_lines : (profile : Profile) (steps : ℕ) (c : Bool) (before xs after : List Pair) → list_any closes xs ≡ false
+    → lines_in profile steps c before xs after ≡ []
+no_lines profile steps c before [] after h = refl
+no_lines profile steps c before (x ∷ xs) after h =
     let open' : closes x ≡ false = left_false (closes x) (list_any closes xs) h in
     let none : is_check x.command ≡ false =
     left_false (is_check x.command) (closes_window x.command && is_effective x) open' in
-    ap (λ b. cond b (lines_of_answer steps c before (claims_of_check before x.command) (checks_in before + 1) x.answer
+    ap (λ b. cond b (lines_of_answer profile steps c before (claims_of_check profile before x.command)
+    (checks_in before + 1) x.answer
     (xs ++ after)) []
-    ++ lines_in steps c (before ++ x ∷ []) xs after) none
-    ∙ no_lines steps c (before ++ x ∷ []) xs after (right_false (closes x) (list_any closes xs) h)
+    ++ lines_in profile steps c (before ++ x ∷ []) xs after) none
+    ∙ no_lines profile steps c (before ++ x ∷ []) xs after (right_false (closes x) (list_any closes xs) h)
 
 -- ---- models
 
@@ -173,11 +175,11 @@ sat_closing steps c k n names claims m after xs g h =
 
 -- ---- the lines of a pair
 
-pair_same : (steps : ℕ) (c d : Bool) (before : List Pair) (p : Pair) (after after' : List Pair)
+pair_same : (profile : Profile) (steps : ℕ) (c d : Bool) (before : List Pair) (p : Pair) (after after' : List Pair)
     → ((k n : ℕ) (names : Signature) (claims : List Claimed) (m : ℕ)
     → lines_of_sat steps c k n names claims m after ≡ lines_of_sat steps d k n names claims m after')
-    → lines_of_pair steps c before p after ≡ lines_of_pair steps d before p after'
-pair_same steps c d before p after after' h =
+    → lines_of_pair profile steps c before p after ≡ lines_of_pair profile steps d before p after'
+pair_same profile steps c d before p after after' h =
     ap (λ ls. cond (is_check p.command) ls []) (by p.answer)
   where
     n : ℕ
@@ -187,21 +189,21 @@ pair_same steps c d before p after after' h =
     k = checks_in before + 1
 
     claims : List Claimed
-    claims = claims_of_check before p.command
+    claims = claims_of_check profile before p.command
 
-    by : (o : Option Sexp) → lines_of_answer steps c before claims k o after
-        ≡ lines_of_answer steps d before claims k o after'
+    by : (o : Option Sexp) → lines_of_answer profile steps c before claims k o after
+        ≡ lines_of_answer profile steps d before claims k o after'
     by None = refl
     by (Some answer) =
         ap (λ ls. unchecked_line_or k n (unchecked_answer answer)
         (cond (is_symbol (codes "sat") answer) ls []))
-        (h k n (signature_after before) claims (n + 1))
+        (h k n (signature_after profile before) claims (n + 1))
 
-pair_open : (steps : ℕ) (c : Bool) (before : List Pair) (p : Pair) (after xs : List Pair)
+pair_open : (profile : Profile) (steps : ℕ) (c : Bool) (before : List Pair) (p : Pair) (after xs : List Pair)
     → list_any closes after ≡ false
-    → (lines_of_pair steps false before p after ≡ lines_of_pair steps c before p (after ++ xs))
-    ⊎ (lines_of_pair steps false before p after ≡ [])
-pair_open steps c before p after xs h = by_check (is_check p.command)
+    → (lines_of_pair profile steps false before p after ≡ lines_of_pair profile steps c before p (after ++ xs))
+    ⊎ (lines_of_pair profile steps false before p after ≡ [])
+pair_open profile steps c before p after xs h = by_check (is_check p.command)
   where
     n : ℕ
     n = length before + 1
@@ -210,10 +212,10 @@ pair_open steps c before p after xs h = by_check (is_check p.command)
     k = checks_in before + 1
 
     names : Signature
-    names = signature_after before
+    names = signature_after profile before
 
     claims : List Claimed
-    claims = claims_of_check before p.command
+    claims = claims_of_check profile before p.command
 
     by_sat : (b : Bool) (u : Option CheckAnswer)
         → (unchecked_line_or k n u (cond b (lines_of_sat steps false k n names claims (n + 1) after) [])
@@ -224,15 +226,16 @@ pair_open steps c before p after xs h = by_check (is_check p.command)
     by_sat true None = sat_open steps c k n names claims (n + 1) after xs h
 
     by_answer : (o : Option Sexp)
-        → (lines_of_answer steps false before claims k o after ≡ lines_of_answer steps c before claims k o (after ++ xs))
-        ⊎ (lines_of_answer steps false before claims k o after ≡ [])
+        → (lines_of_answer profile steps false before claims k o after
+        ≡ lines_of_answer profile steps c before claims k o (after ++ xs))
+        ⊎ (lines_of_answer profile steps false before claims k o after ≡ [])
     by_answer None = inl refl
     by_answer (Some answer) = by_sat (is_symbol (codes "sat") answer) (unchecked_answer answer)
 
     by_check : (b : Bool)
-        → (cond b (lines_of_answer steps false before claims k p.answer after) []
-        ≡ cond b (lines_of_answer steps c before claims k p.answer (after ++ xs)) [])
-        ⊎ (cond b (lines_of_answer steps false before claims k p.answer after) [] ≡ [])
+        → (cond b (lines_of_answer profile steps false before claims k p.answer after) []
+        ≡ cond b (lines_of_answer profile steps c before claims k p.answer (after ++ xs)) [])
+        ⊎ (cond b (lines_of_answer profile steps false before claims k p.answer after) [] ≡ [])
     by_check true = by_answer p.answer
     by_check false = inl refl
 
@@ -241,53 +244,56 @@ pair_open steps c before p after xs h = by_check (is_check p.command)
 beginning_of : (as' ls ms : List Line) → IsBeginning ls ms → IsBeginning (as' ++ ls) (as' ++ ms)
 beginning_of as' ls ms h = (h.0, ap (λ xs. as' ++ xs) h.1 ∙ sym (append_assoc as' ls h.0))
 
-stays_open : (steps : ℕ) (c : Bool) (before ps xs : List Pair)
-    → IsBeginning (lines_in steps false before ps []) (lines_in steps c before ps xs)
-stays_open steps c before [] xs = ([], refl)
-stays_open steps c before (p ∷ ps) xs = by (list_any closes ps) refl (stays_open steps c (before ++ p ∷ []) ps xs)
+stays_open : (profile : Profile) (steps : ℕ) (c : Bool) (before ps xs : List Pair)
+    → IsBeginning (lines_in profile steps false before ps []) (lines_in profile steps c before ps xs)
+stays_open profile steps c before [] xs = ([], refl)
+stays_open profile steps c before (p ∷ ps) xs =
+    by (list_any closes ps) refl (stays_open profile steps c (before ++ p ∷ []) ps xs)
   where
     all : List Line
-    all = lines_in steps c before (p ∷ ps) xs
+    all = lines_in profile steps c before (p ∷ ps) xs
 
     later : List Line
-    later = lines_in steps false (before ++ p ∷ []) ps []
+    later = lines_in profile steps false (before ++ p ∷ []) ps []
 
-    with_same : lines_of_pair steps false before p (ps ++ []) ≡ lines_of_pair steps c before p (ps ++ xs)
-        → IsBeginning later (lines_in steps c (before ++ p ∷ []) ps xs)
-        → IsBeginning (lines_in steps false before (p ∷ ps) []) all
+    with_same : lines_of_pair profile steps false before p (ps ++ [])
+        ≡ lines_of_pair profile steps c before p (ps ++ xs)
+        → IsBeginning later (lines_in profile steps c (before ++ p ∷ []) ps xs)
+        → IsBeginning (lines_in profile steps false before (p ∷ ps) []) all
     with_same e rest = subst (λ ls. IsBeginning (ls ++ later) all) (sym e)
-        (beginning_of (lines_of_pair steps c before p (ps ++ xs)) later
-        (lines_in steps c (before ++ p ∷ []) ps xs) rest)
+        (beginning_of (lines_of_pair profile steps c before p (ps ++ xs)) later
+        (lines_in profile steps c (before ++ p ∷ []) ps xs) rest)
 
-    nil : lines_of_pair steps false before p (ps ++ []) ≡ lines_of_pair steps false before p ps
-    nil = ap (lines_of_pair steps false before p) (append-nil ps)
+    nil : lines_of_pair profile steps false before p (ps ++ []) ≡ lines_of_pair profile steps false before p ps
+    nil = ap (lines_of_pair profile steps false before p) (append-nil ps)
 
     by_open : list_any closes ps ≡ false
-        → (lines_of_pair steps false before p ps ≡ lines_of_pair steps c before p (ps ++ xs))
-        ⊎ (lines_of_pair steps false before p ps ≡ [])
-        → IsBeginning later (lines_in steps c (before ++ p ∷ []) ps xs)
-        → IsBeginning (lines_in steps false before (p ∷ ps) []) all
+        → (lines_of_pair profile steps false before p ps ≡ lines_of_pair profile steps c before p (ps ++ xs))
+        ⊎ (lines_of_pair profile steps false before p ps ≡ [])
+        → IsBeginning later (lines_in profile steps c (before ++ p ∷ []) ps xs)
+        → IsBeginning (lines_in profile steps false before (p ∷ ps) []) all
     by_open is (inl e) rest = with_same (nil ∙ e) rest
     by_open is (inr e) rest =
-        let none : lines_in steps false before (p ∷ ps) [] ≡ [] =
-        ap (λ ls. ls ++ later) (nil ∙ e) ∙ no_lines steps false (before ++ p ∷ []) ps [] is in
+        let none : lines_in profile steps false before (p ∷ ps) [] ≡ [] =
+        ap (λ ls. ls ++ later) (nil ∙ e) ∙ no_lines profile steps false (before ++ p ∷ []) ps [] is in
         subst (λ ls. IsBeginning ls all) (sym none) (all, refl)
 
-    by : (b : Bool) → list_any closes ps ≡ b → IsBeginning later (lines_in steps c (before ++ p ∷ []) ps xs)
-        → IsBeginning (lines_in steps false before (p ∷ ps) []) all
-    by true is rest = with_same (nil ∙ pair_same steps false c before p ps (ps ++ xs)
+    by : (b : Bool) → list_any closes ps ≡ b → IsBeginning later (lines_in profile steps c (before ++ p ∷ []) ps xs)
+        → IsBeginning (lines_in profile steps false before (p ∷ ps) []) all
+    by true is rest = with_same (nil ∙ pair_same profile steps false c before p ps (ps ++ xs)
         (λ k n names claims m. sat_closed steps false c k n names claims m ps xs is)) rest
-    by false is rest = by_open is (pair_open steps c before p ps xs is) rest
+    by false is rest = by_open is (pair_open profile steps c before p ps xs is) rest
 
-stays_closed : (steps : ℕ) (c : Bool) (before ps xs : List Pair) → Closing c xs
-    → lines_in steps true before ps [] ≡ lines_in steps c before ps xs
-stays_closed steps c before [] xs g = refl
-stays_closed steps c before (p ∷ ps) xs g =
-    ap (λ ls. ls ++ lines_in steps true (before ++ p ∷ []) ps [])
-    (ap (lines_of_pair steps true before p) (append-nil ps)
-    ∙ pair_same steps true c before p ps (ps ++ xs)
+stays_closed : (profile : Profile) (steps : ℕ) (c : Bool) (before ps xs : List Pair) → Closing c xs
+    → lines_in profile steps true before ps [] ≡ lines_in profile steps c before ps xs
+stays_closed profile steps c before [] xs g = refl
+stays_closed profile steps c before (p ∷ ps) xs g =
+    ap (λ ls. ls ++ lines_in profile steps true (before ++ p ∷ []) ps [])
+    (ap (lines_of_pair profile steps true before p) (append-nil ps)
+    ∙ pair_same profile steps true c before p ps (ps ++ xs)
     (λ k n names claims m. by k n names claims m (list_any closes ps) refl))
-    ∙ ap (λ ls. lines_of_pair steps c before p (ps ++ xs) ++ ls) (stays_closed steps c (before ++ p ∷ []) ps xs g)
+    ∙ ap (λ ls. lines_of_pair profile steps c before p (ps ++ xs) ++ ls)
+    (stays_closed profile steps c (before ++ p ∷ []) ps xs g)
   where
     by : (k n : ℕ) (names : Signature) (claims : List Claimed) (m : ℕ) (b : Bool) → list_any closes ps ≡ b
         → lines_of_sat steps true k n names claims m ps ≡ lines_of_sat steps c k n names claims m (ps ++ xs)
@@ -296,11 +302,14 @@ stays_closed steps c before (p ∷ ps) xs g =
 
 -- ---- the lines where a dialogue is at rest
 
-stays : (steps : ℕ) (closed c : Bool) (pairs xs : List Pair) → (closed ≡ true → Closing c xs)
-    → IsBeginning (lines_in steps closed [] pairs []) (lines_in steps c [] pairs xs)
-stays steps false c pairs xs g = stays_open steps c [] pairs xs
-stays steps true c pairs xs g =
-    ([], sym (stays_closed steps c [] pairs xs (g refl)) ∙ sym (append-nil (lines_in steps true [] pairs [])))
+stays : (profile : Profile) (steps : ℕ) (closed c : Bool) (pairs xs : List Pair) → (closed ≡ true → Closing c xs)
+    → IsBeginning (lines_in profile steps closed [] pairs []) (lines_in profile steps c [] pairs xs)
+stays profile steps false c pairs xs g = stays_open profile steps c [] pairs xs
+stays profile steps true c pairs xs g = (
+  [],
+  sym (stays_closed profile steps c [] pairs xs (g refl))
+      ∙ sym (append-nil (lines_in profile steps true [] pairs [])),
+)
 
 closing_next : (c : Bool) (ws : List Pair) → ClosesNext ws (Waits c) → Closing c (ws ++ [])
 closing_next c [] next = record { none = refl; closed = ap (λ b. b || false) next }
@@ -314,29 +323,30 @@ ended_next [] fault next = refl
 ended_next (w ∷ ws) fault next = next
 
 -- the lines of more pairs
-more_lines : (steps : ℕ) (c : Bool) (pairs ws : List Pair) (ls : List Line)
-    → IsBeginning ls (lines_in steps c [] pairs (ws ++ [])) → IsBeginning ls (lines_in steps c [] (pairs ++ ws) [])
-more_lines steps c pairs ws ls h = (
-  h.0 ++ lines_in steps c pairs ws [],
-  lines_in-append steps c [] pairs ws [] ∙ ap (λ ms. ms ++ lines_in steps c pairs ws []) h.1
-      ∙ append_assoc ls h.0 (lines_in steps c pairs ws []),
+more_lines : (profile : Profile) (steps : ℕ) (c : Bool) (pairs ws : List Pair) (ls : List Line)
+    → IsBeginning ls (lines_in profile steps c [] pairs (ws ++ []))
+    → IsBeginning ls (lines_in profile steps c [] (pairs ++ ws) [])
+more_lines profile steps c pairs ws ls h = (
+  h.0 ++ lines_in profile steps c pairs ws [],
+  lines_in-append profile steps c [] pairs ws [] ∙ ap (λ ms. ms ++ lines_in profile steps c pairs ws []) h.1
+      ∙ append_assoc ls h.0 (lines_in profile steps c pairs ws []),
 )
 
 followed : (ls ms ns : List Line) → IsBeginning ls ms → IsBeginning ls (ms ++ ns)
 followed ls ms ns h = (h.0 ++ ns, ap (λ xs. xs ++ ns) h.1 ∙ append_assoc ls h.0 ns)
 
-pub begins_so : (steps : ℕ) (pairs ws : List Pair) (turn : Turn) (closed : Bool) → IsRest turn
+pub begins_so : (profile : Profile) (steps : ℕ) (pairs ws : List Pair) (turn : Turn) (closed : Bool) → IsRest turn
     → (closed ≡ true → ClosesNext ws turn)
-    → IsBeginning (lines_in steps closed [] pairs []) (lines_at steps (pairs ++ ws) turn)
-begins_so steps pairs ws GoesOn closed rests next = absurd rests
-begins_so steps pairs ws (Waits c) closed rests next =
-    more_lines steps c pairs ws (lines_in steps closed [] pairs [])
-    (stays steps closed c pairs (ws ++ []) (λ e. closing_next c ws (next e)))
-begins_so steps pairs ws (Ends fault) closed rests next =
-    let ls = lines_in steps closed [] pairs [] in
-    let ms = lines_in steps true [] (pairs ++ ws) [] in
+    → IsBeginning (lines_in profile steps closed [] pairs []) (lines_at profile steps (pairs ++ ws) turn)
+begins_so profile steps pairs ws GoesOn closed rests next = absurd rests
+begins_so profile steps pairs ws (Waits c) closed rests next =
+    more_lines profile steps c pairs ws (lines_in profile steps closed [] pairs [])
+    (stays profile steps closed c pairs (ws ++ []) (λ e. closing_next c ws (next e)))
+begins_so profile steps pairs ws (Ends fault) closed rests next =
+    let ls = lines_in profile steps closed [] pairs [] in
+    let ms = lines_in profile steps true [] (pairs ++ ws) [] in
     let shown = ms ++ lines_of_end fault in
     followed ls shown (lines.Verdict (verdict_of shown) (tally_of shown) ∷ [])
     (followed ls ms (lines_of_end fault)
-    (more_lines steps true pairs ws ls (stays steps closed true pairs (ws ++ [])
+    (more_lines profile steps true pairs ws ls (stays profile steps closed true pairs (ws ++ [])
     (λ e. closing_next true ws (ended_next ws fault (next e))))))

@@ -11,17 +11,18 @@ use Rattle.smt_script.specs.Stack.{literals_of, signature_in_force}
 use Rattle.smt_dialogue.proofs.InForceLemmas.{IsQuiet, assertions-quiet, signature-quiet, assumptions-check, assumptions-passed}
 use Rattle.smt_dialogue.specs.Answers.{Takes, taken}
 use Rattle.smt_dialogue.specs.InForce.{AreFaultless, assertions_after, assumptions_after, flaw_of_pair}
-use Rattle.smt_dialogue.specs.InForce.{has_exited_after}
 use Rattle.smt_dialogue.specs.Internal.Claims.{claims_after}
 use Rattle.smt_dialogue.specs.Judgement.{all_claims}
 use Rattle.smt_dialogue.specs.Lines.{claims_of_check}
-use Rattle.smt_dialogue.specs.InForce.{need_after, signature_after}
+use Rattle.smt_dialogue.specs.InForce.{has_exited_after, need_after, signature_after}
 use Rattle.smt_dialogue.specs.Lines.{lines_in, lines_of_pair}
 use Rattle.smt_dialogue.specs.Pairing.{AllTake}
 use Rattle.smt_dialogue.specs.Pairs.{Pair, answer_count, answers_taken, answers_then, checks_in}
 use Rattle.smt_dialogue.specs.Pairs.{effective_commands, effective_from, is_effective, next_of, numbered_if}
 use Rattle.smt_dialogue.specs.Pairs.{with_answer}
 use Rattle.smt_report.specs.declared.line.Line.{Line}
+use Rattle.smt_script.specs.declared.stack.Start.{Start}
+use Rattle.smt_theory.specs.declared.profile.Profile.{Profile}
 
 -- ## What answers are
 
@@ -70,44 +71,46 @@ none_if : {A : Type 0} (f : List Numbered → A) (b : Bool) (n : ℕ) (c : Comma
 none_if f b n c cs h = rw h (ap f (append-nil cs))
 
 -- a pair that changes nothing that is in force
-pub record IsIdle (pairs : List Pair) (p : Pair) : Type 0 where
-  pub signature : signature_after (pairs ++ p ∷ []) ≡ signature_after pairs
-  pub assertions : assertions_after (pairs ++ p ∷ []) ≡ assertions_after pairs
+pub record IsIdle (profile : Profile) (pairs : List Pair) (p : Pair) : Type 0 where
+  pub signature : signature_after profile (pairs ++ p ∷ []) ≡ signature_after profile pairs
+  pub assertions : assertions_after profile (pairs ++ p ∷ []) ≡ assertions_after profile pairs
 
-pub quiet_is_idle : (pairs : List Pair) (p : Pair) → IsQuiet p.command → IsIdle pairs p
-quiet_is_idle pairs p quiet =
+pub quiet_is_idle : (profile : Profile) (pairs : List Pair) (p : Pair) → IsQuiet p.command → IsIdle profile pairs p
+quiet_is_idle profile pairs p quiet =
     let cs = effective_commands pairs in
     let n = length pairs + 1 in
     let c : Numbered = record { number = n; command = p.command } in
     record {
-      signature = ap signature_in_force (effective_commands-push pairs p)
-          ∙ quiet_if signature_in_force (is_effective p) n p.command cs (signature-quiet cs c quiet);
-      assertions = ap assertions_in_force (effective_commands-push pairs p)
-          ∙ quiet_if assertions_in_force (is_effective p) n p.command cs (assertions-quiet cs c quiet);
+      signature = ap (signature_in_force profile) (effective_commands-push pairs p)
+          ∙ quiet_if (signature_in_force profile) (is_effective p) n p.command cs (signature-quiet profile cs c quiet);
+      assertions = ap (assertions_in_force profile) (effective_commands-push pairs p)
+          ∙ quiet_if (assertions_in_force profile) (is_effective p) n p.command cs
+          (assertions-quiet profile cs c quiet);
     }
 
-pub refused_is_idle : (pairs : List Pair) (p : Pair) → is_effective p ≡ false → IsIdle pairs p
-refused_is_idle pairs p h =
+pub refused_is_idle : (profile : Profile) (pairs : List Pair) (p : Pair) → is_effective p ≡ false
+    → IsIdle profile pairs p
+refused_is_idle profile pairs p h =
     let cs = effective_commands pairs in
     let n = length pairs + 1 in
     record {
-      signature = ap signature_in_force (effective_commands-push pairs p)
-          ∙ none_if signature_in_force (is_effective p) n p.command cs h;
-      assertions = ap assertions_in_force (effective_commands-push pairs p)
-          ∙ none_if assertions_in_force (is_effective p) n p.command cs h;
+      signature = ap (signature_in_force profile) (effective_commands-push pairs p)
+          ∙ none_if (signature_in_force profile) (is_effective p) n p.command cs h;
+      assertions = ap (assertions_in_force profile) (effective_commands-push pairs p)
+          ∙ none_if (assertions_in_force profile) (is_effective p) n p.command cs h;
     }
 
 -- a pair behind which a check claims the same as before it
-pub record IsPassed (pairs : List Pair) (p : Pair) : Type 0 where
-  pub signature : signature_after (pairs ++ p ∷ []) ≡ signature_after pairs
-  pub claims : claims_after (pairs ++ p ∷ []) ≡ claims_after pairs
+pub record IsPassed (profile : Profile) (pairs : List Pair) (p : Pair) : Type 0 where
+  pub signature : signature_after profile (pairs ++ p ∷ []) ≡ signature_after profile pairs
+  pub claims : claims_after profile (pairs ++ p ∷ []) ≡ claims_after profile pairs
 
-passed_by : (pairs : List Pair) (p : Pair) → IsIdle pairs p
-    → assumptions_after (pairs ++ p ∷ []) ≡ assumptions_after pairs → IsPassed pairs p
-passed_by pairs p idle same = record {
+passed_by : (profile : Profile) (pairs : List Pair) (p : Pair) → IsIdle profile pairs p
+    → assumptions_after (pairs ++ p ∷ []) ≡ assumptions_after pairs → IsPassed profile pairs p
+passed_by profile pairs p idle same = record {
   signature = idle.signature;
   claims = ap (λ (as' : List Assertion). all_claims as' (assumptions_after (pairs ++ p ∷ []))) idle.assertions
-      ∙ ap (all_claims (assertions_after pairs)) same;
+      ∙ ap (all_claims (assertions_after profile pairs)) same;
 }
 
 -- the assumptions behind a pair that is no check and changes nothing that is in force, behind one that took no
@@ -136,21 +139,25 @@ check_assumptions pairs p check effective =
     ∙ ap (λ (b : Bool). assumptions_in_force (cs ++ numbered_if b n p.command)) effective
     ∙ assumptions-check cs (record { number = n; command = p.command }) check
 
-pub quiet_is_passed : (pairs : List Pair) (p : Pair) → IsQuiet p.command → is_check p.command ≡ false
-    → closes_window p.command ≡ false → IsPassed pairs p
-quiet_is_passed pairs p quiet check closes =
-    passed_by pairs p (quiet_is_idle pairs p quiet) (kept_assumptions pairs p check closes)
+pub quiet_is_passed : (profile : Profile) (pairs : List Pair) (p : Pair) → IsQuiet p.command
+    → is_check p.command ≡ false
+    → closes_window p.command ≡ false → IsPassed profile pairs p
+quiet_is_passed profile pairs p quiet check closes =
+    passed_by profile pairs p (quiet_is_idle profile pairs p quiet) (kept_assumptions pairs p check closes)
 
-pub refused_is_passed : (pairs : List Pair) (p : Pair) → is_effective p ≡ false → IsPassed pairs p
-refused_is_passed pairs p h = passed_by pairs p (refused_is_idle pairs p h) (refused_assumptions pairs p h)
+pub refused_is_passed : (profile : Profile) (pairs : List Pair) (p : Pair) → is_effective p ≡ false
+    → IsPassed profile pairs p
+refused_is_passed profile pairs p h =
+    passed_by profile pairs p (refused_is_idle profile pairs p h) (refused_assumptions pairs p h)
 
 -- behind a check that took effect stand its own claims
-pub claims_of_effective : (pairs : List Pair) (p : Pair) → IsQuiet p.command → is_check p.command ≡ true
-    → is_effective p ≡ true → claims_after (pairs ++ p ∷ []) ≡ claims_of_check pairs p.command
-claims_of_effective pairs p quiet check effective =
+pub claims_of_effective : (profile : Profile) (pairs : List Pair) (p : Pair) → IsQuiet p.command
+    → is_check p.command ≡ true
+    → is_effective p ≡ true → claims_after profile (pairs ++ p ∷ []) ≡ claims_of_check profile pairs p.command
+claims_of_effective profile pairs p quiet check effective =
     ap (λ (as' : List Assertion). all_claims as' (assumptions_after (pairs ++ p ∷ [])))
-    (quiet_is_idle pairs p quiet).assertions
-    ∙ ap (all_claims (assertions_after pairs)) (check_assumptions pairs p check effective)
+    (quiet_is_idle profile pairs p quiet).assertions
+    ∙ ap (all_claims (assertions_after profile pairs)) (check_assumptions pairs p check effective)
 
 pub checks_in-append : (xs ys : List Pair) → checks_in (xs ++ ys) ≡ checks_in xs + checks_in ys
 checks_in-append [] ys = omega arith
@@ -178,19 +185,19 @@ pub answers_taken-le : (xs : List Pair) → answers_taken xs ≤ length xs
 answers_taken-le [] = omega arith
 answers_taken-le (x ∷ xs) = omega (arith, answers_taken-le xs, answer_count-le x.answer)
 
-pub lines_in-append : (steps : ℕ) (closed : Bool) (before xs ys after : List Pair)
-    → lines_in steps closed before (xs ++ ys) after
-    ≡ lines_in steps closed before xs (ys ++ after) ++ lines_in steps closed (before ++ xs) ys after
-lines_in-append steps closed before [] ys after =
-    ap (λ (b : List Pair). lines_in steps closed b ys after) (sym (append-nil before))
-lines_in-append steps closed before (x ∷ xs) ys after =
-    let rest = lines_in steps closed (before ++ x ∷ []) xs (ys ++ after) in
-    let far = lines_in steps closed (before ++ x ∷ xs) ys after in
-    ap (λ (b : List Line). lines_of_pair steps closed before x ((xs ++ ys) ++ after) ++ b)
-    (lines_in-append steps closed (before ++ x ∷ []) xs ys after
-    ∙ ap (λ (b : List Pair). rest ++ lines_in steps closed b ys after) (append_assoc before (x ∷ []) xs))
-    ∙ ap (λ (a : List Pair). lines_of_pair steps closed before x a ++ (rest ++ far)) (append_assoc xs ys after)
-    ∙ sym (append_assoc (lines_of_pair steps closed before x (xs ++ (ys ++ after))) rest far)
+pub lines_in-append : (profile : Profile) (steps : ℕ) (closed : Bool) (before xs ys after : List Pair)
+    → lines_in profile steps closed before (xs ++ ys) after
+    ≡ lines_in profile steps closed before xs (ys ++ after) ++ lines_in profile steps closed (before ++ xs) ys after
+lines_in-append profile steps closed before [] ys after =
+    ap (λ (b : List Pair). lines_in profile steps closed b ys after) (sym (append-nil before))
+lines_in-append profile steps closed before (x ∷ xs) ys after =
+    let rest = lines_in profile steps closed (before ++ x ∷ []) xs (ys ++ after) in
+    let far = lines_in profile steps closed (before ++ x ∷ xs) ys after in
+    ap (λ (b : List Line). lines_of_pair profile steps closed before x ((xs ++ ys) ++ after) ++ b)
+    (lines_in-append profile steps closed (before ++ x ∷ []) xs ys after
+    ∙ ap (λ (b : List Pair). rest ++ lines_in profile steps closed b ys after) (append_assoc before (x ∷ []) xs))
+    ∙ ap (λ (a : List Pair). lines_of_pair profile steps closed before x a ++ (rest ++ far)) (append_assoc xs ys after)
+    ∙ sym (append_assoc (lines_of_pair profile steps closed before x (xs ++ (ys ++ after))) rest far)
 
 pub answers_then-append : (xs ys : List Pair) (rest : Sexps)
     → answers_then (xs ++ ys) rest ≡ answers_then xs (answers_then ys rest)
@@ -198,7 +205,7 @@ answers_then-append [] ys rest = refl
 answers_then-append (x ∷ xs) ys rest = ap (with_answer x.answer) (answers_then-append xs ys rest)
 
 -- the pairs and one more take what they have, where the one takes it of what they leave
-pub AllTake-append : (told start : Bool) (before xs : List Pair) (y : Pair) (rest left : Sexps)
+pub AllTake-append : (told : Bool) (start : Start) (before xs : List Pair) (y : Pair) (rest left : Sexps)
     → AllTake told start before xs rest → rest ≡ with_answer y.answer left
     → taken told (need_after start (before ++ xs) y.command) (next_of rest) ≡ Takes y.answer
     → AllTake told start before (xs ++ y ∷ []) left
@@ -215,14 +222,14 @@ AllTake-append told start before (x ∷ xs) y rest left all next one =
           (rw (append_assoc before (x ∷ []) xs) one),
     )
 
-pub AreFaultless-append : (before xs : List Pair) (y : Pair) → AreFaultless before xs
-    → has_exited_after (before ++ xs) ≡ false → flaw_of_pair (before ++ xs) y ≡ None
-    → AreFaultless before (xs ++ y ∷ [])
-AreFaultless-append before [] y all goes_on one =
+pub AreFaultless-append : (profile : Profile) (before xs : List Pair) (y : Pair) → AreFaultless profile before xs
+    → has_exited_after (before ++ xs) ≡ false → flaw_of_pair profile (before ++ xs) y ≡ None
+    → AreFaultless profile before (xs ++ y ∷ [])
+AreFaultless-append profile before [] y all goes_on one =
     (rw (append-nil before) at goes_on, rw (append-nil before) at one, tt)
-AreFaultless-append before (x ∷ xs) y all goes_on one = (
+AreFaultless-append profile before (x ∷ xs) y all goes_on one = (
   all.0,
   all.1,
-  AreFaultless-append (before ++ x ∷ []) xs y all.2
+  AreFaultless-append profile (before ++ x ∷ []) xs y all.2
       (rw (append_assoc before (x ∷ []) xs) goes_on) (rw (append_assoc before (x ∷ []) xs) one),
 )

@@ -1,6 +1,7 @@
 -- What the turns of an exchange come to, by what stands ready of both texts.
 use Rattle.std.proofs.Common.{◌≡◌, ℕ, ◌+◌, Bool, true, false, cond, ◌||◌, List, [], ◌∷◌, ◌++◌, length, Option}
 use Rattle.std.proofs.Common.{Some, None, is_some, IfOk, Result, Ok, Err, refl, ap, sym, ◌∙◌, subst}
+use Rattle.smt_script.specs.StackView.{profile_of, start_of}
 use Rattle.smt_faults.specs.declared.memory.Memory.{Memory}
 use Rattle.smt_trees.specs.Sexp.{Sexp, Sexps, Nil, Cons, append}
 use Rattle.smt_trees.specs.Tree.{sexp_of}
@@ -10,7 +11,6 @@ use Rattle.smt_faults.specs.declared.command_flaw.CommandFlaw.TheVariants.{After
 use Rattle.smt_script.specs.Command as commands
 use Rattle.smt_script.specs.Command.{command_of}
 use Rattle.smt_script.specs.CommandView.{command_view}
-use Rattle.smt_script.specs.StackView.{initial_print_success_of}
 use Rattle.smt_script.specs.declared.command.Command.{Command}
 use Rattle.smt_dialogue.proofs.PairLemmas.{AllTake-append, AreFaultless-append, answers_then-append}
 use Rattle.smt_dialogue.proofs.StepLemmas.{AreCommands-push, turn_by}
@@ -20,7 +20,7 @@ use Rattle.smt_dialogue.specs.Answers as answering
 use Rattle.smt_dialogue.specs.Answers.{Taken, Takes, taken}
 use Rattle.smt_dialogue.specs.FirstFault.{Ends, TextSoFar, Waits, is_over, turn_at, turn_of_command, turn_of_end}
 use Rattle.smt_dialogue.specs.FirstFault.{turn_of_rest, turn_of_taken}
-use Rattle.smt_dialogue.specs.InForce.{flaw_of_pair, has_exited_after, need_after}
+use Rattle.smt_dialogue.specs.InForce.{flaw_of_pair, has_exited_after, need_after, start_by}
 use Rattle.smt_dialogue.specs.Pairs.{Pair, answers_taken, answers_then, next_of, pair_of, with_answer}
 use Rattle.smt_dialogue.specs.Report.{ArePaired}
 use Rattle.smt_dialogue.specs.Internal.AcceptedState.{Fits, options_of, state_behind}
@@ -36,6 +36,8 @@ use Rattle.smt_dialogue.specs.declared.turn.Turn.TheVariants as turns
 use Rattle.smt_report.specs.declared.line.Line.{Line}
 use Rattle.smt_report.specs.declared.line.Line.TheVariants as lines
 use Rattle.smt_report.specs.declared.line.Side.TheVariants.{Answers, Script}
+use Rattle.smt_script.specs.declared.stack.Start.{Start}
+use Rattle.smt_theory.specs.declared.profile.Profile.{Profile}
 
 -- ---- texts that are over, or aren't
 
@@ -64,22 +66,23 @@ pub looked : (old new : Pairing) (texts : Texts) (pairs : List Pair) (later rest
     → IsUnderWay old texts pairs later rest → IsUnderWay new texts pairs later rest
 looked old new texts pairs later rest dialogue command script answers h = record {
   left = h.left;
-  in_turn = subst (λ c. IsInTurn c pairs later h.left) (sym command) h.in_turn;
+  in_turn = subst (λ d. IsInTurn (profile_of d.stack) new.command pairs later h.left) (sym dialogue)
+      (subst (λ c. IsInTurn (profile_of old.dialogue.stack) c pairs later h.left) (sym command) h.in_turn);
   script_front = script h.left h.script_front;
   answers_front = answers rest h.answers_front;
   early = h.early;
   stands = subst (λ d. Fits h.early (state_behind texts.taken d) pairs) (sym dialogue) h.stands;
   closing = λ e. subst (λ c. IsClosing c texts later) (sym command) (h.closing e);
-  paired = subst (λ d. ArePaired (initial_print_success_of d.stack) texts.script texts.answers pairs later rest)
+  paired = subst (λ d. ArePaired (start_of d.stack) texts.script texts.answers pairs later rest)
       (sym dialogue) h.paired;
 }
 
 turn_here : (x : Pairing) (texts : Texts) (pairs : List Pair) (later rest : Sexps) (told : Bool)
     (fault : Option TextFlaw) → later ≡ Nil → texts.script.told ≡ told → texts.script.fault ≡ fault
     → turn_of x texts pairs later rest
-    ≡ turn_at (initial_print_success_of x.dialogue.stack) pairs (record texts.answers { trees = rest }) told fault Nil
+    ≡ turn_at (start_of x.dialogue.stack) pairs (record texts.answers { trees = rest }) told fault Nil
 turn_here x texts pairs later rest told fault none is same =
-    let at = turn_at (initial_print_success_of x.dialogue.stack) pairs (record texts.answers { trees = rest }) in
+    let at = turn_at (start_of x.dialogue.stack) pairs (record texts.answers { trees = rest }) in
     ap (at texts.script.told texts.script.fault) none ∙ ap (λ b. at b texts.script.fault Nil) is
     ∙ ap (λ o. at told o Nil) same
 
@@ -154,18 +157,23 @@ pub command_read : (old new : Pairing) (texts : Texts) (pairs : List Pair) (late
     → new.answers ≡ old.answers → old.script.next ≡ Some t
     → ((bytes : List ℕ) (text : TextSoFar) (left : Sexps)
     → HasQueue old.script bytes text (Cons (sexp_of t) left) → HasQueue new.script bytes text left)
-    → command_of (sexp_of t) ≡ Ok (command_view c) → has_exited_after pairs ≡ false
+    → command_of (profile_of old.dialogue.stack) (sexp_of t) ≡ Ok (command_view c) → has_exited_after pairs ≡ false
     → IsUnderWay old texts pairs later rest
     → IsUnderWay new texts pairs later rest × (is_some new.command ≡ true)
 command_read old new texts pairs later rest t c none some dialogue answers ready taken' read goes_on h =
-    let left : later ≡ h.left = subst (λ o. IsInTurn o pairs later h.left) none h.in_turn in
+    let left : later ≡ h.left = subst
+    (λ o. IsInTurn (profile_of old.dialogue.stack) o pairs later h.left) none h.in_turn in
     let behind = h.script_front.behind in
     let first : h.left ≡ Cons (sexp_of t) behind =
     h.script_front.begins ∙ ap (λ o. append (next_trees o) behind) ready in (
       record {
         left = behind;
-        in_turn = subst (λ o. IsInTurn o pairs later behind) (sym some)
-            (sexp_of t, left ∙ first, read, goes_on);
+        in_turn = subst (λ o. IsInTurn (profile_of new.dialogue.stack) o pairs later behind) (sym some) (
+          sexp_of t,
+          left ∙ first,
+          subst (λ d. command_of (profile_of d.stack) (sexp_of t) ≡ Ok (command_view c)) (sym dialogue) read,
+          goes_on,
+        );
         script_front = taken' texts.script_bytes texts.script behind
             (subst (HasQueue old.script texts.script_bytes texts.script) first h.script_front);
         answers_front = subst (λ f. HasQueue f texts.answers_bytes texts.answers rest) (sym answers)
@@ -175,7 +183,7 @@ command_read old new texts pairs later rest t c none some dialogue answers ready
         closing = λ e. absurd (let empty : Cons (sexp_of t) behind ≡ Nil =
             sym (left ∙ first) ∙ (subst (λ o. IsClosing o texts later) none (h.closing e)).0 in cc);
         paired =
-            subst (λ d. ArePaired (initial_print_success_of d.stack) texts.script texts.answers pairs later rest)
+            subst (λ d. ArePaired (start_of d.stack) texts.script texts.answers pairs later rest)
             (sym dialogue) h.paired;
       },
       ap is_some some,
@@ -184,35 +192,36 @@ command_read old new texts pairs later rest t c none some dialogue answers ready
 -- ---- the command in turn
 
 -- one more pair
-paired_push : (start : Bool) (script answers : TextSoFar) (pairs : List Pair) (tree : Sexp) (c : commands.Command)
-    (o : Option Sexp) (left rest after : Sexps) → command_of tree ≡ Ok c → has_exited_after pairs ≡ false
+paired_push : (start : Start) (script answers : TextSoFar) (pairs : List Pair) (tree : Sexp) (c : commands.Command)
+    (o : Option Sexp) (left rest after : Sexps) → command_of start.profile tree ≡ Ok c → has_exited_after pairs ≡ false
     → rest ≡ with_answer o after
     → taken (is_over answers) (need_after start pairs c) (next_of rest) ≡ Takes o
-    → flaw_of_pair pairs (pair_of c o) ≡ None
+    → flaw_of_pair start.profile pairs (pair_of c o) ≡ None
     → ArePaired start script answers pairs (Cons tree left) rest
     → ArePaired start script answers (pairs ++ pair_of c o ∷ []) left after
 paired_push start script answers pairs tree c o left rest after read goes_on next takes faultless h =
     let p = pair_of c o in
     record {
       pairing = record {
-        commands = AreCommands-push pairs p script.trees tree left h.pairing.commands read;
+        commands = AreCommands-push start.profile pairs p script.trees tree left h.pairing.commands read;
         answered = h.pairing.answered ∙ ap (answers_then pairs) next ∙ sym (answers_then-append pairs (p ∷ []) after);
         taken_so = AllTake-append (is_over answers) start [] pairs p rest after h.pairing.taken_so next takes;
       };
-      faultless = AreFaultless-append [] pairs p h.faultless goes_on faultless;
+      faultless = AreFaultless-append start.profile [] pairs p h.faultless goes_on faultless;
     }
 
 -- the turn of the command in turn is what it takes
 command_turn : (x : Pairing) (texts : Texts) (pairs : List Pair) (later rest : Sexps) (c : Command) (left : Sexps)
-    → IsInTurn (Some c) pairs later left
-    → turn_of x texts pairs later rest ≡ turn_of_taken pairs (command_view c) texts.answers.fault
-    (taken_for (initial_print_success_of x.dialogue.stack) pairs (command_view c) texts.answers rest)
+    → IsInTurn (profile_of x.dialogue.stack) (Some c) pairs later left
+    → turn_of x texts pairs later rest
+    ≡ turn_of_taken (profile_of x.dialogue.stack) pairs (command_view c) texts.answers.fault
+    (taken_for (start_of x.dialogue.stack) pairs (command_view c) texts.answers rest)
 command_turn x texts pairs later rest c left h =
-    let start = initial_print_success_of x.dialogue.stack in
+    let start = start_of x.dialogue.stack in
     let answers = record texts.answers { trees = rest } in
     ap (turn_at start pairs answers texts.script.told texts.script.fault) h.1
     ∙ ap (λ b. cond b (Ends (Some (lines.CommandFault (length pairs + 1) AfterExit)))
-    (turn_of_command start pairs (command_of h.0) answers)) h.3
+    (turn_of_command start pairs (command_of (profile_of x.dialogue.stack) h.0) answers)) h.3
     ∙ turn_by start pairs h.0 answers (command_view c)
     (taken_for start pairs (command_view c) texts.answers rest) h.2 refl
 
@@ -222,56 +231,58 @@ pub taken_up : (turn : Turn) (old new : Pairing) (texts : Texts) (pairs : List P
     → (turn ≡ turns.GoesOn → new.command ≡ None) → ((closed : Bool) → turn ≡ turns.Waits closed → new.command ≡ Some c)
     → ((early : Bool) → Fits early (state_behind texts.taken old.dialogue) pairs
     → (early ≡ true → commands.is_check (command_view c) ≡ true)
-    → IsTakenUp turn early (initial_print_success_of old.dialogue.stack) pairs (command_view c) texts.answers rest
+    → IsTakenUp turn early (start_of old.dialogue.stack) pairs (command_view c) texts.answers rest
     texts.answers_bytes new.answers (state_behind texts.taken new.dialogue))
     → IsUnderWay old texts pairs later rest → IsTurned turn old new texts pairs later rest
 taken_up turns.GoesOn old new texts pairs later rest c some script start gone stays ups h =
     let up = ups h.early h.stands (λ e. subst (λ o. IsClosing o texts later) some (h.closing e)) in
-    let turn = subst (λ o. IsInTurn o pairs later h.left) some h.in_turn in
-    let before = subst (λ l. ArePaired (initial_print_success_of old.dialogue.stack) texts.script texts.answers pairs
+    let turn = subst (λ o. IsInTurn (profile_of old.dialogue.stack) o pairs later h.left) some h.in_turn in
+    let before = subst (λ l. ArePaired (start_of old.dialogue.stack) texts.script texts.answers pairs
     l rest) turn.1 h.paired in
-    let after = paired_push (initial_print_success_of old.dialogue.stack) texts.script texts.answers pairs turn.0
+    let after = paired_push (start_of old.dialogue.stack) texts.script texts.answers pairs turn.0
     (command_view c) up.answer h.left rest up.left turn.2 turn.3 up.next up.taken_so up.faultless before in (
       pair_of (command_view c) up.answer,
       h.left,
       up.left,
       record {
         left = h.left;
-        in_turn = subst (λ o. IsInTurn o (pairs ++ pair_of (command_view c) up.answer ∷ []) h.left h.left)
-            (sym (gone refl)) refl;
+        in_turn = subst (λ o. IsInTurn (profile_of new.dialogue.stack) o
+            (pairs ++ pair_of (command_view c) up.answer ∷ []) h.left h.left) (sym (gone refl)) refl;
         script_front = subst (λ f. HasQueue f texts.script_bytes texts.script h.left) (sym script) h.script_front;
         answers_front = up.front_is;
         early = false;
         stands = up.stands;
         closing = λ e. absurd (cc);
-        paired = subst (λ (o : Options). ArePaired o.print_success texts.script texts.answers
+        paired = subst (λ (o : Options). ArePaired (start_by o) texts.script texts.answers
             (pairs ++ pair_of (command_view c) up.answer ∷ []) h.left up.left) (sym start) after;
       },
       start,
     )
 taken_up (turns.Waits closed) old new texts pairs later rest c some script start gone stays ups h =
     let up = ups h.early h.stands (λ e. subst (λ o. IsClosing o texts later) some (h.closing e)) in
-    let turn = subst (λ o. IsInTurn o pairs later h.left) some h.in_turn in (
+    let turn = subst (λ o. IsInTurn (profile_of old.dialogue.stack) o pairs later h.left) some h.in_turn in (
       record {
         left = h.left;
-        in_turn = subst (λ o. IsInTurn o pairs later h.left) (some ∙ sym (stays closed refl)) h.in_turn;
+        in_turn = subst (λ (o : Options). IsInTurn o.profile new.command pairs later h.left) (sym start)
+            (subst (λ o. IsInTurn (profile_of old.dialogue.stack) o pairs later h.left)
+            (some ∙ sym (stays closed refl)) h.in_turn);
         script_front = subst (λ f. HasQueue f texts.script_bytes texts.script h.left) (sym script) h.script_front;
         answers_front = up.1;
         early = h.early;
         stands = up.2;
         closing = λ e. subst (λ o. IsClosing o texts later) (some ∙ sym (stays closed refl)) (h.closing e);
-        paired = subst (λ (o : Options). ArePaired o.print_success texts.script texts.answers pairs later rest)
+        paired = subst (λ (o : Options). ArePaired (start_by o) texts.script texts.answers pairs later rest)
             (sym start) h.paired;
       },
       command_turn old texts pairs later rest c h.left turn ∙ up.0,
       λ e. subst (λ o. IsClosing o texts later) (sym (stays closed refl))
-          (waits_check pairs (command_view c) texts.answers.fault
-          (taken_for (initial_print_success_of old.dialogue.stack) pairs (command_view c) texts.answers rest)
+          (waits_check (profile_of old.dialogue.stack) pairs (command_view c) texts.answers.fault
+          (taken_for (start_of old.dialogue.stack) pairs (command_view c) texts.answers rest)
           (up.0 ∙ ap Waits e)),
     )
 taken_up (turns.Ends fault) old new texts pairs later rest c some script start gone stays ups h =
     let up = ups h.early h.stands (λ e. subst (λ o. IsClosing o texts later) some (h.closing e)) in
-    let turn = subst (λ o. IsInTurn o pairs later h.left) some h.in_turn in
+    let turn = subst (λ o. IsInTurn (profile_of old.dialogue.stack) o pairs later h.left) some h.in_turn in
     (h.early, up.1, command_turn old texts pairs later rest c h.left turn ∙ up.0)
 
 -- ---- one turn behind another
@@ -280,7 +291,7 @@ same_turn : (old middle : Pairing) (texts : Texts) (pairs : List Pair) (later re
     → middle.dialogue ≡ old.dialogue
     → turn_of middle texts pairs later rest ≡ turn_of old texts pairs later rest
 same_turn old middle texts pairs later rest same =
-    ap (λ d. turn_at (initial_print_success_of d.stack) pairs (record texts.answers { trees = rest })
+    ap (λ d. turn_at (start_of d.stack) pairs (record texts.answers { trees = rest })
     texts.script.told texts.script.fault later) same
 
 pub turned_behind : (turn : Turn) (old middle new : Pairing) (texts : Texts) (pairs : List Pair) (later rest : Sexps)
@@ -315,7 +326,8 @@ no_command (Some c) h = absurd (cc)
 
 pub script_left : (x : Pairing) (texts : Texts) (pairs : List Pair) (later rest : Sexps) → x.command ≡ None
     → (h : IsUnderWay x texts pairs later rest) → later ≡ h.left
-script_left x texts pairs later rest none h = subst (λ o. IsInTurn o pairs later h.left) none h.in_turn
+script_left x texts pairs later rest none h =
+    subst (λ o. IsInTurn (profile_of x.dialogue.stack) o pairs later h.left) none h.in_turn
 
 pub next_behind : (turn : Option Turn) (old middle new : Pairing) (texts : Texts) (pairs : List Pair)
     (later rest : Sexps) → middle.dialogue ≡ old.dialogue → IsNext turn middle new texts pairs later rest
@@ -339,23 +351,25 @@ rest_waits pairs true None Nil closed h = absurd (cc)
 rest_waits pairs false None Nil closed h = sym (waits_same h)
 
 -- a command that waits closes every window exactly where it is a check
-taken_waits_so : (pairs : List Pair) (c : commands.Command) (af : Option TextFlaw) (k : Taken) (closed : Bool)
-    → turn_of_taken pairs c af k ≡ Waits closed → commands.is_check c ≡ closed
-taken_waits_so pairs c af (Takes o) closed h = flaw_waits (length pairs + 1) (flaw_of_pair pairs (pair_of c o)) closed h
-taken_waits_so pairs c af answering.Waits closed h = waits_same h
-taken_waits_so pairs c af answering.Missing closed h = absurd (cc)
-taken_waits_so pairs c af answering.Unexpected closed h = absurd (cc)
+taken_waits_so : (profile : Profile) (pairs : List Pair) (c : commands.Command) (af : Option TextFlaw) (k : Taken)
+    (closed : Bool)
+    → turn_of_taken profile pairs c af k ≡ Waits closed → commands.is_check c ≡ closed
+taken_waits_so profile pairs c af (Takes o) closed h =
+    flaw_waits (length pairs + 1) (flaw_of_pair profile pairs (pair_of c o)) closed h
+taken_waits_so profile pairs c af answering.Waits closed h = waits_same h
+taken_waits_so profile pairs c af answering.Missing closed h = absurd (cc)
+taken_waits_so profile pairs c af answering.Unexpected closed h = absurd (cc)
 
 -- where windows were ended early, the dialogue waits with every window closed
 early_by : (x : Pairing) (texts : Texts) (pairs : List Pair) (later rest left : Sexps) (o : Option Command)
-    (closed : Bool) → IsInTurn o pairs later left → IsClosing o texts later
+    (closed : Bool) → IsInTurn (profile_of x.dialogue.stack) o pairs later left → IsClosing o texts later
     → turn_of x texts pairs later rest ≡ Waits closed → closed ≡ true
 early_by x texts pairs later rest left None closed turn h is =
     rest_waits pairs texts.answers.told texts.answers.fault rest closed
     (sym (rest_here x texts pairs later rest h.0 h.1 h.2) ∙ is)
 early_by x texts pairs later rest left (Some c) closed turn h is =
-    sym (taken_waits_so pairs (command_view c) texts.answers.fault
-    (taken_for (initial_print_success_of x.dialogue.stack) pairs (command_view c) texts.answers rest) closed
+    sym (taken_waits_so (profile_of x.dialogue.stack) pairs (command_view c) texts.answers.fault
+    (taken_for (start_of x.dialogue.stack) pairs (command_view c) texts.answers rest) closed
     (sym (command_turn x texts pairs later rest c left turn) ∙ is)) ∙ h
 
 pub early_closed : (x : Pairing) (texts : Texts) (pairs : List Pair) (later rest : Sexps) (closed : Bool)
@@ -372,7 +386,8 @@ pub begun : (x : Pairing) (texts : Texts) → x.command ≡ None → Fits false 
     → IsUnderWay x texts [] texts.script.trees texts.answers.trees
 begun x texts none stands script answers = record {
   left = texts.script.trees;
-  in_turn = subst (λ o. IsInTurn o [] texts.script.trees texts.script.trees) (sym none) refl;
+  in_turn = subst (λ o. IsInTurn (profile_of x.dialogue.stack) o [] texts.script.trees texts.script.trees)
+      (sym none) refl;
   script_front = script;
   answers_front = answers;
   early = false;
@@ -414,13 +429,14 @@ handed_out x y texts ls pairs later rest out none tally stack checks commands' a
     (sym answers') in
     record {
       left = h.left;
-      in_turn = subst (λ o. IsInTurn o pairs later h.left) (sym command) h.in_turn;
+      in_turn = subst (λ k. IsInTurn (profile_of k) y.command pairs later h.left) (sym stack)
+          (subst (λ o. IsInTurn (profile_of x.dialogue.stack) o pairs later h.left) (sym command) h.in_turn);
       script_front = subst (λ f. HasQueue f texts.script_bytes texts.script h.left) (sym script) h.script_front;
       answers_front = subst (λ f. HasQueue f texts.answers_bytes texts.answers rest) (sym answers) h.answers_front;
       early = h.early;
       stands = subst (λ s. Fits h.early s pairs) same h.stands;
       closing = λ e. closing_kept y.command texts (texts.taken ++ ls) later
           (subst (λ o. IsClosing o texts later) (sym command) (h.closing e));
-      paired = subst (λ k. ArePaired (initial_print_success_of k) texts.script texts.answers pairs later rest)
+      paired = subst (λ k. ArePaired (start_of k) texts.script texts.answers pairs later rest)
           (sym stack) h.paired;
     }

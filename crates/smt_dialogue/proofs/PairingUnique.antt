@@ -8,6 +8,8 @@ use Rattle.smt_dialogue.specs.Answers.{Takes, taken}
 use Rattle.smt_dialogue.specs.InForce.{need_after}
 use Rattle.smt_dialogue.specs.Pairing.{AllTake, AreCommands}
 use Rattle.smt_dialogue.specs.Pairs.{Pair, answers_then, next_of, with_answer}
+use Rattle.smt_script.specs.declared.stack.Start.{Start}
+use Rattle.smt_theory.specs.declared.profile.Profile.{Profile}
 
 pub pair_same : (x y : Pair) → x.command ≡ y.command → x.answer ≡ y.answer → x ≡ y
 pair_same x y e f =
@@ -31,7 +33,7 @@ pub record AreAlike (x y : Pair) (xs ys : List Pair) (rest rest' : Sexps) : Type
   pub same : x ≡ y
   pub left : answers_then xs rest ≡ answers_then ys rest'
 
-pub alike : (told start : Bool) (before : List Pair) (x y : Pair) (xs ys : List Pair)
+pub alike : (told : Bool) (start : Start) (before : List Pair) (x y : Pair) (xs ys : List Pair)
     (answers rest rest' : Sexps) → x.command ≡ y.command → answers ≡ answers_then (x ∷ xs) rest
     → answers ≡ answers_then (y ∷ ys) rest'
     → taken told (need_after start before x.command) (next_of (answers_then (x ∷ xs) rest)) ≡ Takes x.answer
@@ -50,9 +52,9 @@ alike told start before x y xs ys answers rest rest' command a b f g =
     }
 
 -- pairs of as many commands, with the same trees and answers, are the same, and leave the same
-pub one_pairing : (told start : Bool) (before xs ys : List Pair)
-    (trees later later' answers rest rest' : Sexps) → length xs ≡ length ys → AreCommands xs trees later
-    → AreCommands ys trees later' → answers ≡ answers_then xs rest → answers ≡ answers_then ys rest'
+pub one_pairing : (told : Bool) (start : Start) (before xs ys : List Pair)
+    (trees later later' answers rest rest' : Sexps) → length xs ≡ length ys → AreCommands start.profile xs trees later
+    → AreCommands start.profile ys trees later' → answers ≡ answers_then xs rest → answers ≡ answers_then ys rest'
     → AllTake told start before xs rest → AllTake told start before ys rest'
     → (xs ≡ ys) × (later ≡ later') × (rest ≡ rest')
 one_pairing told start before [] [] trees later later' answers rest rest' len c d a b f g =
@@ -71,7 +73,8 @@ one_pairing told start before (x ∷ xs) (y ∷ ys) (Cons t ts) later later' ans
     (ap (λ (z : Pair). z ∷ xs) head.same ∙ ap (λ (zs : List Pair). y ∷ zs) tail.0, tail.1, tail.2)
 
 -- pairs of all the commands are as many as the trees
-pub all_commands : (xs : List Pair) (trees : Sexps) → AreCommands xs trees Nil → length xs ≡ count trees
-all_commands [] trees h = rw h refl
-all_commands (x ∷ xs) Nil h = absurd h
-all_commands (x ∷ xs) (Cons t ts) h = ap suc (all_commands xs ts h.1)
+pub all_commands : (profile : Profile) (xs : List Pair) (trees : Sexps) → AreCommands profile xs trees Nil
+    → length xs ≡ count trees
+all_commands profile [] trees h = rw h refl
+all_commands profile (x ∷ xs) Nil h = absurd h
+all_commands profile (x ∷ xs) (Cons t ts) h = ap suc (all_commands profile xs ts h.1)

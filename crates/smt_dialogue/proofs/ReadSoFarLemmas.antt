@@ -2,7 +2,7 @@
 use Rattle.std.proofs.Common.{◌≡◌, ℕ, Bool, true, false, ◌||◌, List, ◌++◌, Option, None, Some, is_some, refl, ap}
 use Rattle.std.proofs.Common.{sym, ◌∙◌, subst}
 use Rattle.std.proofs.lemmas.List.{append-nil}
-use Rattle.smt_text.specs.Grammar.{limit}
+use Rattle.smt_text.specs.Grammar.{max_depth}
 use Rattle.smt_text.specs.Reading.{Reads}
 use Rattle.smt_trees.specs.Sexp.{Sexps, Nil, Cons, append}
 use Rattle.smt_faults.specs.declared.text_flaw.TextFlaw.{TextFlaw}
@@ -13,6 +13,7 @@ use Rattle.smt_dialogue.specs.Report.{IsRead, IsReport, IsTurn}
 use Rattle.smt_dialogue.specs.SoFar.{AreGrown, AreLinesSoFar, IsGrown, IsSoFar, lines_at}
 use Rattle.smt_dialogue.specs.declared.options.Options.{Options}
 use Rattle.smt_report.specs.declared.line.Line.{Line}
+use Rattle.smt_dialogue.specs.InForce.{start_by}
 
 -- ---- one answer
 
@@ -20,12 +21,12 @@ pub some_so_far : EveryTextReads → (options : Options) (script_told answers_to
     (script answers : List ℕ)
     → (ls : List Line) × IsSoFar options script_told script answers_told answers ls
 some_so_far every options script_told answers_told script answers =
-    let read = every limit script_told script in
-    let printed = every limit answers_told answers in
+    let read = every max_depth script_told script in
+    let printed = every max_depth answers_told answers in
     let first = text script_told read.0 read.1 in
     let second = text answers_told printed.0 printed.1 in
-    let way = some_rest options.print_success first second in (
-      lines_at options.limit.steps way.0 way.1,
+    let way = some_rest (start_by options) first second in (
+      lines_at options.profile options.limit.steps way.0 way.1,
       record {
         script_text = first;
         script_read = record { told_so = refl; reads = read.2 };
@@ -45,14 +46,15 @@ one_lines : (options : Options) (script answers : TextSoFar) (ls ms : List Line)
     → AreLinesSoFar options script answers ls → AreLinesSoFar options script answers ms → ls ≡ ms
 one_lines options script answers ls ms x y =
     let steps = options.limit.steps in
-    let way = one_turn options.print_success script answers x.pairs y.pairs x.turn y.turn x.rests y.rests x.turn_is y.turn_is in
-    x.lines_are ∙ ap (λ ps. lines_at steps ps x.turn) way.0 ∙ ap (lines_at steps y.pairs) way.1 ∙ sym y.lines_are
+    let way = one_turn (start_by options) script answers x.pairs y.pairs x.turn y.turn x.rests y.rests x.turn_is y.turn_is in
+    x.lines_are ∙ ap (λ ps. lines_at options.profile steps ps x.turn) way.0
+    ∙ ap (lines_at options.profile steps y.pairs) way.1 ∙ sym y.lines_are
 
 pub one_so_far : OneReading → (options : Options) (script_told answers_told : Bool) (script answers : List ℕ)
     (ls ms : List Line) → IsSoFar options script_told script answers_told answers ls
     → IsSoFar options script_told script answers_told answers ms → ls ≡ ms
 one_so_far one options script_told answers_told script answers ls ms x y =
-    let start = options.print_success in
+    let start = start_by options in
     let scripts = same_text one script_told script y.script_text x.script_text y.script_read x.script_read in
     let printed = same_text one answers_told answers y.answers_text x.answers_text y.answers_read x.answers_read
     in
@@ -65,7 +67,7 @@ one_so_far one options script_told answers_told script answers ls ms x y =
 pub so_far_is_report : (options : Options) (script answers : List ℕ) (ls : List Line)
     → IsSoFar options true script true answers ls → IsReport options script answers ls
 so_far_is_report options script answers ls x =
-    let start = options.print_success in
+    let start = start_by options in
     let l = x.lines_are in
     let end' = rests_ended start x.script_text x.answers_text l.pairs l.turn x.script_read.told_so
     x.answers_read.told_so l.rests l.turn_is in
@@ -78,7 +80,7 @@ so_far_is_report options script answers ls x =
         pairs = l.pairs;
         fault = end'.0;
         ends = subst (IsTurn start x.script_text x.answers_text l.pairs) end'.1 l.turn_is;
-        lines_are = l.lines_are ∙ ap (lines_at options.limit.steps l.pairs) end'.1;
+        lines_are = l.lines_are ∙ ap (lines_at options.profile options.limit.steps l.pairs) end'.1;
       };
     }
 
@@ -143,9 +145,9 @@ grown_open : TreesStay → FaultsStay → (bytes : List ℕ) (grown_told : Bool)
     (f : Option TextFlaw) → x.fault ≡ f → AreGrown false bytes grown_told grown
     → IsRead false bytes x → IsRead grown_told grown y → IsGrown x y
 grown_open trees_stay faults_stay bytes grown_told grown x y (Some fault) is g a b =
-    let here = subst (λ o. Reads limit false bytes x.trees o) is a.reads in
-    let there = subst (λ bs. Reads limit grown_told bs y.trees y.fault) g.bytes_are b.reads in
-    let same = faults_stay limit grown_told bytes g.more x.trees y.trees fault y.fault here there in
+    let here = subst (λ o. Reads max_depth false bytes x.trees o) is a.reads in
+    let there = subst (λ bs. Reads max_depth grown_told bs y.trees y.fault) g.bytes_are b.reads in
+    let same = faults_stay max_depth grown_told bytes g.more x.trees y.trees fault y.fault here there in
     record {
       later = Nil;
       trees = same.0 ∙ sym (sexps-nil x.trees);
@@ -153,8 +155,8 @@ grown_open trees_stay faults_stay bytes grown_told grown x y (Some fault) is g a
       told = λ told. absurd (not_told x.told a.told_so told);
     }
 grown_open trees_stay faults_stay bytes grown_told grown x y None is g a b =
-    let there = subst (λ bs. Reads limit grown_told bs y.trees y.fault) g.bytes_are b.reads in
-    let more = trees_stay limit grown_told bytes g.more x.trees y.trees x.fault y.fault a.reads there in
+    let there = subst (λ bs. Reads max_depth grown_told bs y.trees y.fault) g.bytes_are b.reads in
+    let more = trees_stay max_depth grown_told bytes g.more x.trees y.trees x.fault y.fault a.reads there in
     record {
       later = more.0;
       trees = more.1;

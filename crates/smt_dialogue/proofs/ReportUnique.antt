@@ -11,32 +11,33 @@ use Rattle.smt_dialogue.proofs.ReportExists.{text}
 use Rattle.smt_dialogue.proofs.StepLemmas.{turn_by}
 use Rattle.smt_dialogue.specs.Answers.{Takes, taken}
 use Rattle.smt_dialogue.specs.FirstFault.{Ends, GoesOn, IsRest, TextSoFar, Turn, is_over, turn_at}
-use Rattle.smt_dialogue.specs.InForce.{AreFaultless, flaw_of_pair, has_exited_after, need_after}
+use Rattle.smt_dialogue.specs.InForce.{AreFaultless, flaw_of_pair, has_exited_after, need_after, start_by}
 use Rattle.smt_dialogue.specs.Pairing.{AllTake, AreCommands}
 use Rattle.smt_dialogue.specs.Pairs.{Pair, answers_then, next_of}
 use Rattle.smt_dialogue.specs.Report.{IsRead, IsReport, IsTurn, lines_at_end}
 use Rattle.smt_dialogue.specs.declared.options.Options.{Options}
-use Rattle.smt_text.specs.Grammar.{limit}
+use Rattle.smt_text.specs.Grammar.{max_depth}
 use Rattle.smt_report.specs.declared.line.Line.{Line}
+use Rattle.smt_script.specs.declared.stack.Start.{Start}
 
 ends_same : {f g : Option Line} → Ends f ≡ Ends g → f ≡ g
 ends_same h = cc
 
 -- where a command takes what it has without a fault, the dialogue goes on
-goes_on_at : (start : Bool) (before : List Pair) (t : Sexp) (ts : Sexps) (p : Pair) (st : Bool)
-    (sf : Option TextFlaw) (answers : TextSoFar) → command_of t ≡ Ok p.command
+goes_on_at : (start : Start) (before : List Pair) (t : Sexp) (ts : Sexps) (p : Pair) (st : Bool)
+    (sf : Option TextFlaw) (answers : TextSoFar) → command_of start.profile t ≡ Ok p.command
     → taken (is_over answers) (need_after start before p.command) (next_of answers.trees) ≡ Takes p.answer
-    → has_exited_after before ≡ false → flaw_of_pair before p ≡ None
+    → has_exited_after before ≡ false → flaw_of_pair start.profile before p ≡ None
     → turn_at start before answers st sf (Cons t ts) ≡ GoesOn
 goes_on_at start before t ts p st sf answers read takes goes_on fault =
     rw goes_on (turn_by start before t answers p.command (Takes p.answer) read takes ∙ rw fault refl)
 
 -- so it is not at rest there
-no_rest : {P : Type 0} (start : Bool) (before : List Pair) (y : Pair) (ys : List Pair)
+no_rest : {P : Type 0} (start : Start) (before : List Pair) (y : Pair) (ys : List Pair)
     (trees later later' : Sexps) (st : Bool) (sf : Option TextFlaw) (at' : Bool) (answers rest rest' : Sexps)
-    (af : Option TextFlaw) (turn : Turn) → IsRest turn → trees ≡ later → AreCommands (y ∷ ys) trees later'
+    (af : Option TextFlaw) (turn : Turn) → IsRest turn → trees ≡ later → AreCommands start.profile (y ∷ ys) trees later'
     → answers ≡ rest → answers ≡ answers_then (y ∷ ys) rest'
-    → AllTake (at' || is_some af) start before (y ∷ ys) rest' → AreFaultless before (y ∷ ys)
+    → AllTake (at' || is_some af) start before (y ∷ ys) rest' → AreFaultless start.profile before (y ∷ ys)
     → turn_at start before (text at' rest af) st sf later ≡ turn → P
 no_rest start before y ys Nil later later' st sf at' answers rest rest' af turn rests c d a b g n e = absurd d
 no_rest start before y ys (Cons t ts) later later' st sf at' answers rest rest' af turn rests c d a b g n e =
@@ -50,12 +51,12 @@ no_rest start before y ys (Cons t ts) later later' st sf at' answers rest rest' 
     absurd (subst IsRest (sym e ∙ goes) rests)
 
 -- two ways through the same texts are one
-pub one_way : (start : Bool) (before xs ys : List Pair) (trees later later' : Sexps) (st : Bool)
+pub one_way : (start : Start) (before xs ys : List Pair) (trees later later' : Sexps) (st : Bool)
     (sf : Option TextFlaw) (at' : Bool) (answers rest rest' : Sexps) (af : Option TextFlaw) (f g : Turn)
-    → IsRest f → IsRest g → AreCommands xs trees later → AreCommands ys trees later'
+    → IsRest f → IsRest g → AreCommands start.profile xs trees later → AreCommands start.profile ys trees later'
     → answers ≡ answers_then xs rest → answers ≡ answers_then ys rest'
     → AllTake (at' || is_some af) start before xs rest → AllTake (at' || is_some af) start before ys rest'
-    → AreFaultless before xs → AreFaultless before ys
+    → AreFaultless start.profile before xs → AreFaultless start.profile before ys
     → turn_at start (before ++ xs) (text at' rest af) st sf later ≡ f
     → turn_at start (before ++ ys) (text at' rest' af) st sf later' ≡ g → (xs ≡ ys) × (f ≡ g)
 one_way start before [] [] trees later later' st sf at' answers rest rest' af f g u v c d a b m n p q e h =
@@ -83,8 +84,8 @@ one_way start before (x ∷ xs) (y ∷ ys) (Cons t ts)
     let head = alike over start before x y xs ys answers rest rest' (ok_same (sym c.0 ∙ d.0)) a b m.0 n.0 in
     let others : AllTake over start (before ++ x ∷ []) ys rest' =
     subst (λ (z : Pair). AllTake over start (before ++ z ∷ []) ys rest') (sym head.same) n.1 in
-    let faultless : AreFaultless (before ++ x ∷ []) ys =
-    subst (λ (z : Pair). AreFaultless (before ++ z ∷ []) ys) (sym head.same) q.2 in
+    let faultless : AreFaultless start.profile (before ++ x ∷ []) ys =
+    subst (λ (z : Pair). AreFaultless start.profile (before ++ z ∷ []) ys) (sym head.same) q.2 in
     let first : turn_at start ((before ++ x ∷ []) ++ xs) (text at' rest af) st sf later ≡ f =
     ap (λ (bs : List Pair). turn_at start bs (text at' rest af) st sf later)
     (append_assoc before (x ∷ []) xs) ∙ e in
@@ -104,7 +105,7 @@ OneReading = (bound : ℕ) (ended : Bool) (text : List ℕ) (xs ys : Sexps) (f g
 pub same_text : OneReading → (told : Bool) (bytes : List ℕ) (x y : TextSoFar) → IsRead told bytes x
     → IsRead told bytes y → x ≡ y
 same_text one told bytes x y f g =
-    let both = one limit told bytes x.trees y.trees x.fault y.fault f.reads g.reads in
+    let both = one max_depth told bytes x.trees y.trees x.fault y.fault f.reads g.reads in
     let first : x ≡ record { told = y.told; trees = x.trees; fault = x.fault } =
     ap (λ (b : Bool). record { told = b; trees = x.trees; fault = x.fault }) (f.told_so ∙ sym g.told_so)
     in
@@ -114,7 +115,7 @@ same_text one told bytes x y f g =
     first ∙ second ∙ ap (λ (o : Option TextFlaw). record { told = y.told; trees = y.trees; fault = o }) both.1
 
 -- the turns of two ways are one, and so are their pairs
-pub one_turn : (start : Bool) (script answers : TextSoFar) (xs ys : List Pair) (f g : Turn) → IsRest f
+pub one_turn : (start : Start) (script answers : TextSoFar) (xs ys : List Pair) (f g : Turn) → IsRest f
     → IsRest g → IsTurn start script answers xs f → IsTurn start script answers ys g → (xs ≡ ys) × (f ≡ g)
 one_turn start script answers xs ys f g u v x y =
     one_way start [] xs ys script.trees x.later y.later script.told script.fault answers.told answers.trees
@@ -129,7 +130,7 @@ pub one_report : OneReading → (options : Options) (script answers : List ℕ) 
 one_report one options script answers ls ms x y =
     let scripts = same_text one true script y.script_text x.script_text y.script_read x.script_read in
     let both = same_text one true answers y.answers_text x.answers_text y.answers_read x.answers_read in
-    let start = options.print_success in
+    let start = start_by options in
     let first : IsTurn start x.script_text y.answers_text y.lines_are.pairs (Ends y.lines_are.fault) =
     subst (λ (t : TextSoFar). IsTurn start t y.answers_text y.lines_are.pairs (Ends y.lines_are.fault))
     scripts y.lines_are.ends in
@@ -138,5 +139,7 @@ one_report one options script answers ls ms x y =
     both first in
     let way = one_turn start x.script_text x.answers_text x.lines_are.pairs y.lines_are.pairs
     (Ends x.lines_are.fault) (Ends y.lines_are.fault) tt tt x.lines_are.ends other in
-    x.lines_are.lines_are ∙ ap (λ (ps : List Pair). lines_at_end options.limit.steps ps x.lines_are.fault) way.0
-    ∙ ap (lines_at_end options.limit.steps y.lines_are.pairs) (ends_same way.1) ∙ sym y.lines_are.lines_are
+    x.lines_are.lines_are ∙ ap (λ (ps : List Pair).
+    lines_at_end options.profile options.limit.steps ps x.lines_are.fault) way.0
+    ∙ ap (lines_at_end options.profile options.limit.steps y.lines_are.pairs) (ends_same way.1)
+    ∙ sym y.lines_are.lines_are

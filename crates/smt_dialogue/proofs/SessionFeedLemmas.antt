@@ -6,7 +6,7 @@ use Rattle.std.proofs.lemmas.List.{append-nil}
 use Rattle.smt_dialogue.proofs.SessionGrowthLemmas.{AreTold, as_before, end_told, piece_more}
 use Rattle.smt_dialogue.proofs.SessionTurnLemmas.{none_by}
 use Rattle.std.specs.Prelude.{if◌then◌else◌, nat_eq}
-use Rattle.smt_text.specs.Grammar.{limit}
+use Rattle.smt_text.specs.Grammar.{max_depth}
 use Rattle.smt_text.specs.Reader.{bytes_fed, is_finished}
 use Rattle.smt_dialogue.specs.FirstFault.{TextSoFar}
 use Rattle.smt_dialogue.specs.History.{HasGrown, HasMore, History, IsLong, Told, of_side, other_side, text_at}
@@ -137,7 +137,7 @@ open_with : TextLaws → (side : Side) (x y : Pairing) (h : History) (told : Tol
     → GoesOnWith side x y texts told.ended told.bytes)
     → IsOpen x h → IsOpen y (with_text side told h)
 open_with laws side x y h told dialogue goes o =
-    let a = laws.every limit told.ended told.bytes in
+    let a = laws.every max_depth told.ended told.bytes in
     let text : TextSoFar = record { told = told.ended; trees = a.0; fault = a.1 } in
     let read : IsToldText told text = record { told_so = refl; reads = a.2 } in
     let both = by_side IsToldText side told text h.script h.answers o.script o.answers o.read.script_read

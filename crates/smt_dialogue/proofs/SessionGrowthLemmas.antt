@@ -2,7 +2,7 @@
 use Rattle.std.proofs.Common.{◌≡◌, ℕ, Bool, true, false, List, [], ◌∷◌, ◌++◌, length, Option, Some, None, refl, ap}
 use Rattle.std.proofs.Common.{sym, ◌∙◌, subst, arith, inl, inr, length-append}
 use Rattle.std.proofs.lemmas.List.{append-nil}
-use Rattle.smt_text.specs.Grammar.{limit}
+use Rattle.smt_text.specs.Grammar.{max_depth}
 use Rattle.smt_dialogue.proofs.AcceptedLemmas.{begins_trans}
 use Rattle.smt_dialogue.proofs.ReadSoFarLemmas.{grown_text, some_so_far}
 use Rattle.smt_dialogue.proofs.SoFarLemmas.{ends_stay, lines_stay}
@@ -25,6 +25,7 @@ use Rattle.smt_report.specs.Verdict.{IsVerdictOf, tally_of, verdict_of}
 use Rattle.smt_report.specs.declared.line.Line.{Line}
 use Rattle.smt_report.specs.declared.line.Line.TheVariants as lines
 use Rattle.smt_report.specs.declared.verdict.Verdict.{Verdict}
+use Rattle.smt_dialogue.specs.InForce.{start_by}
 
 -- ---- more was told
 
@@ -85,8 +86,8 @@ long_grown h g s (inr long) =
 read_again : TextLaws → (h g : History) (script answers : TextSoFar) → HasGrown h g → AreRead h script answers
     → (st : TextSoFar) × (at' : TextSoFar) × AreRead g st at' × IsGrown script st × IsGrown answers at'
 read_again laws h g script answers s r =
-    let a = laws.every limit g.script.ended g.script.bytes in
-    let b = laws.every limit g.answers.ended g.answers.bytes in
+    let a = laws.every max_depth g.script.ended g.script.bytes in
+    let b = laws.every max_depth g.answers.ended g.answers.bytes in
     let st : TextSoFar = record { told = g.script.ended; trees = a.0; fault = a.1 } in
     let at' : TextSoFar = record { told = g.answers.ended; trees = b.0; fault = b.1 } in
     let rs : IsRead g.script.ended g.script.bytes st = record { told_so = refl; reads = a.2 } in
@@ -109,11 +110,12 @@ ended_grown laws verdict h g ls s e =
       read = r.2;
       pairs = e.pairs;
       fault = e.fault;
-      ends = subst (λ (o : Options). IsTurn o.print_success r.0 r.1 e.pairs (Ends e.fault)) (sym s.options)
-          (ends_stay h.options.print_success e.script e.answers r.0 r.1 e.pairs e.fault r.3 r.4 e.ends);
-      lines_are = subst (λ (o : Options). ls ≡ lines_at_end o.limit.steps e.pairs e.fault) (sym s.options) e.lines_are;
+      ends = subst (λ (o : Options). IsTurn (start_by o) r.0 r.1 e.pairs (Ends e.fault)) (sym s.options)
+          (ends_stay (start_by h.options) e.script e.answers r.0 r.1 e.pairs e.fault r.3 r.4 e.ends);
+      lines_are = subst (λ (o : Options). ls ≡ lines_at_end o.profile o.limit.steps e.pairs e.fault)
+          (sym s.options) e.lines_are;
       verdict_is = subst (λ (o : Options). verdict
-          ≡ verdict_of (lines_in o.limit.steps true [] e.pairs [] ++ lines_of_end e.fault))
+          ≡ verdict_of (lines_in o.profile o.limit.steps true [] e.pairs [] ++ lines_of_end e.fault))
           (sym s.options) e.verdict_is;
     }
 
@@ -128,7 +130,7 @@ ended_lines verdict h ls e = record {
 
 pub ended_verdict : (verdict : Verdict) (h : History) (ls : List Line) → HasEnded verdict h ls → IsVerdictOf verdict ls
 ended_verdict verdict h ls e =
-    let all = lines_in h.options.limit.steps true [] e.pairs [] ++ lines_of_end e.fault in (
+    let all = lines_in h.options.profile h.options.limit.steps true [] e.pairs [] ++ lines_of_end e.fault in (
       all,
       tally_of all,
       e.lines_are ∙ ap (λ v. all ++ lines.Verdict v (tally_of all) ∷ []) (sym e.verdict_is),

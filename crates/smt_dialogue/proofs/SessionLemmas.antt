@@ -3,7 +3,7 @@ use Rattle.std.proofs.Common.{◌≡◌, ℕ, false, List, [], ◌∷◌, ◌++�
 use Rattle.std.proofs.Common.{lit<}
 use Rattle.std.proofs.lemmas.List.{append-nil}
 use Rattle.std.specs.List.{list_any}
-use Rattle.smt_text.specs.Grammar.{Forest, limit}
+use Rattle.smt_text.specs.Grammar.{Forest, max_depth}
 use Rattle.smt_text.specs.Reading.{Reads}
 use Rattle.smt_trees.specs.Sexp.{Sexps, Nil, Cons, append}
 use Rattle.smt_dialogue.proofs.ValidityLemmas.{OneForest}
@@ -39,21 +39,22 @@ no_more Nil = refl
 no_more (Cons x xs) = ap (Cons x) (no_more xs)
 
 -- of a text of which nothing has come nothing is read
-nothing_read : OneForest → Forest limit [] Nil → Reads limit false [] Nil None
+nothing_read : OneForest → Forest max_depth [] Nil → Reads max_depth false [] Nil None
 nothing_read one none = (
   ([], Nil, none),
   record {
     settled = record { beginning = []; rest = []; parts = refl; forest = none; settled = inl refl };
     most = λ others o. (
       Nil,
-      one limit limit [] Nil others none (subst (λ b. Forest limit b others) (empty_front o.beginning o.rest o.parts)
+      one max_depth max_depth [] Nil others none
+          (subst (λ b. Forest max_depth b others) (empty_front o.beginning o.rest o.parts)
           o.forest)
           ∙ sym (no_more others),
     );
   },
 )
 
-pub new_stands : OneForest → Forest limit [] Nil → (s : Session) (options : Options) → s.verdict ≡ None
+pub new_stands : OneForest → Forest max_depth [] Nil → (s : Session) (options : Options) → s.verdict ≡ None
     → s.failure ≡ None → is_script_ended s ≡ false → is_answers_ended s ≡ false
     → s.script.bytes ≡ 0 → s.answers.bytes ≡ 0 → lines_waiting s ≡ []
     → options_of s.exchange.dialogue ≡ options

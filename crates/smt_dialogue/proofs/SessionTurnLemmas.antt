@@ -2,6 +2,7 @@
 use Rattle.std.proofs.Common.{◌≡◌, ◌<◌, ◌^◌, ◌-◌, ℕ, true, false, List, [], ◌++◌, Option, Some, None, is_some, refl}
 use Rattle.std.proofs.Common.{ap, sym, ◌∙◌, subst, arith}
 use Rattle.std.specs.List.{list_any}
+use Rattle.smt_dialogue.specs.InForce.{start_by}
 use Rattle.smt_dialogue.proofs.AdvanceLemmas.{cut_at}
 use Rattle.smt_dialogue.proofs.CheckLineLemmas.{no_verdicts}
 use Rattle.smt_dialogue.proofs.SessionGrowthLemmas.{AreTold, ended_lines, ended_verdict}
@@ -42,14 +43,14 @@ rested_lines h script answers x ls r o is = (
       turn_is = record {
         later = o.2;
         rest = o.3;
-        paired = subst (λ (p : Options). ArePaired p.print_success script answers o.1 o.2 o.3) o.5 o.4.paired;
-        turn_is = subst (λ (p : Options). turn_at p.print_success o.1 (record answers { trees = o.3 })
+        paired = subst (λ (p : Options). ArePaired (start_by p) script answers o.1 o.2 o.3) o.5 o.4.paired;
+        turn_is = subst (λ (p : Options). turn_at (start_by p) o.1 (record answers { trees = o.3 })
             script.told script.fault o.2 ≡ Waits o.0) o.5 o.6;
       };
       lines_are = is ∙ o.7;
     };
   },
-  ap (list_any is_verdict_line) (is ∙ o.7) ∙ no_verdicts h.options.limit.steps o.0 [] o.1 [],
+  ap (list_any is_verdict_line) (is ∙ o.7) ∙ no_verdicts h.options.profile h.options.limit.steps o.0 [] o.1 [],
 )
 
 pub waits_stands : (s t : Session) (h : History) → (on : IsGoingOn s h) → t.failure ≡ None → t.verdict ≡ None

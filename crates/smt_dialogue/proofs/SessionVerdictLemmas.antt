@@ -25,6 +25,7 @@ use Rattle.smt_report.specs.declared.line.Line.{Line}
 use Rattle.smt_report.specs.declared.line.Line.TheVariants as lines
 use Rattle.smt_report.specs.declared.verdict.Verdict.{Verdict}
 use Rattle.smt_report.specs.declared.verdict.Verdict.TheVariants.{Invalid, Valid}
+use Rattle.smt_dialogue.specs.InForce.{start_by}
 
 -- a session that tells a verdict has ended
 pub has_ended : (s : Session) (h : History) (v : Verdict) → s.verdict ≡ Some v → StandsFor s h
@@ -36,7 +37,7 @@ ended_told : (verdict : Verdict) (h : History) (ls : List Line) → (e : HasEnde
 ended_told verdict h ls e none =
     let turn = e.ends.turn_is ∙ ap Ends none in
     let told = subst (IsToldTurn e.script.told e.answers.told) turn
-    (told_turn h.options.print_success e.pairs (record e.answers { trees = e.ends.rest }) e.script.told e.script.fault
+    (told_turn (start_by h.options) e.pairs (record e.answers { trees = e.ends.rest }) e.script.told e.script.fault
     e.ends.later) in
     (sym e.read.script_read.told_so ∙ told.0, sym e.read.answers_read.told_so ∙ told.1)
 
@@ -54,12 +55,13 @@ no_fault (Some line) ls is h = absurd (
     let e : true ≡ false = sym first ∙ last in cc)
 
 faultless_end : (v : Verdict) (h : History) (ls : List Line) → (e : HasEnded v h ls)
-    → list_any is_fault_line (lines_in h.options.limit.steps true [] e.pairs [] ++ lines_of_end e.fault) ≡ false
+    → list_any is_fault_line (lines_in h.options.profile h.options.limit.steps true [] e.pairs []
+    ++ lines_of_end e.fault) ≡ false
     → e.fault ≡ None
 faultless_end v h ls e clean =
-    no_fault e.fault (lines_in h.options.limit.steps true [] e.pairs [])
+    no_fault e.fault (lines_in h.options.profile h.options.limit.steps true [] e.pairs [])
     (subst IsFaultTurn e.ends.turn_is
-    (fault_turn h.options.print_success e.pairs (record e.answers { trees = e.ends.rest }) e.script.told e.script.fault
+    (fault_turn (start_by h.options) e.pairs (record e.answers { trees = e.ends.rest }) e.script.told e.script.fault
     e.ends.later)) clean
 
 lines_of : (v : Verdict) (h : History) (ls : List Line) → (e : HasEnded v h ls)
@@ -69,7 +71,7 @@ lines_of v h ls e = record { pairs = e.pairs; fault = e.fault; ends = e.ends; li
 pub ended_valid : Laws → OneForest → (h : History) (ls : List Line) → HasEnded Valid h ls
     → IsValid h.options h.script.bytes h.answers.bytes
 ended_valid laws one h ls e =
-    let all = lines_in h.options.limit.steps true [] e.pairs [] ++ lines_of_end e.fault in
+    let all = lines_in h.options.profile h.options.limit.steps true [] e.pairs [] ++ lines_of_end e.fault in
     let told = ended_told Valid h ls e (faultless_end Valid h ls e (valid_lines all (sym e.verdict_is)).0) in
     valid_means laws one h.options h.script.bytes h.answers.bytes e.script e.answers ls Valid
     (subst (λ b. IsRead b h.script.bytes e.script) told.0 e.read.script_read)
@@ -79,7 +81,7 @@ ended_valid laws one h ls e =
 pub ended_invalid : Laws → (h : History) (ls : List Line) → HasEnded Invalid h ls
     → IsInvalid h.options h.script.bytes h.answers.bytes ls
 ended_invalid laws h ls e =
-    let all = lines_in h.options.limit.steps true [] e.pairs [] ++ lines_of_end e.fault in
+    let all = lines_in h.options.profile h.options.limit.steps true [] e.pairs [] ++ lines_of_end e.fault in
     let told = ended_told Invalid h ls e (faultless_end Invalid h ls e (invalid_lines all (sym e.verdict_is)).0) in
     invalid_means laws h.options h.script.bytes h.answers.bytes e.script e.answers ls Invalid
     (subst (λ b. IsRead b h.script.bytes e.script) told.0 e.read.script_read)
@@ -93,7 +95,7 @@ pub reported : (options : Options) (script answers : List ℕ) (ls : List Line) 
     → list_any is_verdict_line ls ≡ false → ⊥
 reported options script answers ls r h =
     let l = r.lines_are in
-    let all = lines_in options.limit.steps true [] l.pairs [] ++ lines_of_end l.fault in
+    let all = lines_in options.profile options.limit.steps true [] l.pairs [] ++ lines_of_end l.fault in
     let last = lines.Verdict (verdict_of all) (tally_of all) ∷ [] in
     let seen : list_any is_verdict_line ls ≡ true =
     ap (list_any is_verdict_line) l.lines_are ∙ list_any-append is_verdict_line all last

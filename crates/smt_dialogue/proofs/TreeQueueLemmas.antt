@@ -2,7 +2,7 @@
 use Rattle.std.proofs.Common.{◌≡◌, ℕ, Bool, true, false, ◌||◌, List, [], Option, Some, None, is_some, refl, ap}
 use Rattle.std.proofs.Common.{sym, ◌∙◌, subst}
 use Rattle.std.specs.Prelude.{MatchOption}
-use Rattle.smt_text.specs.Grammar.{limit}
+use Rattle.smt_text.specs.Grammar.{max_depth}
 use Rattle.smt_text.specs.Reader as readers
 use Rattle.smt_text.specs.Reader.{is_finished}
 use Rattle.smt_text.specs.Reading.{Reads}
@@ -23,7 +23,7 @@ front_new f text none stands open' read = record {
   taken = Nil;
   stands = subst (λ o. readers.StandsFor f.reader [] (next_trees o)) (sym none) stands;
   told = read.told_so ∙ sym open';
-  reads = subst (λ b. Reads limit b [] text.trees text.fault) (sym read.told_so) read.reads;
+  reads = subst (λ b. Reads max_depth b [] text.trees text.fault) (sym read.told_so) read.reads;
   trees = refl;
   behind = text.trees;
   begins = ap (λ o. append (next_trees o) text.trees) (sym none);
@@ -59,18 +59,18 @@ stands_open f bytes text rest none h =
 
 -- what is read of the same bytes is the text
 read_as : OneReading → (f : TreeQueue) (bytes : List ℕ) (text : TextSoFar) (rest xs : Sexps) (o : Option TextFlaw)
-    → HasQueue f bytes text rest → Reads limit (is_finished f.reader) bytes xs o
+    → HasQueue f bytes text rest → Reads max_depth (is_finished f.reader) bytes xs o
     → (text.trees ≡ xs) × (text.fault ≡ o)
 read_as one f bytes text rest xs o h read =
-    one limit text.told bytes text.trees xs text.fault o h.reads
-    (subst (λ b. Reads limit b bytes xs o) (sym h.told) read)
+    one max_depth text.told bytes text.trees xs text.fault o h.reads
+    (subst (λ b. Reads max_depth b bytes xs o) (sym h.told) read)
 
 -- the reader has a tree
 pub looked_tree : OneReading → (f g : TreeQueue) (t : Tree) (bytes : List ℕ) (text : TextSoFar) (rest : Sexps)
     → f.next ≡ None → g.next ≡ Some t → is_finished g.reader ≡ is_finished f.reader
     → ((fed : List ℕ) (taken : Sexps) → readers.StandsFor f.reader fed taken
     → (later : Sexps) × (flaw : Option TextFlaw)
-    × Reads limit (is_finished f.reader) fed (append taken (Cons (sexp_of t) later)) flaw)
+    × Reads max_depth (is_finished f.reader) fed (append taken (Cons (sexp_of t) later)) flaw)
     → ((fed : List ℕ) (taken : Sexps) → readers.StandsFor f.reader fed taken
     → readers.StandsFor g.reader fed (append taken (Cons (sexp_of t) Nil)))
     → HasQueue f bytes text rest
@@ -97,7 +97,7 @@ looked_tree one f g t bytes text rest none some finished answers stands h =
 pub looked_none : OneReading → (f g : TreeQueue) (bytes : List ℕ) (text : TextSoFar) (rest : Sexps)
     (o : Option TextFlaw) → f.next ≡ None → g.next ≡ None → is_finished g.reader ≡ is_finished f.reader
     → ((fed : List ℕ) (taken : Sexps) → readers.StandsFor f.reader fed taken
-    → Reads limit (is_finished f.reader) fed taken o)
+    → Reads max_depth (is_finished f.reader) fed taken o)
     → ((fed : List ℕ) (taken : Sexps) → readers.StandsFor f.reader fed taken
     → readers.StandsFor g.reader fed taken)
     → HasQueue f bytes text rest
@@ -142,8 +142,8 @@ faulty_text text f is = ap (λ o. text.told || is_some o) is ∙ faulty_by text.
 
 -- what is read of a text whose end was told, or wasn't
 pub reads_at : (told ended : Bool) (fed : List ℕ) (xs : Sexps) (o : Option TextFlaw)
-    → (ended ≡ told) × Reads limit told fed xs o → Reads limit ended fed xs o
-reads_at told ended fed xs o h = subst (λ b. Reads limit b fed xs o) (sym h.0) h.1
+    → (ended ≡ told) × Reads max_depth told fed xs o → Reads max_depth ended fed xs o
+reads_at told ended fed xs o h = subst (λ b. Reads max_depth b fed xs o) (sym h.0) h.1
 
 pub take_matches : (f g : TreeQueue) (o : Option Tree) → g.reader ≡ f.reader → o ≡ f.next → g.next ≡ None
     → MatchOption o (f.next ≡ None) (λ tree. (f.next ≡ Some tree)

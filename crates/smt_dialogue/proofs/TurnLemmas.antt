@@ -26,22 +26,26 @@ use Rattle.smt_dialogue.specs.declared.turn.Turn.{Turn}
 use Rattle.smt_dialogue.specs.declared.turn.Turn.TheVariants as turns
 use Rattle.smt_report.specs.declared.line.Line.{Line}
 use Rattle.smt_report.specs.declared.line.Line.TheVariants as lines
+use Rattle.smt_script.specs.declared.stack.Start.{Start}
 
 -- what the command takes, by what it needs
-pub takes_so : (initial on : Bool) (pairs : List Pair) (c : Command) (need : Need) (a : NextAnswer)
+pub takes_so : (start : Start) (on : Bool) (pairs : List Pair) (c : Command) (need : Need) (a : NextAnswer)
     (text : TextSoFar) (rest : Sexps) (bytes : List ℕ) (front : TreeQueue)
-    → need ≡ need_of on c → on ≡ print_success_after initial pairs → IsTaken a need text rest bytes front
-    → taken_for initial pairs c text rest ≡ answering_view a
-takes_so initial on pairs c need a text rest bytes front is same h =
-    ap (λ n. taken (is_over text) n (next_of rest)) (ap (λ b. need_of b c) (sym same) ∙ sym is) ∙ sym h.taken_so
+    → need ≡ need_of start.profile on c → on ≡ print_success_after start.print_success pairs
+    → IsTaken a need text rest bytes front
+    → taken_for start pairs c text rest ≡ answering_view a
+takes_so start on pairs c need a text rest bytes front is same h =
+    ap (λ n. taken (is_over text) n (next_of rest)) (ap (λ b. need_of start.profile b c) (sym same) ∙ sym is)
+    ∙ sym h.taken_so
 
-by_line : (early initial : Bool) (pairs : List Pair) (c : Command) (o : Option TakenAnswer) (text : TextSoFar) (rest : Sexps)
+by_line : (early : Bool) (start : Start) (pairs : List Pair) (c : Command) (o : Option TakenAnswer) (text : TextSoFar)
+    (rest : Sexps)
     (bytes : List ℕ) (front : TreeQueue) (need : Need) (new : State) (line : Option Line)
     → IsTaken (found.Takes o) need text rest bytes front
-    → taken_for initial pairs c text rest ≡ answers.Takes (option_map tree_of o)
-    → IsDone line early pairs (pair_of c (option_map tree_of o)) new
-    → IsTakenUp (turn_of_line line) early initial pairs c text rest bytes front new
-by_line early initial pairs c o text rest bytes front need new None h takes accepted = record {
+    → taken_for start pairs c text rest ≡ answers.Takes (option_map tree_of o)
+    → IsDone start.profile line early pairs (pair_of c (option_map tree_of o)) new
+    → IsTakenUp (turn_of_line line) early start pairs c text rest bytes front new
+by_line early start pairs c o text rest bytes front need new None h takes accepted = record {
   answer = option_map tree_of o;
   left = h.left;
   front_is = h.front_is;
@@ -50,68 +54,72 @@ by_line early initial pairs c o text rest bytes front need new None h takes acce
   faultless = accepted.0;
   stands = accepted.1;
 }
-by_line early initial pairs c o text rest bytes front need new (Some line) h takes accepted =
-    (ap (turn_of_taken pairs c text.fault) takes ∙ accepted.0, accepted.1)
+by_line early start pairs c o text rest bytes front need new (Some line) h takes accepted =
+    (ap (turn_of_taken start.profile pairs c text.fault) takes ∙ accepted.0, accepted.1)
 
-pub taken_with : (r : Result Turn Memory) (initial on : Bool) (c : Command) (o : Option TakenAnswer) (need : Need)
-    (before after : TreeQueue) (old new : List Line → State) → need ≡ need_of on c
+pub taken_with : (r : Result Turn Memory) (start : Start) (on : Bool) (c : Command) (o : Option TakenAnswer)
+    (need : Need)
+    (before after : TreeQueue) (old new : List Line → State) → need ≡ need_of start.profile on c
     → ((taken' : List Line) (early : Bool) (pairs : List Pair) → Fits early (old taken') pairs
-    → on ≡ print_success_after initial pairs)
+    → on ≡ print_success_after start.print_success pairs)
     → ((bytes : List ℕ) (text : TextSoFar) (rest : Sexps) → HasQueue before bytes text rest
     → IsTaken (found.Takes o) need text rest bytes after)
     → IfOk r (λ turn. (taken' : List Line) (early : Bool) (pairs : List Pair) → Fits early (old taken') pairs
     → (early ≡ true → is_check c ≡ true) → (line : Option Line) × (turn ≡ turn_of_line line)
-    × IsDone line early pairs (pair_of c (option_map tree_of o)) (new taken'))
+    × IsDone start.profile line early pairs (pair_of c (option_map tree_of o)) (new taken'))
     → IfOk r (λ turn. (bytes : List ℕ) (text : TextSoFar) (rest : Sexps) (taken' : List Line) (early : Bool)
     (pairs : List Pair) → HasQueue before bytes text rest → Fits early (old taken') pairs
     → (early ≡ true → is_check c ≡ true)
-    → IsTakenUp turn early initial pairs c text rest bytes after (new taken'))
-taken_with (Err e) initial on c o need before after old new is on_is takes h = tt
-taken_with (Ok turn) initial on c o need before after old new is on_is takes h = λ bytes text rest taken' early pairs
+    → IsTakenUp turn early start pairs c text rest bytes after (new taken'))
+taken_with (Err e) start on c o need before after old new is on_is takes h = tt
+taken_with (Ok turn) start on c o need before after old new is on_is takes h = λ bytes text rest taken' early pairs
     front stands check.
     let up = h taken' early pairs stands check in
     let t = takes bytes text rest front in
-    subst (λ u. IsTakenUp u early initial pairs c text rest bytes after (new taken')) (sym up.1)
-    (by_line early initial pairs c o text rest bytes after need (new taken') up.0 t
-    (takes_so initial on pairs c need (found.Takes o) text rest bytes after is (on_is taken' early pairs stands) t)
+    subst (λ u. IsTakenUp u early start pairs c text rest bytes after (new taken')) (sym up.1)
+    (by_line early start pairs c o text rest bytes after need (new taken') up.0 t
+    (takes_so start on pairs c need (found.Takes o) text rest bytes after is (on_is taken' early pairs stands) t)
     up.2)
 
-pub taken_waits : (early initial on : Bool) (pairs : List Pair) (c : Command) (need : Need) (text : TextSoFar)
+pub taken_waits : (early : Bool) (start : Start) (on : Bool) (pairs : List Pair) (c : Command) (need : Need)
+    (text : TextSoFar)
     (rest : Sexps) (bytes : List ℕ) (front : TreeQueue) (new : State) (closed : Bool)
-    → need ≡ need_of on c → on ≡ print_success_after initial pairs → closed ≡ is_check c
+    → need ≡ need_of start.profile on c → on ≡ print_success_after start.print_success pairs → closed ≡ is_check c
     → IsTaken found.Waits need text rest bytes front → Fits early new pairs
-    → IsTakenUp (turns.Waits closed) early initial pairs c text rest bytes front new
-taken_waits early initial on pairs c need text rest bytes front new closed is same check h stands =
-    let takes = takes_so initial on pairs c need found.Waits text rest bytes front is same h in (
-      ap (turn_of_taken pairs c text.fault) takes ∙ ap first_fault.Waits (sym check),
+    → IsTakenUp (turns.Waits closed) early start pairs c text rest bytes front new
+taken_waits early start on pairs c need text rest bytes front new closed is same check h stands =
+    let takes = takes_so start on pairs c need found.Waits text rest bytes front is same h in (
+      ap (turn_of_taken start.profile pairs c text.fault) takes ∙ ap first_fault.Waits (sym check),
       subst (HasQueue front bytes text) (sym h.left_is) h.front_is,
       stands,
     )
 
-pub taken_missing : (early initial on : Bool) (pairs : List Pair) (c : Command) (need : Need) (text : TextSoFar)
+pub taken_missing : (early : Bool) (start : Start) (on : Bool) (pairs : List Pair) (c : Command) (need : Need)
+    (text : TextSoFar)
     (rest : Sexps) (bytes : List ℕ) (front : TreeQueue) (new : State) (fault : Option TextFlaw) (n : ℕ) (line : Line)
-    → need ≡ need_of on c → on ≡ print_success_after initial pairs
+    → need ≡ need_of start.profile on c → on ≡ print_success_after start.print_success pairs
     → n ≡ length pairs + 1 → line ≡ want_of_answer n fault
     → IsTaken (found.Missing fault) need text rest bytes front → Fits early new pairs
-    → IsTakenUp (turns.Ends (Some line)) early initial pairs c text rest bytes front new
-taken_missing early initial on pairs c need text rest bytes front new fault n line is same count told h stands =
-    let takes = takes_so initial on pairs c need (found.Missing fault) text rest bytes front is same h in (
-      ap (turn_of_taken pairs c text.fault) takes
+    → IsTakenUp (turns.Ends (Some line)) early start pairs c text rest bytes front new
+taken_missing early start on pairs c need text rest bytes front new fault n line is same count told h stands =
+    let takes = takes_so start on pairs c need (found.Missing fault) text rest bytes front is same h in (
+      ap (turn_of_taken start.profile pairs c text.fault) takes
           ∙ ap (λ o. first_fault.Ends (Some (want_of_answer (length pairs + 1) o))) (sym h.left_is.1)
           ∙ ap (λ k. first_fault.Ends (Some (want_of_answer k fault))) (sym count)
           ∙ ap (λ l. first_fault.Ends (Some l)) (sym told),
       stands,
     )
 
-pub taken_unfit : (early initial on : Bool) (pairs : List Pair) (c : Command) (need : Need) (text : TextSoFar)
+pub taken_unfit : (early : Bool) (start : Start) (on : Bool) (pairs : List Pair) (c : Command) (need : Need)
+    (text : TextSoFar)
     (rest : Sexps) (bytes : List ℕ) (front : TreeQueue) (new : State) (n m : ℕ)
-    → need ≡ need_of on c → on ≡ print_success_after initial pairs
+    → need ≡ need_of start.profile on c → on ≡ print_success_after start.print_success pairs
     → n ≡ length pairs + 1 → m ≡ answers_taken pairs
     → IsTaken found.Unexpected need text rest bytes front → Fits early new pairs
-    → IsTakenUp (turns.Ends (Some (lines.UnexpectedAnswer n (m + 1)))) early initial pairs c text rest bytes front new
-taken_unfit early initial on pairs c need text rest bytes front new n m is same count answered h stands =
-    let takes = takes_so initial on pairs c need found.Unexpected text rest bytes front is same h in (
-      ap (turn_of_taken pairs c text.fault) takes
+    → IsTakenUp (turns.Ends (Some (lines.UnexpectedAnswer n (m + 1)))) early start pairs c text rest bytes front new
+taken_unfit early start on pairs c need text rest bytes front new n m is same count answered h stands =
+    let takes = takes_so start on pairs c need found.Unexpected text rest bytes front is same h in (
+      ap (turn_of_taken start.profile pairs c text.fault) takes
           ∙ ap (λ k. first_fault.Ends (Some (lines.UnexpectedAnswer k (answers_taken pairs + 1)))) (sym count)
           ∙ ap (λ k. first_fault.Ends (Some (lines.UnexpectedAnswer n (k + 1)))) (sym answered),
       stands,

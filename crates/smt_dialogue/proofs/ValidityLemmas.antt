@@ -4,7 +4,7 @@ use Rattle.std.proofs.Common.{Some, None, is_some, Result, Ok, Err, cond, codes,
 use Rattle.std.proofs.Common.{arith, append_assoc, nat_lt}
 use Rattle.std.proofs.lemmas.List.{append-nil}
 use Rattle.std.specs.List.{list_any}
-use Rattle.smt_text.specs.Grammar.{Forest, limit}
+use Rattle.smt_text.specs.Grammar.{Forest, max_depth}
 use Rattle.smt_text.specs.Reading.{Reads}
 use Rattle.smt_trees.specs.Sexp.{Sexp, Sexps, Nil, is_symbol}
 use Rattle.smt_faults.specs.declared.text_flaw.TextFlaw.{TextFlaw}
@@ -20,7 +20,7 @@ use Rattle.smt_dialogue.specs.Report.{AreLinesOf, IsRead, lines_of_end}
 use Rattle.smt_dialogue.specs.declared.options.Options.{Options}
 use Rattle.smt_dialogue.specs.Validity.{IsFullyPaired, IsInvalid, IsSatCheck}
 use Rattle.smt_dialogue.specs.Validity.{IsValid}
-use Rattle.smt_dialogue.specs.InForce.{AreFaultless, signature_after}
+use Rattle.smt_dialogue.specs.InForce.{AreFaultless, signature_after, start_by}
 use Rattle.smt_dialogue.specs.Pairing.{IsPairing, IsPairingSoFar}
 use Rattle.smt_dialogue.specs.Pairs.{Pair, checks_in}
 use Rattle.smt_dialogue.specs.Lines.{claims_of_check, is_empty, line_of_judgement, lines_in}
@@ -49,17 +49,19 @@ use Rattle.smt_report.specs.declared.line.Line.TheVariants as lines
 use Rattle.smt_report.specs.declared.verdict.Tally.{Tally}
 use Rattle.smt_report.specs.declared.verdict.Verdict.{Verdict}
 use Rattle.smt_report.specs.declared.verdict.Verdict.TheVariants.{Valid, Invalid}
+use Rattle.smt_theory.specs.declared.profile.Profile.{Profile}
 
 -- ## A dialogue without the line of a fault is paired whole
 
 pub fully_paired : (options : Options) (script answers : List ℕ) (st at' : TextSoFar) (ls : List Line)
     → IsRead true script st → IsRead true answers at' → (j : AreLinesOf options st at' ls)
-    → list_any is_fault_line (lines_in options.limit.steps true [] j.pairs [] ++ lines_of_end j.fault) ≡ false
+    → list_any is_fault_line (lines_in options.profile options.limit.steps true [] j.pairs [] ++ lines_of_end j.fault)
+    ≡ false
     → IsFullyPaired options script answers j.pairs × (j.fault ≡ None)
 fully_paired options script answers st at' ls rs ra j h =
-    let start = options.print_success in
+    let start = start_by options in
     let clean = ends_clean start j.pairs st.told at'.told j.ends.later st.fault j.ends.rest at'.fault j.fault
-    j.ends.turn_is (none_of is_fault_line (lines_in options.limit.steps true [] j.pairs [])
+    j.ends.turn_is (none_of is_fault_line (lines_in options.profile options.limit.steps true [] j.pairs [])
     (lines_of_end j.fault) h).1 in
     let over : is_over at' ≡ true = ap (λ (b : Bool). b || is_some at'.fault) ra.told_so in
     let told : IsPairingSoFar true start j.pairs st.trees j.ends.later at'.trees j.ends.rest =
@@ -69,10 +71,10 @@ fully_paired options script answers st at' ls rs ra j h =
     subst (λ (t : Sexps). IsPairing start j.pairs st.trees t at'.trees j.ends.rest) clean.trees told in (
       record {
         script_trees = st.trees;
-        script_forest = subst (λ (f : Option TextFlaw). Reads limit true script st.trees f)
+        script_forest = subst (λ (f : Option TextFlaw). Reads max_depth true script st.trees f)
             clean.script rs.reads;
         answer_trees = at'.trees;
-        answers_forest = subst (λ (f : Option TextFlaw). Reads limit true answers at'.trees f)
+        answers_forest = subst (λ (f : Option TextFlaw). Reads max_depth true answers at'.trees f)
             clean.answers ra.reads;
         pairing = subst (λ (t : Sexps). IsPairing start j.pairs st.trees Nil at'.trees t) clean.left one;
       },
@@ -107,20 +109,21 @@ OneForest = (bound other : ℕ) (text : List ℕ) (xs ys : Sexps) → Forest bou
 -- there is one such pairing, and none that leaves answers
 pub only_pairing : OneForest
     → (options : Options) (script answers : List ℕ) (pairs others : List Pair) (trees answered rest : Sexps)
-    → IsFullyPaired options script answers pairs → Forest limit script trees → Forest limit answers answered
-    → IsPairing options.print_success others trees Nil answered rest → (others ≡ pairs) × (rest ≡ Nil)
+    → IsFullyPaired options script answers pairs → Forest max_depth script trees → Forest max_depth answers answered
+    → IsPairing (start_by options) others trees Nil answered rest → (others ≡ pairs) × (rest ≡ Nil)
 only_pairing one options script answers pairs others trees answered rest whole f g p =
-    let start = options.print_success in
+    let start = start_by options in
     let same_script : whole.script_trees ≡ trees =
-    one limit limit script whole.script_trees trees whole.script_forest f in
+    one max_depth max_depth script whole.script_trees trees whole.script_forest f in
     let same_answers : whole.answer_trees ≡ answered =
-    one limit limit answers whole.answer_trees answered whole.answers_forest g in
+    one max_depth max_depth answers whole.answer_trees answered whole.answers_forest g in
     let once : IsPairing start pairs trees Nil whole.answer_trees Nil =
     subst (λ (t : Sexps). IsPairing start pairs t Nil whole.answer_trees Nil) same_script whole.pairing in
     let mine : IsPairing start pairs trees Nil answered Nil =
     subst (λ (t : Sexps). IsPairing start pairs trees Nil t Nil) same_answers once in
     let same = one_pairing true start [] others pairs trees Nil Nil answered rest Nil
-    (all_commands others trees p.commands ∙ sym (all_commands pairs trees mine.commands))
+    (all_commands options.profile others trees p.commands
+    ∙ sym (all_commands options.profile pairs trees mine.commands))
     p.commands mine.commands p.answered mine.answered p.taken_so mine.taken_so in
     (same.0, same.2)
 
@@ -131,7 +134,7 @@ pub valid_means : Laws → OneForest
     → IsRead true script st → IsRead true answers at' → AreLinesOf options st at' ls
     → IsVerdictOf v ls → v ≡ Valid → IsValid options script answers
 valid_means laws one options script answers st at' ls v rs ra l verdict h =
-    let mine = lines_in options.limit.steps true [] l.pairs [] in
+    let mine = lines_in options.profile options.limit.steps true [] l.pairs [] in
     let tests = valid_lines (mine ++ lines_of_end l.fault)
     (sym (verdict_of_lines v ls (mine ++ lines_of_end l.fault) verdict l.lines_are) ∙ h) in
     let whole = (fully_paired options script answers st at' ls rs ra l tests.0).0 in
@@ -141,7 +144,7 @@ valid_means laws one options script answers st at' ls v rs ra l verdict h =
       only = λ others trees answered rest f g p.
           only_pairing one options script answers l.pairs others trees answered rest whole f g p;
       confirmed = λ before after p place sat.
-          confirmed_at options.limit.steps laws l.pairs before after p place l.ends.paired.faultless
+          confirmed_at options.profile options.limit.steps laws l.pairs before after p place l.ends.paired.faultless
           (none_of is_refuted_line mine (lines_of_end l.fault) tests.1).0
           (none_of is_undecided_line mine (lines_of_end l.fault) tests.2).0 sat;
     }
@@ -153,36 +156,36 @@ by_or true b h f g = f refl
 by_or false b h f g = g h
 
 -- the pair that has a line of a kind
-pub record HasLine (steps : ℕ) (test : Line → Bool) (before pairs : List Pair) : Type 0 where
+pub record HasLine (profile : Profile) (steps : ℕ) (test : Line → Bool) (before pairs : List Pair) : Type 0 where
   pub first : List Pair
   pub pair : Pair
   pub last : List Pair
   pub place : pairs ≡ first ++ pair ∷ last
-  pub line : list_any test (lines_of_pair steps true (before ++ first) pair last) ≡ true
+  pub line : list_any test (lines_of_pair profile steps true (before ++ first) pair last) ≡ true
 
-some_line : (steps : ℕ) (test : Line → Bool) (before pairs : List Pair)
-    → list_any test (lines_in steps true before pairs []) ≡ true → HasLine steps test before pairs
-some_line steps test before [] h = absurd (cc)
-some_line steps test before (p ∷ ps) h =
-    by_or (list_any test (lines_of_pair steps true before p (ps ++ [])))
-    (list_any test (lines_in steps true (before ++ p ∷ []) ps []))
-    (sym (any-append test (lines_of_pair steps true before p (ps ++ []))
-    (lines_in steps true (before ++ p ∷ []) ps [])) ∙ h)
+some_line : (profile : Profile) (steps : ℕ) (test : Line → Bool) (before pairs : List Pair)
+    → list_any test (lines_in profile steps true before pairs []) ≡ true → HasLine profile steps test before pairs
+some_line profile steps test before [] h = absurd (cc)
+some_line profile steps test before (p ∷ ps) h =
+    by_or (list_any test (lines_of_pair profile steps true before p (ps ++ [])))
+    (list_any test (lines_in profile steps true (before ++ p ∷ []) ps []))
+    (sym (any-append test (lines_of_pair profile steps true before p (ps ++ []))
+    (lines_in profile steps true (before ++ p ∷ []) ps [])) ∙ h)
     (λ here. record {
       first = [];
       pair = p;
       last = ps;
       place = refl;
-      line = ap (λ (b : List Pair). list_any test (lines_of_pair steps true b p ps)) (append-nil before)
-          ∙ ap (λ (a : List Pair). list_any test (lines_of_pair steps true before p a)) (sym (append-nil ps))
+      line = ap (λ (b : List Pair). list_any test (lines_of_pair profile steps true b p ps)) (append-nil before)
+          ∙ ap (λ (a : List Pair). list_any test (lines_of_pair profile steps true before p a)) (sym (append-nil ps))
           ∙ here;
     })
-    (λ there. let g = some_line steps test (before ++ p ∷ []) ps there in record {
+    (λ there. let g = some_line profile steps test (before ++ p ∷ []) ps there in record {
       first = p ∷ g.first;
       pair = g.pair;
       last = g.last;
       place = ap (λ (xs : List Pair). p ∷ xs) g.place;
-      line = ap (λ (b : List Pair). list_any test (lines_of_pair steps true b g.pair g.last))
+      line = ap (λ (b : List Pair). list_any test (lines_of_pair profile steps true b g.pair g.last))
           (sym (append_assoc before (p ∷ []) g.first)) ∙ g.line;
     })
 
@@ -195,27 +198,31 @@ answer_cases None true k n ls h = (refl, h)
 answer_cases None false k n ls h = absurd (cc)
 
 -- a pair that has the line of a refuted model is a check that was answered sat
-pub record IsRefutedCheck (steps : ℕ) (before : List Pair) (p : Pair) (after : List Pair) : Type 0 where
+pub record IsRefutedCheck (profile : Profile) (steps : ℕ) (before : List Pair) (p : Pair)
+    (after : List Pair) : Type 0 where
   pub sat : IsSatCheck p
   pub line : list_any is_refuted_line
-      (lines_of_sat steps true (checks_in before + 1) (length before + 1) (signature_after before)
-      (claims_of_check before p.command) ((length before + 1) + 1) after) ≡ true
+      (lines_of_sat steps true (checks_in before + 1) (length before + 1) (signature_after profile before)
+      (claims_of_check profile before p.command) ((length before + 1) + 1) after) ≡ true
 
-refuted_check : (steps : ℕ) (before : List Pair) (p : Pair) (after : List Pair)
-    → list_any is_refuted_line (lines_of_pair steps true before p after) ≡ true → IsRefutedCheck steps before p after
-refuted_check steps before p after h = by (is_check p.command) p.answer refl refl h
+refuted_check : (profile : Profile) (steps : ℕ) (before : List Pair) (p : Pair) (after : List Pair)
+    → list_any is_refuted_line (lines_of_pair profile steps true before p after) ≡ true
+    → IsRefutedCheck profile steps before p after
+refuted_check profile steps before p after h = by (is_check p.command) p.answer refl refl h
   where
     by : (b : Bool) (o : Option Sexp) → is_check p.command ≡ b → p.answer ≡ o
-        → list_any is_refuted_line (cond b (lines_of_answer steps true before (claims_of_check before p.command)
+        → list_any is_refuted_line (cond b
+        (lines_of_answer profile steps true before (claims_of_check profile before p.command)
         (checks_in before + 1) o after) [])
         ≡ true
-        → IsRefutedCheck steps before p after
+        → IsRefutedCheck profile steps before p after
     by false o is has refuted = absurd (cc)
     by true None is has refuted = absurd (cc)
     by true (Some a) is has refuted =
         let cases = answer_cases (unchecked_answer a) (is_symbol (codes "sat") a) (checks_in before + 1)
         (length before + 1) (lines_of_sat steps true (checks_in before + 1) (length before + 1)
-        (signature_after before) (claims_of_check before p.command) ((length before + 1) + 1) after) refuted in
+        (signature_after profile before) (claims_of_check profile before p.command)
+        ((length before + 1) + 1) after) refuted in
         record {
           sat = record { check = is; answer = a; answered = has; sat = cases.0 };
           line = cases.1;
@@ -379,36 +386,36 @@ pub invalid_means : Laws
     → IsRead true script st → IsRead true answers at' → AreLinesOf options st at' ls
     → IsVerdictOf v ls → v ≡ Invalid → IsInvalid options script answers ls
 invalid_means laws options script answers st at' ls v rs ra j verdict h =
-    let mine = lines_in options.limit.steps true [] j.pairs [] in
+    let mine = lines_in options.profile options.limit.steps true [] j.pairs [] in
     let tests = invalid_lines (mine ++ lines_of_end j.fault)
     (sym (verdict_of_lines v ls (mine ++ lines_of_end j.fault) verdict j.lines_are) ∙ h) in
     let whole = fully_paired options script answers st at' ls rs ra j tests.0 in
     let no_fault : mine ++ lines_of_end j.fault ≡ mine =
     ap (λ (f : Option Line). mine ++ lines_of_end f) whole.1 ∙ append-nil mine in
-    let at_pair = some_line options.limit.steps is_refuted_line [] j.pairs
+    let at_pair = some_line options.profile options.limit.steps is_refuted_line [] j.pairs
     (ap (list_any is_refuted_line) (sym no_fault) ∙ tests.1) in
     let before = at_pair.first in
     let p = at_pair.pair in
-    let check : IsRefutedCheck options.limit.steps before p at_pair.last =
-    refuted_check options.limit.steps before p at_pair.last at_pair.line in
+    let check : IsRefutedCheck options.profile options.limit.steps before p at_pair.last =
+    refuted_check options.profile options.limit.steps before p at_pair.last at_pair.line in
     let k = checks_in before + 1 in
     let n = length before + 1 in
-    let names = signature_after before in
-    let claimed = claims_of_check before p.command in
+    let names = signature_after options.profile before in
+    let claimed = claims_of_check options.profile before p.command in
     let ms = models_from (n + 1) (window at_pair.last) in
     let found = sat_refuted options.limit.steps k n names claimed ms (not (is_empty ms))
     (unconfirmed_line options.limit.steps k n names claimed ms)
     refl check.line in
     let over = refuted_over options.limit.steps names claimed (model_in names found.model.model.parts)
     found.model.refuted.claim found.model.refuted.found in
-    let source = claimed_from laws.found before p over.2.first over.2.last over.2.claimed over.2.place in
-    let l1 = lines_in options.limit.steps true [] before ((p ∷ at_pair.last) ++ []) in
-    let l2 = lines_in options.limit.steps true (before ++ p ∷ []) at_pair.last [] in
+    let source = claimed_from options.profile laws.found before p over.2.first over.2.last over.2.claimed over.2.place in
+    let l1 = lines_in options.profile options.limit.steps true [] before ((p ∷ at_pair.last) ++ []) in
+    let l2 = lines_in options.profile options.limit.steps true (before ++ p ∷ []) at_pair.last [] in
     let claim = over.2.claimed.claim in
     let line = lines.Refuted k n found.model.model.command claim in
     let same : found.model.refuted.claim ≡ claim = sym over.2.claim_is in
-    let here : lines_of_pair options.limit.steps true before p at_pair.last ≡ line ∷ [] =
-    lines_of_sat_at options.limit.steps before at_pair.last p check.sat ∙ found.lines_are
+    let here : lines_of_pair options.profile options.limit.steps true before p at_pair.last ≡ line ∷ [] =
+    lines_of_sat_at options.profile options.limit.steps before at_pair.last p check.sat ∙ found.lines_are
     ∙ ap (λ (l : Line). l ∷ []) found.model.refuted.line_is
     ∙ ap (λ (c : Claim). lines.Refuted k n found.model.model.command c ∷ []) same in
     let end : List Line = lines.Verdict (verdict_of (mine ++ lines_of_end j.fault))
@@ -427,22 +434,23 @@ invalid_means laws options script answers st at' ls v rs ra j verdict h =
       models = ap (λ (i : ℕ). models_from i (window at_pair.last)) (omega arith) ∙ found.model.place;
       definitions = over.0;
       model_of = laws.complete names found.model.model.parts over.0 over.1;
-      structure = structure_behind laws.introduced laws.structures before (p ∷ at_pair.last)
-          found.model.model.parts over.0 (subst (AreFaultless []) at_pair.place j.ends.paired.faultless)
+      structure = structure_behind options.profile laws.introduced laws.structures before (p ∷ at_pair.last)
+          found.model.model.parts over.0 (subst (AreFaultless options.profile []) at_pair.place j.ends.paired.faultless)
           over.1;
       claim = claim;
       earlier = source.0;
       term = over.2.claimed.term;
       claimed = source.1;
-      sorted = claim_sorted j.pairs before at_pair.last p at_pair.place j.ends.paired.faultless check.sat claim
+      sorted = claim_sorted options.profile j.pairs before at_pair.last p at_pair.place j.ends.paired.faultless check.sat claim
           source.0 over.2.claimed.term source.1;
-      false_in = λ z. closed_value laws z (structure_at over.0 before) over.2.claimed.term (Truth false)
-          (is_false_value (known_over (structure_at over.0 before) over.2.claimed.term) over.2.passes);
+      false_in = λ z. closed_value laws z (structure_at options.profile over.0 before) over.2.claimed.term (Truth false)
+          (is_false_value (known_over (structure_at options.profile over.0 before) over.2.claimed.term) over.2.passes);
       lines_before = l1;
       lines_after = l2 ++ end;
       line = j.lines_are
           ∙ ap (λ (x : List Line). x ++ end)
-          (no_fault ∙ ap (λ (ps : List Pair). lines_in options.limit.steps true [] ps []) at_pair.place
-          ∙ lines_at options.limit.steps before p at_pair.last ∙ ap (λ (x : List Line). l1 ++ (x ++ l2)) here)
+          (no_fault ∙ ap (λ (ps : List Pair). lines_in options.profile options.limit.steps true [] ps []) at_pair.place
+          ∙ lines_at options.profile options.limit.steps before p at_pair.last
+          ∙ ap (λ (x : List Line). l1 ++ (x ++ l2)) here)
           ∙ line_place l1 l2 end line;
     }

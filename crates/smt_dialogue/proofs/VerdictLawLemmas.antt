@@ -36,7 +36,7 @@ valid_pairs options script answers pairs v w =
 -- so a check among them is confirmed
 confirmed : (options : Options) (script answers : List ℕ) (before : List Pair) (check : Pair)
     (after : List Pair) → IsSatOf options script answers before check after → IsValid options script answers
-    → IsConfirmed before check after
+    → IsConfirmed options.profile before check after
 confirmed options script answers before check after c v =
     v.confirmed before after check (valid_pairs options script answers (before ++ check ∷ after) v c.paired)
     c.sat
@@ -49,11 +49,12 @@ all_at P (y ∷ xs) x ys h = all_at P xs x ys h.1
 -- each of its models is a true one
 true_model : (options : Options) (script answers : List ℕ) (before : List Pair) (check : Pair)
     (after : List Pair) (m : Printed) → IsSatOf options script answers before check after
-    → IsModelIn before after m → IsValid options script answers → IsTrueModel before check m.parts
+    → IsModelIn before after m → IsValid options script answers → IsTrueModel options.profile before check m.parts
 true_model options script answers before check after m c i v =
     let g = confirmed options script answers before check after c v in
-    all_at (λ (n : Printed). IsTrueModel before check n.parts) i.first m i.last
-    (subst (AllByRecursion (λ (n : Printed). IsTrueModel before check n.parts)) (sym g.models ∙ i.models)
+    all_at (λ (n : Printed). IsTrueModel options.profile before check n.parts) i.first m i.last
+    (subst (AllByRecursion (λ (n : Printed). IsTrueModel options.profile before check n.parts))
+    (sym g.models ∙ i.models)
     g.true_models)
 
 pub without_model : (options : Options) (script answers : List ℕ) (before : List Pair) (check : Pair)
@@ -67,7 +68,7 @@ without_model options script answers before check after c none v =
 pub with_faulty : (options : Options) (script answers : List ℕ) (before : List Pair) (check : Pair)
     (after : List Pair) (m : Printed) (fault : ModelFlaw) → IsSatOf options script answers before check after
     → IsModelIn before after m
-    → model_in (signature_after before) m.parts ≡ Err fault → IsValid options script answers → ⊥
+    → model_in (signature_after options.profile before) m.parts ≡ Err fault → IsValid options script answers → ⊥
 with_faulty options script answers before check after m fault c i faulty v =
     let one = true_model options script answers before check after m c i v in
     let bad : ◌≡◌ {A = Result Signature ModelFlaw} (Ok one.definitions) (Err fault) =
@@ -82,7 +83,7 @@ claimed before earlier check term asserted = (asserted, refl)
 with_ill_sorted_claim : (options : Options) (script answers : List ℕ) (before : List Pair) (check : Pair)
     (after earlier : List Pair) (claim : Claim) (term : Sexp) → IsSatOf options script answers before check after
     → IsClaimed before check claim earlier term
-    → (sort_in (names_of_claim claim (names_of (signature_after earlier))) [] term ≡ Ok Boolean → ⊥)
+    → (sort_in (names_of_claim claim (names_of (signature_after options.profile earlier))) [] term ≡ Ok Boolean → ⊥)
     → IsValid options script answers → ⊥
 with_ill_sorted_claim options script answers before check after earlier claim term c is ill v =
     let g = confirmed options script answers before check after c v in
@@ -91,7 +92,7 @@ with_ill_sorted_claim options script answers before check after earlier claim te
 pub with_ill_sorted : (options : Options) (script answers : List ℕ) (before : List Pair) (check : Pair)
     (after earlier : List Pair) (term : Sexp) → IsSatOf options script answers before check after
     → IsAsserted before earlier term
-    → (sort_in (in_assertion (names_of (signature_after earlier))) [] term ≡ Ok Boolean → ⊥)
+    → (sort_in (in_assertion (names_of (signature_after options.profile earlier))) [] term ≡ Ok Boolean → ⊥)
     → IsValid options script answers → ⊥
 with_ill_sorted options script answers before check after earlier term c asserted ill v =
     with_ill_sorted_claim options script answers before check after earlier (Assertion (length earlier + 1)) term c
@@ -100,7 +101,7 @@ with_ill_sorted options script answers before check after earlier term c asserte
 pub with_ill_sorted_assumption : (options : Options) (script answers : List ℕ) (before : List Pair) (check : Pair)
     (after : List Pair) (place : ℕ) (term : Sexp) → IsSatOf options script answers before check after
     → IsAssumed check place term
-    → (sort_in (names_of (signature_after before)) [] term ≡ Ok Boolean → ⊥)
+    → (sort_in (names_of (signature_after options.profile before)) [] term ≡ Ok Boolean → ⊥)
     → IsValid options script answers → ⊥
 with_ill_sorted_assumption options script answers before check after place term c assumed ill v =
     with_ill_sorted_claim options script answers before check after before (Assumption place) term c
@@ -115,36 +116,37 @@ same_definitions script parts d e f g = let both : ◌≡◌ {A = Result Signatu
 pub structures_of : (options : Options) (script answers : List ℕ) (before : List Pair) (check : Pair)
     (after : List Pair) (m : Printed) (definitions : Signature)
     → IsSatOf options script answers before check after → IsModelIn before after m
-    → model_in (signature_after before) m.parts ≡ Ok definitions → IsValid options script answers
-    → IsModelOf (signature_after before) m.parts definitions
-    × IsStructure (structure_at definitions before)
+    → model_in (signature_after options.profile before) m.parts ≡ Ok definitions → IsValid options script answers
+    → IsModelOf (signature_after options.profile before) m.parts definitions
+    × IsStructure (structure_at options.profile definitions before)
 structures_of options script answers before check after m definitions c i read v =
     let one = true_model options script answers before check after m c i v in
-    let same = same_definitions (signature_after before)
+    let same = same_definitions (signature_after options.profile before)
     m.parts one.definitions definitions one.model.read read in (
-      subst (IsModelOf (signature_after before) m.parts) same one.model,
-      subst (λ (d : Signature). IsStructure (structure_at d before)) same one.structure,
+      subst (IsModelOf (signature_after options.profile before) m.parts) same one.model,
+      subst (λ (d : Signature). IsStructure (structure_at options.profile d before)) same one.structure,
     )
 
 with_untrue_claim : (options : Options) (script answers : List ℕ) (before : List Pair) (check : Pair)
     (after : List Pair) (m : Printed) (definitions : Signature) (claim : Claim) (earlier : List Pair) (term : Sexp)
     (z : DivisionByZero) → IsSatOf options script answers before check after → IsModelIn before after m
-    → model_in (signature_after before) m.parts ≡ Ok definitions → IsClaimed before check claim earlier term
-    → (value_over z (structure_at definitions before) [] term ≡ Truth true → ⊥)
+    → model_in (signature_after options.profile before) m.parts ≡ Ok definitions
+    → IsClaimed before check claim earlier term
+    → (value_over z (structure_at options.profile definitions before) [] term ≡ Truth true → ⊥)
     → IsValid options script answers → ⊥
 with_untrue_claim options script answers before check after m definitions claim earlier term z c i read is untrue v
     =
     let one = true_model options script answers before check after m c i v in
-    let same = same_definitions (signature_after before)
+    let same = same_definitions (signature_after options.profile before)
     m.parts one.definitions definitions one.model.read read in
-    untrue (ap (λ (d : Signature). value_over z (structure_at d before) [] term) (sym same)
+    untrue (ap (λ (d : Signature). value_over z (structure_at options.profile d before) [] term) (sym same)
     ∙ one.true_in z claim earlier term is)
 
 pub with_untrue : (options : Options) (script answers : List ℕ) (before : List Pair) (check : Pair)
     (after : List Pair) (m : Printed) (definitions : Signature) (earlier : List Pair) (term : Sexp)
     (z : DivisionByZero) → IsSatOf options script answers before check after → IsModelIn before after m
-    → model_in (signature_after before) m.parts ≡ Ok definitions → IsAsserted before earlier term
-    → (value_over z (structure_at definitions before) [] term ≡ Truth true → ⊥)
+    → model_in (signature_after options.profile before) m.parts ≡ Ok definitions → IsAsserted before earlier term
+    → (value_over z (structure_at options.profile definitions before) [] term ≡ Truth true → ⊥)
     → IsValid options script answers → ⊥
 with_untrue options script answers before check after m definitions earlier term z c i read asserted untrue v
     = with_untrue_claim options script answers before check after m definitions (Assertion (length earlier + 1))
@@ -153,8 +155,8 @@ with_untrue options script answers before check after m definitions earlier term
 pub with_untrue_assumption : (options : Options) (script answers : List ℕ) (before : List Pair) (check : Pair)
     (after : List Pair) (m : Printed) (definitions : Signature) (place : ℕ) (term : Sexp)
     (z : DivisionByZero) → IsSatOf options script answers before check after → IsModelIn before after m
-    → model_in (signature_after before) m.parts ≡ Ok definitions → IsAssumed check place term
-    → (value_over z (structure_at definitions before) [] term ≡ Truth true → ⊥)
+    → model_in (signature_after options.profile before) m.parts ≡ Ok definitions → IsAssumed check place term
+    → (value_over z (structure_at options.profile definitions before) [] term ≡ Truth true → ⊥)
     → IsValid options script answers → ⊥
 with_untrue_assumption options script answers before check after m definitions place term z c i read assumed untrue v
     = with_untrue_claim options script answers before check after m definitions (Assumption place) before term z c i
@@ -183,17 +185,17 @@ not_both options script answers ls v i =
     with_untrue_claim options script answers i.before i.check i.after i.model i.definitions i.claim i.earlier
     i.term z (refuted_sat options script answers ls i) (refuted_model options script answers ls i)
     i.model_of.read i.claimed
-    (not_true (value_over z (structure_at i.definitions i.before) [] i.term) (i.false_in z)) v
+    (not_true (value_over z (structure_at options.profile i.definitions i.before) [] i.term) (i.false_in z)) v
 
 pub what_is_false : (options : Options) (script answers : List ℕ) (ls : List Line)
     → IsInvalid options script answers ls
     → (before : List Pair) × (check : Pair) × (after : List Pair) × (model : Printed)
     × (definitions : Signature) × (claim : Claim) × (earlier : List Pair) × (term : Sexp)
     × IsSatOf options script answers before check after × IsModelIn before after model
-    × IsModelOf (signature_after before) model.parts definitions
-    × IsStructure (structure_at definitions before) × IsClaimed before check claim earlier term
-    × (sort_in (names_of_claim claim (names_of (signature_after earlier))) [] term ≡ Ok Boolean)
-    × ((z : DivisionByZero) → value_over z (structure_at definitions before) [] term ≡ Truth false)
+    × IsModelOf (signature_after options.profile before) model.parts definitions
+    × IsStructure (structure_at options.profile definitions before) × IsClaimed before check claim earlier term
+    × (sort_in (names_of_claim claim (names_of (signature_after options.profile earlier))) [] term ≡ Ok Boolean)
+    × ((z : DivisionByZero) → value_over z (structure_at options.profile definitions before) [] term ≡ Truth false)
     × (first : List Line) × (last : List Line)
     × (ls ≡ first ++ Refuted (checks_in before + 1) (length before + 1) model.command claim ∷ last)
 what_is_false options script answers ls i = (

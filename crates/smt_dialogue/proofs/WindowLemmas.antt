@@ -12,39 +12,41 @@ use Rattle.smt_dialogue.proofs.PairLemmas.{refused_assumptions, refused_is_idle}
 use Rattle.smt_dialogue.specs.InForce.{assertions_after, assumptions_after, signature_after}
 use Rattle.smt_dialogue.specs.Pairs.{Pair, is_effective}
 use Rattle.smt_dialogue.specs.Window.{closes, window}
+use Rattle.smt_theory.specs.declared.profile.Profile.{Profile}
 
 not_effective : (check effective : Bool) → check || effective ≡ false → effective ≡ false
 not_effective true effective h = absurd (cc)
 not_effective false effective h = h
 
 -- a pair that ends no window changes nothing
-open_is_idle : (pairs : List Pair) (p : Pair) → closes p ≡ false → IsIdle pairs p
-open_is_idle pairs p h = by (closes_window p.command) refl h
+open_is_idle : (profile : Profile) (pairs : List Pair) (p : Pair) → closes p ≡ false → IsIdle profile pairs p
+open_is_idle profile pairs p h = by (closes_window p.command) refl h
   where
     by : (b : Bool) → closes_window p.command ≡ b → is_check p.command || b && is_effective p ≡ false
-        → IsIdle pairs p
-    by true is open' = refused_is_idle pairs p (not_effective (is_check p.command) (is_effective p) open')
-    by false is open' = quiet_is_idle pairs p (quiet p.command is)
+        → IsIdle profile pairs p
+    by true is open' = refused_is_idle profile pairs p (not_effective (is_check p.command) (is_effective p) open')
+    by false is open' = quiet_is_idle profile pairs p (quiet p.command is)
 
 -- the kind of a check is none that changes what is in force
 check_changes_none : (k : Kind) → asks_check k ≡ true → changes_force k ≡ false
 check_changes_none k h = grind (arith)
 
 -- a check changes nothing either, whatever it was answered
-check_is_idle : (pairs : List Pair) (p : Pair) → is_check p.command ≡ true → IsIdle pairs p
-check_is_idle pairs p h =
-    quiet_is_idle pairs p (quiet p.command (check_changes_none (kind_of p.command) h))
+check_is_idle : (profile : Profile) (pairs : List Pair) (p : Pair) → is_check p.command ≡ true → IsIdle profile pairs p
+check_is_idle profile pairs p h =
+    quiet_is_idle profile pairs p (quiet p.command (check_changes_none (kind_of p.command) h))
 
 -- pairs none of which ends a window change nothing
-unchanged : (before xs : List Pair) → AllByRecursion (λ (p : Pair). closes p ≡ false) xs
-    → (signature_after (before ++ xs) ≡ signature_after before)
-    × (assertions_after (before ++ xs) ≡ assertions_after before)
-unchanged before [] h = (ap signature_after (append-nil before), ap assertions_after (append-nil before))
-unchanged before (p ∷ ps) h =
-    let here = open_is_idle before p h.0 in
-    let there = unchanged (before ++ p ∷ []) ps h.1 in (
-      ap signature_after (sym (append_assoc before (p ∷ []) ps)) ∙ there.0 ∙ here.signature,
-      ap assertions_after (sym (append_assoc before (p ∷ []) ps)) ∙ there.1 ∙ here.assertions,
+unchanged : (profile : Profile) (before xs : List Pair) → AllByRecursion (λ (p : Pair). closes p ≡ false) xs
+    → (signature_after profile (before ++ xs) ≡ signature_after profile before)
+    × (assertions_after profile (before ++ xs) ≡ assertions_after profile before)
+unchanged profile before [] h =
+    (ap (signature_after profile) (append-nil before), ap (assertions_after profile) (append-nil before))
+unchanged profile before (p ∷ ps) h =
+    let here = open_is_idle profile before p h.0 in
+    let there = unchanged profile (before ++ p ∷ []) ps h.1 in (
+      ap (signature_after profile) (sym (append_assoc before (p ∷ []) ps)) ∙ there.0 ∙ here.signature,
+      ap (assertions_after profile) (sym (append_assoc before (p ∷ []) ps)) ∙ there.1 ∙ here.assertions,
     )
 
 first_of : (p : Pair → Type 0) (xs ys : List Pair) → AllByRecursion p (xs ++ ys) → AllByRecursion p xs
@@ -61,17 +63,18 @@ all_open (p ∷ ps) = by (closes p) refl (all_open ps)
     by true is later = tt
     by false is later = (is, later)
 
-pub nothing_changes : (before after first last : List Pair) (check : Pair) → is_check check.command ≡ true
+pub nothing_changes : (profile : Profile) (before after first last : List Pair) (check : Pair)
+    → is_check check.command ≡ true
     → window after ≡ first ++ last
-    → (signature_after (before ++ check ∷ first) ≡ signature_after before)
-    × (assertions_after (before ++ check ∷ first) ≡ assertions_after before)
-nothing_changes before after first last check is parts =
-    let here = check_is_idle before check is in
+    → (signature_after profile (before ++ check ∷ first) ≡ signature_after profile before)
+    × (assertions_after profile (before ++ check ∷ first) ≡ assertions_after profile before)
+nothing_changes profile before after first last check is parts =
+    let here = check_is_idle profile before check is in
     let some = first_of (λ (p : Pair). closes p ≡ false) first last
     (subst (AllByRecursion (λ (p : Pair). closes p ≡ false)) parts (all_open after)) in
-    let there = unchanged (before ++ check ∷ []) first some in (
-      ap signature_after (sym (append_assoc before (check ∷ []) first)) ∙ there.0 ∙ here.signature,
-      ap assertions_after (sym (append_assoc before (check ∷ []) first)) ∙ there.1 ∙ here.assertions,
+    let there = unchanged profile (before ++ check ∷ []) first some in (
+      ap (signature_after profile) (sym (append_assoc before (check ∷ []) first)) ∙ there.0 ∙ here.signature,
+      ap (assertions_after profile) (sym (append_assoc before (check ∷ []) first)) ∙ there.1 ∙ here.assertions,
     )
 
 -- pairs none of which ends a window leave the assumptions as they are

@@ -3,6 +3,8 @@
 -- solvers print.
 use Rattle.std.specs.Prelude.{Bool, true, false, not, ◌||◌, Option, Some, None, codes, if◌then◌else◌}
 use Rattle.smt_trees.specs.Sexp.{Sexp, Atom, Items, Nil, Cons, Text, is_symbol}
+use Rattle.smt_theory.specs.declared.profile.Profile.{Profile}
+use Rattle.smt_theory.specs.declared.profile.Profile.TheVariants.{Base, Wide}
 use Rattle.smt_script.specs.Command.{Command, kind_of}
 use Rattle.smt_script.specs.declared.command.Kind.{Kind}
 use Rattle.smt_script.specs.declared.command.Kind.TheVariants as kinds
@@ -53,22 +55,28 @@ has_form forms.Other answer = not (is_symbol (codes "success") answer)
 abbrev pub general_need : Need
 general_need = Needed forms.General
 
+-- what a command that sets a logic needs where `success` is not printed: in Wide it may be told that its logic
+-- is not known
+abbrev pub silent_logic_need : Profile → Need
+silent_logic_need Base = Nothing
+silent_logic_need Wide = Optional forms.Unsupported
+
 -- what a command needs of the answers, where `success` is printed for a command that has no answer of its
 -- own, or is not. A command that sets whether it is printed goes by the value that it sets
-abbrev pub need_of_kind : Bool → Kind → Need
-need_of_kind on kinds.Check = Needed forms.Check
-need_of_kind on kinds.Model = Needed forms.Model
-need_of_kind on kinds.Echo = Needed forms.Echo
-need_of_kind on kinds.Query = Needed forms.Other
-need_of_kind on kinds.Exit = Optional forms.Success
-need_of_kind on (kinds.PrintSuccess value) = if value then general_need else Optional forms.General
-need_of_kind on kinds.Setting = if on then general_need else Optional forms.Unsupported
-need_of_kind on kinds.Logic = if on then general_need else Nothing
-need_of_kind on kinds.Change = if on then general_need else Nothing
-need_of_kind on kinds.Reset = if on then general_need else Nothing
+abbrev pub need_of_kind : Profile → Bool → Kind → Need
+need_of_kind profile on kinds.Check = Needed forms.Check
+need_of_kind profile on kinds.Model = Needed forms.Model
+need_of_kind profile on kinds.Echo = Needed forms.Echo
+need_of_kind profile on kinds.Query = Needed forms.Other
+need_of_kind profile on kinds.Exit = Optional forms.Success
+need_of_kind profile on (kinds.PrintSuccess value) = if value then general_need else Optional forms.General
+need_of_kind profile on kinds.Setting = if on then general_need else Optional forms.Unsupported
+need_of_kind profile on kinds.Logic = if on then general_need else silent_logic_need profile
+need_of_kind profile on kinds.Change = if on then general_need else Nothing
+need_of_kind profile on kinds.Reset = if on then general_need else Nothing
 
-abbrev pub need_of : Bool → Command → Need
-need_of on command = need_of_kind on (kind_of command)
+abbrev pub need_of : Profile → Bool → Command → Need
+need_of profile on command = need_of_kind profile on (kind_of command)
 
 -- what is taken for a command: an answer or none; or it waits for one; or one is missing; or the next one is
 -- unfit

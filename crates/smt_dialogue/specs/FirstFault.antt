@@ -4,7 +4,9 @@ use Rattle.std.specs.Prelude.{ℕ, ◌+◌, List, length, Bool, true, false, ◌
 use Rattle.std.specs.Prelude.{Result, Ok, Err, if◌then◌else◌}
 use Rattle.smt_trees.specs.Sexp.{Sexps, Nil, Cons}
 use Rattle.smt_faults.specs.declared.text_flaw.TextFlaw.{TextFlaw}
+use Rattle.smt_theory.specs.declared.profile.Profile.{Profile}
 use Rattle.smt_script.specs.Command.{Command, command_of}
+use Rattle.smt_script.specs.declared.stack.Start.{Start}
 use Rattle.smt_faults.specs.declared.command_flaw.CommandFlaw.{CommandFlaw}
 use Rattle.smt_faults.specs.declared.command_flaw.CommandFlaw.TheVariants.{AfterExit}
 use Rattle.smt_dialogue.specs.Answers as answers
@@ -53,19 +55,19 @@ want_of_answer n (Some fault) = lines.TextFault Answers fault
 
 -- a command, by what it takes of the answers: its effect decides where that is what it needs. A check that
 -- waits closes every window
-abbrev pub turn_of_taken : List Pair → Command → Option TextFlaw → Taken → Turn
-turn_of_taken pairs command fault (Takes answer) =
-    turn_of_flaw (length pairs + 1) (flaw_of_pair pairs (pair_of command answer))
-turn_of_taken pairs command fault answers.Waits = Waits (is_check command)
-turn_of_taken pairs command fault Missing = Ends (Some (want_of_answer (length pairs + 1) fault))
-turn_of_taken pairs command fault Unexpected =
+abbrev pub turn_of_taken : Profile → List Pair → Command → Option TextFlaw → Taken → Turn
+turn_of_taken profile pairs command fault (Takes answer) =
+    turn_of_flaw (length pairs + 1) (flaw_of_pair profile pairs (pair_of command answer))
+turn_of_taken profile pairs command fault answers.Waits = Waits (is_check command)
+turn_of_taken profile pairs command fault Missing = Ends (Some (want_of_answer (length pairs + 1) fault))
+turn_of_taken profile pairs command fault Unexpected =
     Ends (Some (lines.UnexpectedAnswer (length pairs + 1) (answers_taken pairs + 1)))
 
-abbrev pub turn_of_command : Bool → List Pair → Result Command CommandFlaw → TextSoFar → Turn
-turn_of_command initial pairs (Err flaw) answers = Ends (Some (lines.CommandFault (length pairs + 1) flaw))
-turn_of_command initial pairs (Ok command) answers =
-    turn_of_taken pairs command answers.fault
-    (taken (is_over answers) (need_after initial pairs command) (next_of answers.trees))
+abbrev pub turn_of_command : Start → List Pair → Result Command CommandFlaw → TextSoFar → Turn
+turn_of_command start pairs (Err flaw) answers = Ends (Some (lines.CommandFault (length pairs + 1) flaw))
+turn_of_command start pairs (Ok command) answers =
+    turn_of_taken start.profile pairs command answers.fault
+    (taken (is_over answers) (need_after start pairs command) (next_of answers.trees))
 
 -- after the last answer: the fault of the answers, or their end, for which the dialogue waits
 abbrev pub turn_of_end : Bool → Option TextFlaw → Turn
@@ -79,14 +81,14 @@ turn_of_rest pairs told fault Nil = turn_of_end told fault
 
 -- the turn behind pairs, of what is left of the script: its trees, its fault, and whether its end was told.
 -- No command comes behind an `exit`
-abbrev pub turn_at : Bool → List Pair → TextSoFar → Bool → Option TextFlaw → Sexps → Turn
-turn_at initial pairs answers told fault (Cons tree trees) =
+abbrev pub turn_at : Start → List Pair → TextSoFar → Bool → Option TextFlaw → Sexps → Turn
+turn_at start pairs answers told fault (Cons tree trees) =
     if has_exited_after pairs then Ends (Some (lines.CommandFault (length pairs + 1) AfterExit))
-    else turn_of_command initial pairs (command_of tree) answers
-turn_at initial pairs answers told (Some fault) Nil = Ends (Some (lines.TextFault Script fault))
-turn_at initial pairs answers told None Nil =
+    else turn_of_command start pairs (command_of start.profile tree) answers
+turn_at start pairs answers told (Some fault) Nil = Ends (Some (lines.TextFault Script fault))
+turn_at start pairs answers told None Nil =
     if told then turn_of_rest pairs answers.told answers.fault answers.trees else Waits false
 
 -- the turn behind pairs, of what is left of both texts
-abbrev pub turn_after : Bool → List Pair → (script answers : TextSoFar) → Turn
-turn_after initial pairs script answers = turn_at initial pairs answers script.told script.fault script.trees
+abbrev pub turn_after : Start → List Pair → (script answers : TextSoFar) → Turn
+turn_after start pairs script answers = turn_at start pairs answers script.told script.fault script.trees

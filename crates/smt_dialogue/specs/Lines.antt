@@ -11,6 +11,7 @@ use Rattle.smt_dialogue.specs.Answers.{is_error}
 use Rattle.smt_dialogue.specs.Pairs.{Pair, checks_in}
 use Rattle.smt_dialogue.specs.Window.{Printed, closes, models_from, window}
 use Rattle.smt_dialogue.specs.Judgement.{Claimed, all_claims, judgement_of}
+use Rattle.smt_theory.specs.declared.profile.Profile.{Profile}
 use Rattle.smt_terms.specs.Signature.{Signature}
 use Rattle.smt_dialogue.specs.declared.judgement.Judgement.{Judgement}
 use Rattle.smt_dialogue.specs.declared.judgement.Judgement.TheVariants as judgements
@@ -72,29 +73,31 @@ unchecked_line_or k n (Some answer) others = lines.Unchecked k n answer ∷ []
 unchecked_line_or k n None others = others
 
 -- what a check behind pairs claims of its models
-abbrev pub claims_of_check : List Pair → Command → List Claimed
-claims_of_check before check = all_claims (assertions_after before) (literals_of check)
+abbrev pub claims_of_check : Profile → List Pair → Command → List Claimed
+claims_of_check profile before check = all_claims (assertions_after profile before) (literals_of check)
 
 -- the lines of a check with these claims and its answer
-abbrev pub lines_of_answer : ℕ → Bool → List Pair → List Claimed → ℕ → Option Sexp → List Pair → List Line
-lines_of_answer limit closed before claims k None after = []
-lines_of_answer limit closed before claims k (Some answer) after =
+abbrev pub lines_of_answer : Profile → ℕ → Bool → List Pair → List Claimed → ℕ → Option Sexp → List Pair
+    → List Line
+lines_of_answer profile limit closed before claims k None after = []
+lines_of_answer profile limit closed before claims k (Some answer) after =
     let n = length before + 1 in
     unchecked_line_or k n (unchecked_answer answer)
     (if is_symbol (codes "sat") answer
-    then lines_of_sat limit closed k n (signature_after before) claims (n + 1) after else [])
+    then lines_of_sat limit closed k n (signature_after profile before) claims (n + 1) after else [])
 
 -- the lines that a pair has, for what stands before and after it: a check has one, once it is decided
-abbrev pub lines_of_pair : ℕ → Bool → List Pair → Pair → List Pair → List Line
-lines_of_pair limit closed before pair after =
+abbrev pub lines_of_pair : Profile → ℕ → Bool → List Pair → Pair → List Pair → List Line
+lines_of_pair profile limit closed before pair after =
     if is_check pair.command
-    then lines_of_answer limit closed before (claims_of_check before pair.command) (checks_in before + 1)
-    pair.answer after
+    then lines_of_answer profile limit closed before (claims_of_check profile before pair.command)
+    (checks_in before + 1) pair.answer after
     else []
 
 -- the lines that pairs have, for what stands before and after them; `closed` says that every window is closed
 -- behind these
-abbrev pub lines_in : ℕ → Bool → List Pair → List Pair → List Pair → List Line
-lines_in limit closed before [] after = []
-lines_in limit closed before (pair ∷ pairs) after =
-    lines_of_pair limit closed before pair (pairs ++ after) ++ lines_in limit closed (before ++ pair ∷ []) pairs after
+abbrev pub lines_in : Profile → ℕ → Bool → List Pair → List Pair → List Pair → List Line
+lines_in profile limit closed before [] after = []
+lines_in profile limit closed before (pair ∷ pairs) after =
+    lines_of_pair profile limit closed before pair (pairs ++ after)
+    ++ lines_in profile limit closed (before ++ pair ∷ []) pairs after

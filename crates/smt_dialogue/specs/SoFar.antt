@@ -2,7 +2,9 @@
 -- rule.
 use Rattle.std.specs.Prelude.{◌≡◌, ℕ, List, [], ◌++◌, Bool, true, false}
 use Rattle.smt_trees.specs.Sexp.{Sexps, Nil, append}
+use Rattle.smt_theory.specs.declared.profile.Profile.{Profile}
 use Rattle.smt_dialogue.specs.FirstFault.{Ends, GoesOn, IsRest, TextSoFar, Turn, Waits, is_over}
+use Rattle.smt_dialogue.specs.InForce.{start_by}
 use Rattle.smt_dialogue.specs.Lines.{lines_in}
 use Rattle.smt_dialogue.specs.Pairs.{Pair}
 use Rattle.smt_dialogue.specs.Report.{IsRead, IsTurn, lines_at_end}
@@ -12,18 +14,18 @@ use Rattle.smt_report.specs.declared.line.Line.TheVariants as lines
 
 -- the lines behind pairs where it is this turn: all, where the dialogue ends; where it waits, those of the
 -- checks that are decided
-abbrev pub lines_at : ℕ → List Pair → Turn → List Line
-lines_at steps pairs GoesOn = []
-lines_at steps pairs (Waits closed) = lines_in steps closed [] pairs []
-lines_at steps pairs (Ends fault) = lines_at_end steps pairs fault
+abbrev pub lines_at : Profile → ℕ → List Pair → Turn → List Line
+lines_at profile steps pairs GoesOn = []
+lines_at profile steps pairs (Waits closed) = lines_in profile steps closed [] pairs []
+lines_at profile steps pairs (Ends fault) = lines_at_end profile steps pairs fault
 
 -- the lines of a dialogue of these texts, which waits or has ended
 pub record AreLinesSoFar (options : Options) (script answers : TextSoFar) (ls : List Line) : Type 0 where
   pub pairs : List Pair
   pub turn : Turn
   pub rests : IsRest turn
-  pub turn_is : IsTurn options.print_success script answers pairs turn
-  pub lines_are : ls ≡ lines_at options.limit.steps pairs turn
+  pub turn_is : IsTurn (start_by options) script answers pairs turn
+  pub lines_are : ls ≡ lines_at options.profile options.limit.steps pairs turn
 
 -- the lines so far of a script and answers, whose ends were told or not
 pub record IsSoFar (options : Options) (script_told : Bool) (script : List ℕ) (answers_told : Bool)

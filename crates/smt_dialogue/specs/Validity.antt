@@ -1,8 +1,9 @@
 -- What a valid and an invalid verdict mean, in the words of the standard and beside the report.
 use Rattle.std.specs.Prelude.{◌≡◌, ℕ, ◌+◌, List, [], ◌∷◌, ◌++◌, length, true, false, Some, Ok, codes, slice_get}
 use Rattle.std.specs.List.{AllByRecursion}
-use Rattle.smt_text.specs.Grammar.{Forest, limit}
+use Rattle.smt_text.specs.Grammar.{Forest, max_depth}
 use Rattle.smt_trees.specs.Sexp.{Sexp, Sexps, Nil, is_symbol}
+use Rattle.smt_theory.specs.declared.profile.Profile.{Profile}
 use Rattle.smt_theory.specs.declared.sort.Sort.TheVariants.{Bool as Boolean}
 use Rattle.smt_values.specs.Element.{Truth}
 use Rattle.smt_values.specs.Operations.{DivisionByZero}
@@ -13,7 +14,7 @@ use Rattle.smt_eval.specs.Meaning.{value_over}
 use Rattle.smt_eval.specs.Structure.{IsStructure}
 use Rattle.smt_script.specs.Command.{Assert}
 use Rattle.smt_script.specs.Stack.{Stands, literals_of}
-use Rattle.smt_dialogue.specs.InForce.{signature_after}
+use Rattle.smt_dialogue.specs.InForce.{signature_after, start_by}
 use Rattle.smt_script.specs.Command.{is_check}
 use Rattle.smt_dialogue.specs.Pairing.{IsPairing}
 use Rattle.smt_dialogue.specs.Pairs.{Pair, checks_in, effective_commands, is_effective}
@@ -27,10 +28,10 @@ use Rattle.smt_report.specs.declared.line.Line.TheVariants.{Refuted}
 -- both texts are of trees, and the pairs pair every command with every answer
 pub record IsFullyPaired (options : Options) (script answers : List ℕ) (pairs : List Pair) : Type 0 where
   pub script_trees : Sexps
-  pub script_forest : Forest limit script script_trees
+  pub script_forest : Forest max_depth script script_trees
   pub answer_trees : Sexps
-  pub answers_forest : Forest limit answers answer_trees
-  pub pairing : IsPairing options.print_success pairs script_trees Nil answer_trees Nil
+  pub answers_forest : Forest max_depth answers answer_trees
+  pub pairing : IsPairing (start_by options) pairs script_trees Nil answer_trees Nil
 
 -- the pair is a check that was answered `sat`
 pub record IsSatCheck (pair : Pair) : Type 0 where
@@ -72,35 +73,35 @@ names_of_claim (Assumption place) names = names
 -- structure. And all that the check claims, every assertion in force and every assumption of the check, is well
 -- sorted under the names in force before its command, and true in that structure, whatever division by zero
 -- gives
-pub record IsTrueModel (before : List Pair) (check : Pair) (parts : Sexps) : Type 0 where
+pub record IsTrueModel (profile : Profile) (before : List Pair) (check : Pair) (parts : Sexps) : Type 0 where
   pub definitions : Signature
-  pub model : IsModelOf (signature_after before) parts definitions
-  pub structure : IsStructure (structure_at definitions before)
+  pub model : IsModelOf (signature_after profile before) parts definitions
+  pub structure : IsStructure (structure_at profile definitions before)
   pub sorted : (claim : Claim) (earlier : List Pair) (term : Sexp) → IsClaimed before check claim earlier term
-      → sort_in (names_of_claim claim (names_of (signature_after earlier))) [] term ≡ Ok Boolean
+      → sort_in (names_of_claim claim (names_of (signature_after profile earlier))) [] term ≡ Ok Boolean
   pub true_in : (z : DivisionByZero) (claim : Claim) (earlier : List Pair) (term : Sexp)
       → IsClaimed before check claim earlier term
-      → value_over z (structure_at definitions before) [] term ≡ Truth true
+      → value_over z (structure_at profile definitions before) [] term ≡ Truth true
 
 -- a check that was answered `sat`, behind the pairs before it, has a model in its window, and each model
 -- there is a true one
-pub record IsConfirmed (before : List Pair) (check : Pair) (after : List Pair) : Type 0 where
+pub record IsConfirmed (profile : Profile) (before : List Pair) (check : Pair) (after : List Pair) : Type 0 where
   pub first : Printed
   pub others : List Printed
   pub models : models_from (length before + 2) (window after) ≡ first ∷ others
-  pub true_models : AllByRecursion (λ (m : Printed). IsTrueModel before check m.parts) (first ∷ others)
+  pub true_models : AllByRecursion (λ (m : Printed). IsTrueModel profile before check m.parts) (first ∷ others)
 
 -- what a valid verdict means. No other pairing of all commands exists, whatever answers it might leave
 pub record IsValid (options : Options) (script answers : List ℕ) : Type 0 where
   pub pairs : List Pair
   pub paired : IsFullyPaired options script answers pairs
-  pub only : (others : List Pair) (script_trees answer_trees rest : Sexps) → Forest limit script script_trees
-      → Forest limit answers answer_trees
-      → IsPairing options.print_success others script_trees Nil answer_trees rest
+  pub only : (others : List Pair) (script_trees answer_trees rest : Sexps) → Forest max_depth script script_trees
+      → Forest max_depth answers answer_trees
+      → IsPairing (start_by options) others script_trees Nil answer_trees rest
       → (others ≡ pairs) × (rest ≡ Nil)
   pub confirmed : (before after : List Pair) (check : Pair) → pairs ≡ before ++ check ∷ after
       → IsSatCheck check
-      → IsConfirmed before check after
+      → IsConfirmed options.profile before check after
 
 -- what an invalid verdict means: in the window of a check that was answered `sat` stands a model of the names
 -- in force, which with the script's definitions gives a structure that makes a claim of the check, a
@@ -119,14 +120,15 @@ pub record IsInvalid (options : Options) (script answers : List ℕ) (ls : List 
   pub models_after : List Printed
   pub models : models_from (length before + 2) (window after) ≡ models_before ++ model ∷ models_after
   pub definitions : Signature
-  pub model_of : IsModelOf (signature_after before) model.parts definitions
-  pub structure : IsStructure (structure_at definitions before)
+  pub model_of : IsModelOf (signature_after options.profile before) model.parts definitions
+  pub structure : IsStructure (structure_at options.profile definitions before)
   pub claim : Claim
   pub earlier : List Pair
   pub term : Sexp
   pub claimed : IsClaimed before check claim earlier term
-  pub sorted : sort_in (names_of_claim claim (names_of (signature_after earlier))) [] term ≡ Ok Boolean
-  pub false_in : (z : DivisionByZero) → value_over z (structure_at definitions before) [] term ≡ Truth false
+  pub sorted : sort_in (names_of_claim claim (names_of (signature_after options.profile earlier))) [] term ≡ Ok Boolean
+  pub false_in : (z : DivisionByZero)
+      → value_over z (structure_at options.profile definitions before) [] term ≡ Truth false
   pub lines_before : List Line
   pub lines_after : List Line
   pub line : ls ≡ lines_before ++ Refuted (checks_in before + 1) (length before + 1) model.command claim

@@ -2,6 +2,7 @@
 use Rattle.std.specs.Prelude.{ℕ, ◌+◌, List, [], ◌∷◌, ◌++◌, Bool, true, false, ◌&&◌, ◌||◌, Option, Some}
 use Rattle.std.specs.Prelude.{if◌then◌else◌}
 use Rattle.smt_trees.specs.Sexp.{Sexp, Sexps, Items}
+use Rattle.smt_theory.specs.declared.profile.Profile.{Profile}
 use Rattle.smt_terms.specs.Signature.{Signature}
 use Rattle.smt_eval.specs.Structure.{structure_of}
 use Rattle.smt_script.specs.Command.{Command, closes_window, is_check, kind_of}
@@ -17,8 +18,8 @@ closes pair = is_check pair.command || closes_window pair.command && is_effectiv
 
 -- the structure of a check behind these pairs, over the definitions of a model: those, and then the script's
 -- definitions in force
-abbrev pub structure_at : Signature → List Pair → Signature
-structure_at definitions before = structure_of (signature_after before) definitions
+abbrev pub structure_at : Profile → Signature → List Pair → Signature
+structure_at profile definitions before = structure_of (signature_after profile before) definitions
 
 -- the pairs up to the first that ends the window
 abbrev pub window : List Pair → List Pair

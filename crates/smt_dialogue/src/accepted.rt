@@ -1,4 +1,5 @@
-//! The dialogue so far: what is in force, the checks, and the lines of the report.
+//! The dialogue so far: what is in force, the checks, and the lines of the report. This file pairs nothing: it is
+//! handed each command with its answer.
 
 ghost use Rattle.std.specs.Prelude.{Bool, ◌≡◌, ◌≤◌, ◌<◌, ◌+◌, ◌^◌, ◌++◌, ◌∷◌, List, [], None, Some, true};
 ghost use Rattle.std.specs.Prelude.{IfOk, IfErr, OnErr, OnOk, false, is_some, option_map};
@@ -7,7 +8,7 @@ ghost use Rattle.smt_script.specs.Command.{is_check, kind_of};
 ghost use Rattle.smt_script.specs.CommandView.{command_view};
 ghost use Rattle.smt_script.specs.Stack.{Numbered};
 ghost use Rattle.smt_script.specs.StackView as stacks;
-ghost use Rattle.smt_script.specs.StackView.{last_of, initial_print_success_of};
+ghost use Rattle.smt_script.specs.StackView.{last_of, profile_of, start_of};
 ghost use Rattle.smt_faults.specs.Faults.{flaw_of_command_fault};
 ghost use Rattle.smt_faults.specs.Outcome.{TellsCommand};
 ghost use Rattle.smt_faults.specs.declared.command_flaw.CommandFlaw.{CommandFlaw};
@@ -53,7 +54,7 @@ impl AcceptedPairs {
         ensures start { options_of result ≡ options }
     {
         AcceptedPairs {
-            stack: Stack::new(alloc, options.print_success),
+            stack: Stack::new(alloc, options.start()),
             checks: Checks::new(alloc, options.limit),
             decided: LineQueue::new(alloc),
             commands: 0,
@@ -89,14 +90,14 @@ impl AcceptedPairs {
         ensures accepted { OnOk result ((taken : List ReportLine) (early : Bool) (pairs : List Pair)
             → Fits early (state_behind taken self.old) pairs
             → (early ≡ true → is_check (command_view command.now) ≡ true)
-            → (flaw_of_pair pairs (answered command.now answer.old) ≡ None)
+            → (flaw_of_pair (profile_of self.old.stack) pairs (answered command.now answer.old) ≡ None)
             × StandsFor (state_behind taken self.new)
             (pairs ++ answered command.now answer.old ∷ [])) }
         ensures refused { IfErr result
             (λ fault. (flaw : CommandFlaw) → flaw_of_command_fault fault ≡ Some flaw
             → (taken : List ReportLine) (early : Bool) (pairs : List Pair)
             → Fits early (state_behind taken self.old) pairs
-            → (flaw_of_pair pairs (answered command.now answer.old) ≡ Some flaw)
+            → (flaw_of_pair (profile_of self.old.stack) pairs (answered command.now answer.old) ≡ Some flaw)
             × Fits early (state_behind taken self.new) pairs) }
         ensures kept { IsBeginning self.old.decided.lines.items self.new.decided.lines.items }
         ensures cut { OnErr result (self.new.decided.lines.items ≡ self.old.decided.lines.items) }
@@ -136,7 +137,7 @@ impl AcceptedPairs {
             → Fits early (state_behind taken self.old) pairs → (early ≡ true → closed ≡ true)
             → Fits closed (state_behind taken self.new) pairs
             × (taken ++ self.new.decided.lines.items
-            ≡ lines_in self.new.checks.limit.steps closed [] pairs [])) }
+            ≡ lines_in (profile_of self.new.stack) self.new.checks.limit.steps closed [] pairs [])) }
         ensures kept { IsBeginning self.old.decided.lines.items self.new.decided.lines.items }
         ensures cut { OnErr result (self.new.decided.lines.items ≡ self.old.decided.lines.items) }
         ensures start { options_of self.new ≡ options_of self.old }
@@ -157,13 +158,13 @@ impl AcceptedPairs {
             (pairs : List Pair)
             → Fits early (state_behind taken self.old) pairs
             → (taken ++ self.new.decided.lines.items
-            ≡ lines_at_end self.old.checks.limit.steps pairs fault)
-            × (verdict ≡ verdict_of (lines_in self.old.checks.limit.steps true [] pairs [] ++
-            lines_of_end fault))) }
+            ≡ lines_at_end (profile_of self.old.stack) self.old.checks.limit.steps pairs fault)
+            × (verdict ≡ verdict_of (lines_in (profile_of self.old.stack) self.old.checks.limit.steps true []
+            pairs [] ++ lines_of_end fault))) }
         ensures cut { OnErr result ((taken : List ReportLine) (early : Bool) (pairs : List Pair)
             → Fits early (state_behind taken self.old) pairs
             → IsBeginning (taken ++ self.new.decided.lines.items)
-            (lines_at_end self.old.checks.limit.steps pairs fault)
+            (lines_at_end (profile_of self.old.stack) self.old.checks.limit.steps pairs fault)
             × (list_any is_verdict_line (taken ++ self.new.decided.lines.items) ≡ false)) }
         ensures kept { IsBeginning self.old.decided.lines.items self.new.decided.lines.items }
     {
@@ -200,7 +201,7 @@ fn apply_if(
     requires last { last_of stack.old < number }
     requires known { AreKnown answer.now }
     ensures applied { OnOk result ((commands : List Numbered) → stacks.StandsFor stack.old commands
-        → (flaw_if (is_effective_with (option_map tree_of answer.now)) commands number
+        → (flaw_if (profile_of stack.old) (is_effective_with (option_map tree_of answer.now)) commands number
         (command_view command.now) ≡ None)
         × stacks.StandsFor stack.new (commands
         ++ numbered_if (is_effective_with (option_map tree_of answer.now)) number
@@ -208,12 +209,12 @@ fn apply_if(
     ensures last { OnOk result (last_of stack.new ≤ number) }
     ensures refused { IfErr result (λ fault. (commands : List Numbered)
         → stacks.StandsFor stack.old commands
-        → TellsCommand (flaw_if (is_effective_with (option_map tree_of answer.now)) commands number
-        (command_view command.now)) fault) }
+        → TellsCommand (flaw_if (profile_of stack.old) (is_effective_with (option_map tree_of answer.now)) commands
+        number (command_view command.now)) fault) }
     ensures unchanged { OnErr result
         (((commands : List Numbered) → stacks.StandsFor stack.old commands
         → stacks.StandsFor stack.new commands) × (last_of stack.new ≡ last_of stack.old)) }
-    ensures start { initial_print_success_of stack.new ≡ initial_print_success_of stack.old }
+    ensures start { start_of stack.new ≡ start_of stack.old }
 {
     if took_effect(answer) {
         stack.apply(number, command)

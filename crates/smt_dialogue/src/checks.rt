@@ -4,7 +4,7 @@
 ghost use Rattle.std.specs.Prelude.{◌≡◌, ◌<◌, ◌+◌, ◌^◌, List, None, IfOk, Some, if◌then◌else◌, option_map, true};
 ghost use Rattle.smt_trees.specs.Tree.{sexp_of};
 ghost use Rattle.smt_script.specs.Stack.{Numbered, signature_in_force};
-ghost use Rattle.smt_script.specs.StackView.{StandsFor};
+ghost use Rattle.smt_script.specs.StackView.{StandsFor, profile_of};
 ghost use Rattle.smt_dialogue.specs.Answers.{is_effective_with};
 ghost use Rattle.smt_dialogue.specs.Lines as check_lines;
 ghost use Rattle.smt_dialogue.specs.Internal.AnswerView.{AreKnown, answer_of, tree_of};
@@ -93,8 +93,8 @@ impl Checks {
         ensures limit { self.new.limit ≡ self.old.limit }
         ensures checks { IfOk result (λ lines. (commands : List Numbered)
             → StandsFor stack.now commands → step_of self.new lines
-            ≡ checks_after (checks_state self.old) (signature_in_force commands)
-            (claims_in_force commands) number kind (option_map tree_of answer.old)) }
+            ≡ checks_after (checks_state self.old) (signature_in_force (profile_of stack.now) commands)
+            (claims_in_force (profile_of stack.now) commands) number kind (option_map tree_of answer.old)) }
     {
         match kind {
             Kind::Check => Ok(self.take_check(number, answer)),
@@ -160,8 +160,8 @@ impl Checks {
         ensures limit { self.new.limit ≡ self.old.limit }
         ensures checks { IfOk result (λ lines. (commands : List Numbered)
             → StandsFor stack.now commands → step_of self.new lines
-            ≡ with_models (checks_state self.old) self.old.pending (signature_in_force commands)
-            (claims_in_force commands) number (is_effective_with (option_map tree_of answer.old))
+            ≡ with_models (checks_state self.old) self.old.pending (signature_in_force (profile_of stack.now) commands)
+            (claims_in_force (profile_of stack.now) commands) number (is_effective_with (option_map tree_of answer.old))
             (option_map tree_of answer.old)) }
     {
         let Some(pending) = self.pending else {
@@ -192,8 +192,8 @@ impl Checks {
             → StandsFor stack.now commands → step_of self.new lines
             ≡ with_line (checks_state self.old) pending
             (check_lines.line_of_judgement pending.check pending.command number
-            (judgement_of self.old.limit.steps (signature_in_force commands)
-            (claims_in_force commands)
+            (judgement_of self.old.limit.steps (signature_in_force (profile_of stack.now) commands)
+            (claims_in_force (profile_of stack.now) commands)
             model.old))) }
     {
         let judgement = judge(&mut self.machine, stack, model, self.limit)?;

@@ -3,7 +3,7 @@
 ghost use Rattle.std.specs.Prelude.{◌≡◌, ◌∷◌, ℕ, List, [], MatchOption};
 ghost use Rattle.smt_terms.specs.Library.{terms_of};
 ghost use Rattle.smt_script.specs.Stack.{Numbered};
-ghost use Rattle.smt_script.specs.StackView.{StandsFor, library_of};
+ghost use Rattle.smt_script.specs.StackView.{StandsFor, library_of, profile_of};
 ghost use Rattle.smt_dialogue.specs.Internal.Claims.{AreClaimed, claims_in_force, claims_left};
 
 use smt_report::Claim;
@@ -31,7 +31,8 @@ impl<'a> Claims<'a> {
     /// All of them.
     pub(crate) fn new(stack: &'a Stack) -> Claims<'a>
         ensures { (commands : List Numbered) → StandsFor stack.now commands
-            → AreClaimed (terms_of (library_of stack.now)) (claims_left result) (claims_in_force commands) }
+            → AreClaimed (terms_of (library_of stack.now)) (claims_left result)
+            (claims_in_force (profile_of stack.now) commands) }
     {
         held_terms_are_terms();
         Claims {

@@ -10,7 +10,7 @@ ghost use Rattle.smt_terms.specs.Signature.{Signature};
 ghost use Rattle.smt_eval.specs.Interpretation.{Fits, IsInterpretation, KeepsCosts, Serves};
 ghost use Rattle.smt_eval.specs.Structure.{structure_of};
 ghost use Rattle.smt_script.specs.Stack.{Numbered, signature_in_force};
-ghost use Rattle.smt_script.specs.StackView.{StandsFor};
+ghost use Rattle.smt_script.specs.StackView.{StandsFor, profile_of};
 ghost use Rattle.smt_dialogue.specs.Internal.Claims.{AreClaimed, claims_in_force, claims_left};
 ghost use Rattle.smt_dialogue.specs.Judgement as spec;
 ghost use Rattle.smt_dialogue.specs.Judgement.{Claimed, claims_cost, judged_over, judged_within};
@@ -58,8 +58,8 @@ pub(crate) fn judge(
 ) -> Result<Judgement, Memory>
     requires { (commands : List Numbered) × StandsFor stack.now commands }
     ensures { (commands : List Numbered) → StandsFor stack.now commands
-        → IfOk result (λ j. j ≡ judgement_of limit.steps (signature_in_force commands)
-        (claims_in_force commands) model.old) }
+        → IfOk result (λ j. j ≡ judgement_of limit.steps (signature_in_force (profile_of stack.now) commands)
+        (claims_in_force (profile_of stack.now) commands) model.old) }
 {
     let library = stack.library();
     let read = Interpretation::read(library, model);

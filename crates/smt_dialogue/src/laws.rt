@@ -5,9 +5,9 @@ pub mod answers;
 pub mod so_far;
 pub mod windows;
 
-ghost use Rattle.std.specs.Prelude.{◌≡◌, ◌≤◌, ◌<◌, ℕ, ◌+◌, List, [], ◌∷◌, ◌++◌, length, Bool, true, false, ◌&&◌};
+ghost use Rattle.std.specs.Prelude.{◌≡◌, ◌≤◌, ◌<◌, ℕ, ◌+◌, List, [], ◌∷◌, ◌++◌, length, true, false, ◌&&◌};
 ghost use Rattle.std.specs.Prelude.{Option, Ok, Err};
-ghost use Rattle.smt_text.specs.Grammar.{Forest, limit};
+ghost use Rattle.smt_text.specs.Grammar.{Forest, max_depth};
 ghost use Rattle.smt_trees.specs.Sexp.{Sexp, Sexps, Nil};
 ghost use Rattle.smt_theory.specs.declared.sort.Sort.TheVariants.{Bool as Boolean};
 ghost use Rattle.smt_values.specs.Element.{Truth};
@@ -23,6 +23,9 @@ ghost use Rattle.smt_script.specs.Command.{Assert};
 ghost use Rattle.smt_script.specs.Stack.{Assertion as Asserted, is_reset, literals_of};
 ghost use Rattle.smt_dialogue.specs.InForce.{assertions_after, assumptions_after, levels_after, signature_after};
 ghost use Rattle.smt_script.specs.Command.{is_check};
+ghost use Rattle.smt_dialogue.specs.InForce.{start_by};
+ghost use Rattle.smt_script.specs.declared.stack.Start.{Start};
+ghost use Rattle.smt_theory.specs.declared.profile.Profile.{Profile};
 ghost use Rattle.smt_dialogue.specs.Judgement.{Claimed, claims_cost, judgement_of};
 ghost use Rattle.smt_dialogue.specs.Pairing.{IsPairing};
 ghost use Rattle.smt_dialogue.specs.Pairs.{Pair, checks_in, is_effective};
@@ -43,7 +46,7 @@ use smt_text::laws::{every_text_reads, one_forest, one_reading};
 
 /// So many commands have at most one pairing with the answers, and it leaves the same.
 pub fn one_pairing()
-    ensures { (start : Bool) (xs ys : List Pair) (trees answers later later' rest rest' : Sexps)
+    ensures { (start : Start) (xs ys : List Pair) (trees answers later later' rest rest' : Sexps)
         → length xs ≡ length ys → IsPairing start xs trees later answers rest
         → IsPairing start ys trees later' answers rest'
         → (xs ≡ ys) × (later ≡ later') × (rest ≡ rest') }
@@ -52,15 +55,15 @@ pub fn one_pairing()
 /// A dialogue so far, with the ends of its texts told or not, is at rest behind some pairs, and behind no
 /// others: it waits there, or has ended. Where both ends were told it has ended.
 pub fn one_rest()
-    ensures some { (start : Bool) (script answers : TextSoFar)
+    ensures some { (start : Start) (script answers : TextSoFar)
         → (pairs : List Pair) × (turn : Turn) × IsRest turn
         × IsTurn start script answers pairs turn }
-    ensures one { (start : Bool) (script answers : TextSoFar) (xs ys : List Pair) (f g : Turn)
+    ensures one { (start : Start) (script answers : TextSoFar) (xs ys : List Pair) (f g : Turn)
         → IsRest f
         → IsRest g
         → IsTurn start script answers xs f → IsTurn start script answers ys g
         → (xs ≡ ys) × (f ≡ g) }
-    ensures ended { (start : Bool) (script answers : TextSoFar) (pairs : List Pair) (turn : Turn)
+    ensures ended { (start : Start) (script answers : TextSoFar) (pairs : List Pair) (turn : Turn)
         → script.told ≡ true → answers.told ≡ true
         → IsRest turn → IsTurn start script answers pairs turn
         → (fault : Option Line) × (turn ≡ Ends fault) }
@@ -94,9 +97,9 @@ pub fn valid_is_paired()
 pub fn no_second_pairing()
     ensures { (options : Options) (script answers : List ℕ) (pairs others : List Pair)
         (trees answered rest : Sexps)
-        → IsFullyPaired options script answers pairs → Forest limit script trees
-        → Forest limit answers answered
-        → IsPairing options.print_success others trees Nil answered rest
+        → IsFullyPaired options script answers pairs → Forest max_depth script trees
+        → Forest max_depth answers answered
+        → IsPairing (start_by options) others trees Nil answered rest
         → (others ≡ pairs) × (rest ≡ Nil) }
 {
     one_forest();
@@ -124,7 +127,7 @@ pub fn faulty_model_is_not_valid()
         (check : Pair)
         (model : Printed) (flaw : ModelFlaw)
         → IsSatOf options script answers before check after → IsModelIn before after model
-        → model_in (signature_after before) model.parts ≡ Err flaw → IsValid options script answers
+        → model_in (signature_after options.profile before) model.parts ≡ Err flaw → IsValid options script answers
         → ⊥ }
 {}
 
@@ -135,7 +138,7 @@ pub fn ill_sorted_assertion_is_not_valid()
         (check : Pair)
         (term : Sexp)
         → IsSatOf options script answers before check after → IsAsserted before earlier term
-        → (sort_in (in_assertion (names_of (signature_after earlier))) [] term ≡ Ok Boolean → ⊥)
+        → (sort_in (in_assertion (names_of (signature_after options.profile earlier))) [] term ≡ Ok Boolean → ⊥)
         → IsValid options script answers → ⊥ }
 {}
 
@@ -145,7 +148,7 @@ pub fn ill_sorted_assumption_is_not_valid()
         (check : Pair)
         (place : ℕ) (term : Sexp)
         → IsSatOf options script answers before check after → IsAssumed check place term
-        → (sort_in (names_of (signature_after before)) [] term ≡ Ok Boolean → ⊥)
+        → (sort_in (names_of (signature_after options.profile before)) [] term ≡ Ok Boolean → ⊥)
         → IsValid options script answers → ⊥ }
 {}
 
@@ -157,10 +160,10 @@ pub fn definitions_of_valid_are_well_sorted()
         (check : Pair)
         (model : Printed) (definitions : Signature)
         → IsSatOf options script answers before check after → IsModelIn before after model
-        → model_in (signature_after before) model.parts ≡ Ok definitions
+        → model_in (signature_after options.profile before) model.parts ≡ Ok definitions
         → IsValid options script answers
-        → IsModelOf (signature_after before) model.parts definitions
-        × IsStructure (structure_at definitions before) }
+        → IsModelOf (signature_after options.profile before) model.parts definitions
+        × IsStructure (structure_at options.profile definitions before) }
 {}
 
 /// A dialogue in which a model of a check that was answered `sat` makes an assertion in force other than
@@ -171,9 +174,9 @@ pub fn untrue_assertion_is_not_valid()
         (model : Printed)
         (definitions : Signature) (term : Sexp) (z : DivisionByZero)
         → IsSatOf options script answers before check after → IsModelIn before after model
-        → model_in (signature_after before) model.parts ≡ Ok definitions
+        → model_in (signature_after options.profile before) model.parts ≡ Ok definitions
         → IsAsserted before earlier term
-        → (value_over z (structure_at definitions before) [] term ≡ Truth true → ⊥)
+        → (value_over z (structure_at options.profile definitions before) [] term ≡ Truth true → ⊥)
         → IsValid options script answers → ⊥ }
 {}
 
@@ -185,9 +188,9 @@ pub fn untrue_assumption_is_not_valid()
         (model : Printed)
         (definitions : Signature) (place : ℕ) (term : Sexp) (z : DivisionByZero)
         → IsSatOf options script answers before check after → IsModelIn before after model
-        → model_in (signature_after before) model.parts ≡ Ok definitions
+        → model_in (signature_after options.profile before) model.parts ≡ Ok definitions
         → IsAssumed check place term
-        → (value_over z (structure_at definitions before) [] term ≡ Truth true → ⊥)
+        → (value_over z (structure_at options.profile definitions before) [] term ≡ Truth true → ⊥)
         → IsValid options script answers → ⊥ }
 {}
 
@@ -201,11 +204,11 @@ pub fn invalid_names_what_is_false()
         × (definitions : Signature) × (claim : Claim)
         × (earlier : List Pair) × (term : Sexp) × IsSatOf options script answers before check after
         × IsModelIn before after model
-        × IsModelOf (signature_after before) model.parts definitions
-        × IsStructure (structure_at definitions before)
+        × IsModelOf (signature_after options.profile before) model.parts definitions
+        × IsStructure (structure_at options.profile definitions before)
         × IsClaimed before check claim earlier term
-        × (sort_in (names_of_claim claim (names_of (signature_after earlier))) [] term ≡ Ok Boolean)
-        × ((z : DivisionByZero) → value_over z (structure_at definitions before) [] term
+        × (sort_in (names_of_claim claim (names_of (signature_after options.profile earlier))) [] term ≡ Ok Boolean)
+        × ((z : DivisionByZero) → value_over z (structure_at options.profile definitions before) [] term
         ≡ Truth false)
         × (first : List Line) × (last : List Line)
         × (ls ≡ first ++ Refuted (checks_in before + 1)
@@ -228,11 +231,11 @@ pub fn too_long_models_cost_more_than_the_limit()
 /// In the window of a check nothing that is in force changes, nor do its assumptions, where it took effect, and
 /// it goes on to the first command that ends it.
 pub fn nothing_changes_in_a_window()
-    ensures unchanged { (before after first last : List Pair) (check : Pair)
+    ensures unchanged { (profile : Profile) (before after first last : List Pair) (check : Pair)
         → is_check check.command ≡ true
         → window after ≡ first ++ last
-        → (signature_after (before ++ check ∷ first) ≡ signature_after before)
-        × (assertions_after (before ++ check ∷ first) ≡ assertions_after before) }
+        → (signature_after profile (before ++ check ∷ first) ≡ signature_after profile before)
+        × (assertions_after profile (before ++ check ∷ first) ≡ assertions_after profile before) }
     ensures assumed { (before after first last : List Pair) (check : Pair)
         → is_check check.command ≡ true
         → is_effective check ≡ true → window after ≡ first ++ last
@@ -244,13 +247,13 @@ pub fn nothing_changes_in_a_window()
 /// The assertions in force behind pairs are those of pairs that took effect and stand: an assertion does
 /// behind itself, and stays behind a pair that removes nothing of its level (SMT-LIB 2.6, section 4.1.4).
 pub fn assertions_in_force_are_asserted()
-    ensures found { (before : List Pair) (first last : List Asserted) (a : Asserted)
-        → assertions_after before ≡ first ++ a ∷ last
+    ensures found { (profile : Profile) (before : List Pair) (first last : List Asserted) (a : Asserted)
+        → assertions_after profile before ≡ first ++ a ∷ last
         → (earlier : List Pair) × IsAsserted before earlier a.term
         × (a.command ≡ length earlier + 1) }
-    ensures stand { (before earlier : List Pair) (term : Sexp) → IsAsserted before earlier term
+    ensures stand { (profile : Profile) (before earlier : List Pair) (term : Sexp) → IsAsserted before earlier term
         → (first : List Asserted) × (last : List Asserted)
-        × (assertions_after before ≡ first ++ record { command = length earlier + 1; term = term } ∷
+        × (assertions_after profile before ≡ first ++ record { command = length earlier + 1; term = term } ∷
         last) }
     ensures here { (before : List Pair) (pair : Pair) (term : Sexp) → pair.command ≡ Assert term
         → is_effective pair ≡ true

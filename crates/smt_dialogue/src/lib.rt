@@ -30,4 +30,5 @@ pub use session::{Failed, Session};
 pub use smt_eval::Memory;
 pub use smt_report::{CheckAnswer, Claim, Line, Report, Side, Tally, Verdict};
 pub use smt_streams::{Device, Sink, Source};
+pub use smt_theory::Profile;
 pub use validation::validate;

@@ -4,6 +4,7 @@ ghost use Rattle.std.specs.Prelude.{◌≡◌, if◌then◌else◌};
 ghost use Rattle.smt_dialogue.specs.Answers as answers;
 
 use smt_script::Kind;
+use smt_theory::Profile;
 
 /// Which answers a command takes (SMT-LIB 2.6, section 3.9.1).
 #[derive(Clone, Copy)]
@@ -35,10 +36,10 @@ pub enum Need {
     Needed(AnswerForm),
 }
 
-/// What a command of this kind needs of the answers, where `success` is printed for a command that has no
-/// answer of its own, or is not (SMT-LIB 2.6, section 4.1.7).
-pub(crate) fn need_of(print_success: bool, kind: Kind) -> Need
-    ensures { result ≡ answers.need_of_kind print_success kind }
+/// What a command of this kind needs of the answers in a profile, where `success` is printed for a command that
+/// has no answer of its own, or is not (SMT-LIB 2.6, section 4.1.7).
+pub(crate) fn need_of(profile: Profile, print_success: bool, kind: Kind) -> Need
+    ensures { result ≡ answers.need_of_kind profile print_success kind }
 {
     match kind {
         Kind::Check => Need::Needed(AnswerForm::Check),
@@ -48,7 +49,19 @@ pub(crate) fn need_of(print_success: bool, kind: Kind) -> Need
         Kind::Exit => Need::Optional(AnswerForm::Success),
         Kind::PrintSuccess { on } => needed_or(on, Need::Optional(AnswerForm::General)),
         Kind::Setting => needed_or(print_success, Need::Optional(AnswerForm::Unsupported)),
-        Kind::Logic | Kind::Change | Kind::Reset => needed_or(print_success, Need::Nothing),
+        Kind::Logic => needed_or(print_success, silent_logic_need(profile)),
+        Kind::Change | Kind::Reset => needed_or(print_success, Need::Nothing),
+    }
+}
+
+// What a command that sets a logic needs where `success` is not printed: in the wide profile it may be told
+// that its logic is not known.
+fn silent_logic_need(profile: Profile) -> Need
+    ensures { result ≡ answers.silent_logic_need profile }
+{
+    match profile {
+        Profile::Base => Need::Nothing,
+        Profile::Wide => Need::Optional(AnswerForm::Unsupported),
     }
 }
 

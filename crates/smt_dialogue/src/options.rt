@@ -2,6 +2,9 @@
 
 ghost use Rattle.std.specs.Prelude.{◌<◌, ◌-◌, ◌^◌};
 
+use smt_script::Start;
+use smt_theory::Profile;
+
 /// How many terms may be evaluated for a model: what the assertions in force cost (`smt_eval::cost`). A model
 /// that costs more is not evaluated.
 #[derive(Clone, Copy)]
@@ -17,5 +20,22 @@ pub struct Options {
     /// Whether the solver prints `success`, from the start on, for commands without an answer of their own
     /// (SMT-LIB 2.6, section 4.1.7); a script may say otherwise later.
     pub print_success: bool,
+    /// Which language the script and the answers are in.
+    pub profile: Profile,
     pub limit: Limit,
+}
+
+impl Options {
+    ghost use Rattle.std.specs.Prelude.{◌≡◌};
+    ghost use Rattle.smt_dialogue.specs.InForce.{start_by};
+
+    /// What holds before the first command of the script.
+    pub(crate) fn start(self) -> Start
+        ensures { result ≡ start_by self }
+    {
+        Start {
+            print_success: self.print_success,
+            profile: self.profile,
+        }
+    }
 }

@@ -2,7 +2,7 @@
 
 ghost use Rattle.std.specs.Prelude.{◌≡◌, ◌<◌, ◌≤◌, ◌+◌, ◌^◌, ◌++◌, Bool, List, [], ℕ, Option, IfOk, OnErr, None};
 ghost use Rattle.std.specs.Prelude.{is_some, false, length, true};
-ghost use Rattle.smt_text.specs.Grammar.{limit};
+ghost use Rattle.smt_text.specs.Grammar.{max_depth};
 ghost use Rattle.smt_text.specs.Reading.{Reads};
 ghost use Rattle.smt_text.specs.Reader.{bytes_fed, is_finished};
 ghost use Rattle.smt_trees.specs.Sexp.{Nil, Sexps, count};
@@ -28,7 +28,7 @@ use std::alloc::Global;
 // A law: of a text no more trees are read than it has bytes, whether its end was told or not.
 fn trees_are_few()
     ensures few { (told : Bool) (bytes : List ℕ) (trees : Sexps) (fault : Option TextFlaw)
-        → Reads limit told bytes trees fault → count trees ≤ length bytes }
+        → Reads max_depth told bytes trees fault → count trees ≤ length bytes }
 {
     every_text_reads();
     read_trees_stay();
@@ -285,7 +285,7 @@ impl Pairing {
         let Some(tree) = self.script.take() else {
             unreachable!()
         };
-        match read_command(tree) {
+        match read_command(self.dialogue.stack.profile(), tree) {
             Ok(command) => {
                 self.command = Some(command);
                 None

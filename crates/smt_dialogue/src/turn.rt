@@ -6,7 +6,7 @@ ghost use Rattle.smt_text.specs.Reader.{bytes_fed, is_finished};
 ghost use Rattle.smt_trees.specs.Sexp.{Sexps};
 ghost use Rattle.smt_script.specs.Command as commands;
 ghost use Rattle.smt_script.specs.CommandView.{command_view};
-ghost use Rattle.smt_script.specs.StackView.{initial_print_success_of, last_of};
+ghost use Rattle.smt_script.specs.StackView.{profile_of, start_of, last_of};
 ghost use Rattle.smt_dialogue.specs.FirstFault as first_fault;
 ghost use Rattle.smt_dialogue.specs.FirstFault.{TextSoFar};
 ghost use Rattle.smt_dialogue.specs.Pairs.{Pair};
@@ -58,7 +58,7 @@ pub(crate) fn take_up(
         → HasQueue answers.old bytes text rest
         → Fits early (state_behind taken dialogue.old) pairs
         → (early ≡ true → commands.is_check (command_view command.now) ≡ true)
-        → IsTakenUp turn early (initial_print_success_of dialogue.old.stack) pairs
+        → IsTakenUp turn early (start_of dialogue.old.stack) pairs
         (command_view command.now)
         text rest bytes answers.new (state_behind taken dialogue.new)) }
     ensures start { IfOk result
@@ -72,7 +72,11 @@ pub(crate) fn take_up(
 {
     let number = dialogue.next_number();
     let kind = command.kind();
-    let need = need_of(dialogue.stack.print_success(), kind);
+    let need = need_of(
+        dialogue.stack.profile(),
+        dialogue.stack.print_success(),
+        kind,
+    );
     match take_answer(need, answers)? {
         NextAnswer::Takes(mut answer) => take_up_with(dialogue, command, kind, &mut answer),
         NextAnswer::Waits => Ok(Turn::Waits {
@@ -106,7 +110,7 @@ fn take_up_with(
         → Fits early (state_behind taken dialogue.old) pairs
         → (early ≡ true → commands.is_check (command_view command.now) ≡ true)
         → (line : Option ReportLine) × (turn ≡ turn_of_line line)
-        × IsDone line early pairs (answered command.now answer.old)
+        × IsDone (profile_of dialogue.old.stack) line early pairs (answered command.now answer.old)
         (state_behind taken dialogue.new)) }
     ensures start { IfOk result
         (λ _. options_of dialogue.new ≡ options_of dialogue.old) }

@@ -7,7 +7,7 @@ use Rattle.std.specs.Option.{option_or}
 use Rattle.smt_trees.specs.Sexp.{Sexp, Sexps, Nil, Cons}
 use Rattle.smt_theory.specs.Words.{result_and_then}
 use Rattle.smt_theory.specs.declared.theories.Theories.{Theories}
-use Rattle.smt_terms.specs.Items.{item_in, items_before}
+use Rattle.smt_terms.specs.Items.{item_in, items_before, list_of}
 use Rattle.smt_terms.specs.Signature.{AreDistinct, Entry, Origin, Declared, Defined, IsDeclared, KeepsRank}
 use Rattle.smt_terms.specs.Signature.{Signature, declared_named, entry_named, if_declared, names_of}
 use Rattle.smt_terms.specs.Freshness.{is_taken}
@@ -38,7 +38,7 @@ pub record IsItem (script : Signature) (earlier : List Entry) (e : Entry) : Type
 -- the law of items
 abbrev pub TakenAreItems : Type 0
 TakenAreItems = (script : Signature) (earlier : List Entry) (tree : Sexp) (e : Entry)
-    → item_in script earlier tree ≡ Ok e → IsItem script earlier e
+    → item_in script earlier tree ≡ Ok (Some e) → IsItem script earlier e
 
 -- one more at the end
 AreWellSorted-more : (theories : Theories) (before xs : List Entry) (e : Entry)
@@ -104,17 +104,18 @@ pub AreSound-from : TakenAreItems
 AreSound-from law script earlier number Nil items so_far h =
     let is : earlier ≡ items = cc in subst (AreSound script) is so_far
 AreSound-from law script earlier number (Cons x xs) items so_far h = by (item_in script earlier x) refl h
-    (λ e more rest. AreSound-from law script (earlier ++ e ∷ []) (number + 1) xs items more rest)
+    (λ o more rest. AreSound-from law script (earlier ++ list_of o) (number + 1) xs items more rest)
   where
-    by : (r : Result Entry TermFlaw) → item_in script earlier x ≡ r
-        → or_item number r (λ e. items_from script (earlier ++ e ∷ []) (number + 1) xs) ≡ Ok items
-        → ((e : Entry) → AreSound script (earlier ++ e ∷ [])
-        → items_from script (earlier ++ e ∷ []) (number + 1) xs ≡ Ok items → AreSound script items)
+    by : (r : Result (Option Entry) TermFlaw) → item_in script earlier x ≡ r
+        → or_item number r (λ o. items_from script (earlier ++ list_of o) (number + 1) xs) ≡ Ok items
+        → ((o : Option Entry) → AreSound script (earlier ++ list_of o)
+        → items_from script (earlier ++ list_of o) (number + 1) xs ≡ Ok items → AreSound script items)
         → AreSound script items
     by (Err f) is h next = cc
-    by (Ok e) is h next =
+    by (Ok None) is h next = next None (subst (AreSound script) (sym (append-nil earlier)) so_far) h
+    by (Ok (Some e)) is h next =
         let i = law script earlier x e is in
-        next e (record {
+        next (Some e) (record {
           sorted = AreWellSorted-more script.theories [] earlier e so_far.sorted i.sorted;
           distinct = AreDistinct-more earlier e so_far.distinct i.fresh;
           ranked = AreRanked-more script earlier e so_far.ranked i.ranked;
@@ -256,29 +257,33 @@ pub items_read : (script : Signature) (earlier : List Entry) (number : ℕ) (tre
     → items_from script earlier number trees ≡ Ok items
     → (es : List Entry) × AreItems script earlier trees es × (items ≡ earlier ++ es)
 items_read script earlier number Nil items h =
-    let is : earlier ≡ items = cc in ([], tt, sym is ∙ sym (append-nil earlier))
+    let is : earlier ≡ items = cc in ([], refl, sym is ∙ sym (append-nil earlier))
 items_read script earlier number (Cons x xs) items h = by (item_in script earlier x) refl h
-    (λ e g. items_read script (earlier ++ e ∷ []) (number + 1) xs items g)
+    (λ o g. items_read script (earlier ++ list_of o) (number + 1) xs items g)
   where
-    by : (r : Result Entry TermFlaw) → item_in script earlier x ≡ r
-        → or_item number r (λ e. items_from script (earlier ++ e ∷ []) (number + 1) xs) ≡ Ok items
-        → ((e : Entry) → items_from script (earlier ++ e ∷ []) (number + 1) xs ≡ Ok items
-        → (es : List Entry) × AreItems script (earlier ++ e ∷ []) xs es
-        × (items ≡ (earlier ++ e ∷ []) ++ es))
+    by : (r : Result (Option Entry) TermFlaw) → item_in script earlier x ≡ r
+        → or_item number r (λ o. items_from script (earlier ++ list_of o) (number + 1) xs) ≡ Ok items
+        → ((o : Option Entry) → items_from script (earlier ++ list_of o) (number + 1) xs ≡ Ok items
+        → (es : List Entry) × AreItems script (earlier ++ list_of o) xs es
+        × (items ≡ (earlier ++ list_of o) ++ es))
         → (es : List Entry) × AreItems script earlier (Cons x xs) es × (items ≡ earlier ++ es)
     by (Err f) is h next = cc
-    by (Ok e) is h next = let p = next e h in (e ∷ p.0, (is, p.1), p.2 ∙ append_assoc earlier (e ∷ []) p.0)
+    by (Ok o) is h next =
+        let p = next o h in (
+          list_of o ++ p.0,
+          (o, p.0, is, refl, p.1),
+          p.2 ∙ append_assoc earlier (list_of o) p.0,
+        )
 
 -- and what items are is read
 pub items_back : (script : Signature) (earlier : List Entry) (number : ℕ) (trees : Sexps) (es : List Entry)
     → AreItems script earlier trees es → items_from script earlier number trees ≡ Ok (earlier ++ es)
-items_back script earlier number Nil [] h = ap (λ (xs : List Entry). Ok xs) (sym (append-nil earlier))
-items_back script earlier number Nil (e ∷ es) h = absurd h
-items_back script earlier number (Cons x xs) [] h = absurd h
-items_back script earlier number (Cons x xs) (e ∷ es) h =
-    ap (λ r. or_item number r (λ e. items_from script (earlier ++ e ∷ []) (number + 1) xs)) h.0
-    ∙ items_back script (earlier ++ e ∷ []) (number + 1) xs es h.1 ∙ ap (λ (xs : List Entry). Ok xs)
-    (append_assoc earlier (e ∷ []) es)
+items_back script earlier number Nil es h =
+    ap (λ (xs : List Entry). Ok xs) (sym (append-nil earlier) ∙ ap (λ xs. earlier ++ xs) (sym h))
+items_back script earlier number (Cons x xs) es h =
+    ap (λ r. or_item number r (λ o. items_from script (earlier ++ list_of o) (number + 1) xs)) h.2
+    ∙ items_back script (earlier ++ list_of h.0) (number + 1) xs h.1 h.4 ∙ ap (λ (xs : List Entry). Ok xs)
+    (append_assoc earlier (list_of h.0) h.1 ∙ ap (λ xs. earlier ++ xs) (sym h.3))
 
 -- a model is its items
 pub model_is_items : (script : Signature) (parts : Sexps) (es : List Entry)

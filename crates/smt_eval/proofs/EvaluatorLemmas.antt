@@ -21,7 +21,7 @@ use Rattle.smt_forms.specs.Identifier.{Identifier, Plain, Indexed, all_indexes, 
 use Rattle.smt_forms.specs.ScopeView.{scope_view}
 use Rattle.smt_terms.specs.Signature.{AreDistinct, Entry, Signature, entry_named}
 use Rattle.smt_faults.specs.declared.term_flaw.TermFlaw.TheVariants.{Form}
-use Rattle.smt_forms.specs.declared.scope.Variable.{Variable}
+use Rattle.smt_forms.specs.declared.variable.Variable.{Variable}
 use Rattle.smt_eval.proofs.EntryLemmas.{entry_named-take}
 use Rattle.smt_eval.proofs.NameLemmas.{none_step, same_self}
 use Rattle.smt_eval.specs.Internal.DefinitionValues.{first}

@@ -5,7 +5,7 @@ use Rattle.std.proofs.Common.{subst, arith}
 use Rattle.std.specs.Option.{option_or}
 use Rattle.smt_trees.specs.Sexp.{Sexps, Nil, Cons}
 use Rattle.smt_theory.specs.Words.{result_and_then}
-use Rattle.smt_terms.specs.Items.{item_in, items_before}
+use Rattle.smt_terms.specs.Items.{item_in, items_before, list_of}
 use Rattle.smt_terms.specs.Signature.{Entry, Origin, Declared, Defined, IsDeclared, Signature, entry_named}
 use Rattle.smt_faults.specs.declared.term_flaw.TermFlaw.{TermFlaw}
 use Rattle.smt_eval.specs.Model.{AreDefined, AreItems, HasFirstFlaw, IsFirstLacking, command_of_origin}
@@ -22,31 +22,31 @@ fault_read : (script : Signature) (earlier : List Entry) (number : ℕ) (trees :
     → (n : ℕ) × (m ≡ number + n) × HasFirstFlaw script earlier trees n fault
 fault_read script earlier number Nil m fault h = cc
 fault_read script earlier number (Cons x xs) m fault h = by (item_in script earlier x) refl h
-    (λ e g. fault_read script (earlier ++ e ∷ []) (number + 1) xs m fault g)
+    (λ o g. fault_read script (earlier ++ list_of o) (number + 1) xs m fault g)
   where
     here : (f : TermFlaw) → item_in script earlier x ≡ Err f → Item number f ≡ Item m fault
         → (n : ℕ) × (m ≡ number + n) × HasFirstFlaw script earlier (Cons x xs) n fault
     here f is same = let number_is : number ≡ m = cc in let fault_is : f ≡ fault = cc
         in (zero, omega (arith, number_is), is ∙ ap (λ (g : TermFlaw). Err g) fault_is)
 
-    by : (r : Result Entry TermFlaw) → item_in script earlier x ≡ r
-        → or_item number r (λ e. items_from script (earlier ++ e ∷ []) (number + 1) xs) ≡ Err (Item m fault)
-        → ((e : Entry) → items_from script (earlier ++ e ∷ []) (number + 1) xs ≡ Err (Item m fault)
-        → (n : ℕ) × (m ≡ (number + 1) + n) × HasFirstFlaw script (earlier ++ e ∷ []) xs n fault)
+    by : (r : Result (Option Entry) TermFlaw) → item_in script earlier x ≡ r
+        → or_item number r (λ o. items_from script (earlier ++ list_of o) (number + 1) xs) ≡ Err (Item m fault)
+        → ((o : Option Entry) → items_from script (earlier ++ list_of o) (number + 1) xs ≡ Err (Item m fault)
+        → (n : ℕ) × (m ≡ (number + 1) + n) × HasFirstFlaw script (earlier ++ list_of o) xs n fault)
         → (n : ℕ) × (m ≡ number + n) × HasFirstFlaw script earlier (Cons x xs) n fault
     by (Err f) is h next = here f is (let same : Item number f ≡ Item m fault = cc in same)
-    by (Ok e) is h next = let p = next e h in (suc p.0, p.1 ∙ omega arith, (e, is, p.2))
+    by (Ok o) is h next = let p = next o h in (suc p.0, p.1 ∙ omega arith, (o, is, p.2))
 
 fault_back : (script : Signature) (earlier : List Entry) (number : ℕ) (trees : Sexps) (n : ℕ)
     (fault : TermFlaw) → HasFirstFlaw script earlier trees n fault
     → items_from script earlier number trees ≡ Err (Item (number + n) fault)
 fault_back script earlier number Nil n fault h = absurd h
 fault_back script earlier number (Cons x xs) zero fault h =
-    ap (λ r. or_item number r (λ e. items_from script (earlier ++ e ∷ []) (number + 1) xs)) h ∙ ap
+    ap (λ r. or_item number r (λ o. items_from script (earlier ++ list_of o) (number + 1) xs)) h ∙ ap
     (λ (k : ℕ). Err (Item k fault)) (omega arith)
 fault_back script earlier number (Cons x xs) (suc n) fault h =
-    ap (λ r. or_item number r (λ e. items_from script (earlier ++ e ∷ []) (number + 1) xs)) h.1
-    ∙ fault_back script (earlier ++ h.0 ∷ []) (number + 1) xs n fault h.2 ∙ ap (λ (k : ℕ). Err (Item k fault))
+    ap (λ r. or_item number r (λ o. items_from script (earlier ++ list_of o) (number + 1) xs)) h.1
+    ∙ fault_back script (earlier ++ list_of h.0) (number + 1) xs n fault h.2 ∙ ap (λ (k : ℕ). Err (Item k fault))
     (omega arith)
 
 pub fault_is_first : (script : Signature) (parts : Sexps) (n : ℕ) (fault : TermFlaw)
@@ -155,13 +155,13 @@ no_lacking_item : (script : Signature) (earlier : List Entry) (number : ℕ) (tr
     → items_from script earlier number trees ≡ Err (Lacks command) → ⊥
 no_lacking_item script earlier number Nil command h = cc
 no_lacking_item script earlier number (Cons x xs) command h = by (item_in script earlier x) h
-    (λ e g. no_lacking_item script (earlier ++ e ∷ []) (number + 1) xs command g)
+    (λ o g. no_lacking_item script (earlier ++ list_of o) (number + 1) xs command g)
   where
-    by : (r : Result Entry TermFlaw)
-        → or_item number r (λ e. items_from script (earlier ++ e ∷ []) (number + 1) xs) ≡ Err (Lacks command)
-        → ((e : Entry) → items_from script (earlier ++ e ∷ []) (number + 1) xs ≡ Err (Lacks command) → ⊥) → ⊥
+    by : (r : Result (Option Entry) TermFlaw)
+        → or_item number r (λ o. items_from script (earlier ++ list_of o) (number + 1) xs) ≡ Err (Lacks command)
+        → ((o : Option Entry) → items_from script (earlier ++ list_of o) (number + 1) xs ≡ Err (Lacks command) → ⊥) → ⊥
     by (Err f) h next = cc
-    by (Ok e) h next = next e h
+    by (Ok o) h next = next o h
 
 pub lacking_is_first : (script : Signature) (parts : Sexps) (command : ℕ)
     → (model_in script parts ≡ Err (Lacks command))

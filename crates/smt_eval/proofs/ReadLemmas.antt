@@ -1,13 +1,13 @@
 -- Models, one item at a time, and as a whole.
 use Rattle.std.proofs.Common.{◌≡◌, inl, inr, ◌<◌, ◌≤◌, ℕ, zero, suc, ◌+◌, List, [], ◌∷◌, ◌++◌, drop}
-use Rattle.std.proofs.Common.{length, slice_index_or, Result, Ok, Err, refl, ap, sym, ◌∙◌, arith}
+use Rattle.std.proofs.Common.{length, slice_index_or, Option, Result, Ok, Err, refl, ap, sym, ◌∙◌, arith}
 use Rattle.std.proofs.Common.{add-one}
 use Rattle.std.proofs.Math.Seq.{drop-cons}
 use Rattle.smt_trees.specs.Sexp.{Sexp, Sexps, Nil, Cons}
 use Rattle.smt_trees.specs.Tree.{sexp_of, sexps_of}
 use Rattle.smt_trees.specs.declared.tree.Tree.{Tree}
 use Rattle.smt_theory.specs.Words.{result_and_then}
-use Rattle.smt_terms.specs.Items.{item_in, items_before}
+use Rattle.smt_terms.specs.Items.{item_in, items_before, list_of}
 use Rattle.smt_terms.specs.Signature.{Entry, Signature}
 use Rattle.smt_faults.specs.declared.term_flaw.TermFlaw.{TermFlaw}
 use Rattle.smt_faults.specs.Outcome.{Tells, flaw_told}
@@ -28,11 +28,11 @@ items_at items i x h is = rw add-one
     (sym is))
 
 -- an item that is taken
-pub item_taken : (s : Signature) (es : List Entry) (n : ℕ) (t : Sexp) (rest all : Sexps) (e : Entry)
-    → all ≡ Cons t rest → item_in s es t ≡ Ok e
-    → items_from s es n all ≡ items_from s (es ++ e ∷ []) (n + 1) rest
-item_taken s es n t rest all e split is = ap (items_from s es n) split ∙ ap
-    (λ (r : Result Entry TermFlaw). or_item n r (λ x. items_from s (es ++ x ∷ []) (n + 1) rest)) is
+pub item_taken : (s : Signature) (es : List Entry) (n : ℕ) (t : Sexp) (rest all : Sexps) (o : Option Entry)
+    → all ≡ Cons t rest → item_in s es t ≡ Ok o
+    → items_from s es n all ≡ items_from s (es ++ list_of o) (n + 1) rest
+item_taken s es n t rest all o split is = ap (items_from s es n) split ∙ ap
+    (λ (r : Result (Option Entry) TermFlaw). or_item n r (λ x. items_from s (es ++ list_of x) (n + 1) rest)) is
 
 -- and one that is refused
 told_of_item : (n : ℕ) (f : TermFault) (r : Result (List Entry) ModelFlaw) → r ≡ Err (Item n (flaw_told f))
@@ -53,7 +53,7 @@ item_refused s es n t rest all f split (inl m) = inl (ap (model_fault_of_item n)
 item_refused s es n t rest all f split (inr is) =
     told_of_item n f (items_from s es n all)
     (ap (items_from s es n) split ∙ ap
-    (λ (r : Result Entry TermFlaw). or_item n r (λ x. items_from s (es ++ x ∷ []) (n + 1) rest)) is)
+    (λ (r : Result (Option Entry) TermFlaw). or_item n r (λ x. items_from s (es ++ list_of x) (n + 1) rest)) is)
 
 pub all_dropped : (items : List Tree) (i : ℕ) → length items ≤ i → sexps_of (drop i items) ≡ Nil
 all_dropped [] zero h = refl

@@ -5,16 +5,16 @@ use Rattle.std.specs.Prelude.{Some, None, is_some, Result, Ok, Err, codes, if◌
 use Rattle.std.specs.Option.{option_or}
 use Rattle.smt_trees.specs.Sexp.{Sexps, Nil, Cons, is_symbol}
 use Rattle.smt_theory.specs.Words.{result_and_then}
-use Rattle.smt_terms.specs.Items.{item_in, items_before}
+use Rattle.smt_terms.specs.Items.{item_in, items_before, list_of}
 use Rattle.smt_terms.specs.Signature.{Entry, Origin, Declared, Defined, IsDeclared, Signature, entry_named}
 use Rattle.smt_faults.specs.declared.term_flaw.TermFlaw.{TermFlaw}
 use Rattle.smt_eval.specs.declared.model_fault.ModelFlaw.{ModelFlaw}
 use Rattle.smt_eval.specs.declared.model_fault.ModelFlaw.TheVariants.{Item, Lacks}
 
 -- what comes of an item, or its flaw with its number
-abbrev pub or_item : {A : Type 0} → ℕ → Result Entry TermFlaw → (Entry → Result A ModelFlaw)
+abbrev pub or_item : {A : Type 0} → ℕ → Result (Option Entry) TermFlaw → (Option Entry → Result A ModelFlaw)
     → Result A ModelFlaw
-or_item number (Ok e) next = next e
+or_item number (Ok o) next = next o
 or_item number (Err flaw) next = Err (Item number flaw)
 
 -- what the items define, behind what came before; or the first item with a flaw, the first of them having
@@ -22,7 +22,8 @@ or_item number (Err flaw) next = Err (Item number flaw)
 abbrev pub items_from : Signature → List Entry → ℕ → Sexps → Result (List Entry) ModelFlaw
 items_from script earlier number Nil = Ok earlier
 items_from script earlier number (Cons x xs) =
-    or_item number (item_in script earlier x) (λ e. items_from script (earlier ++ e ∷ []) (number + 1) xs)
+    or_item number (item_in script earlier x)
+    (λ o. items_from script (earlier ++ list_of o) (number + 1) xs)
 
 -- the items: the leading symbol `model` is none
 abbrev pub items_of : Sexps → Sexps
@@ -57,13 +58,13 @@ model_in script parts =
 
 -- ---- what a model is, item by item
 
--- the trees are items of a model of the script's names behind earlier ones, and these are the definitions
--- that they are, in order
+-- the trees are items of a model of the script's names behind earlier ones, and these are the definitions of
+-- those that are not set aside, in order
 abbrev pub AreItems : Signature → List Entry → Sexps → List Entry → Type 0
-AreItems script earlier Nil [] = Unit {0}
-AreItems script earlier (Cons x xs) (e ∷ es) =
-    (item_in script earlier x ≡ Ok e) × AreItems script (earlier ++ e ∷ []) xs es
-AreItems script earlier _ _ = ⊥
+AreItems script earlier Nil es = es ≡ []
+AreItems script earlier (Cons x xs) es =
+    (o : Option Entry) × (rest : List Entry) × (item_in script earlier x ≡ Ok o) × (es ≡ list_of o ++ rest)
+    × AreItems script (earlier ++ list_of o) xs rest
 
 -- each entry that a command declared is defined by an item
 abbrev pub AreDefined : List Entry → List Entry → Type 0
@@ -75,7 +76,8 @@ abbrev pub HasFirstFlaw : Signature → List Entry → Sexps → ℕ → TermFla
 HasFirstFlaw script earlier Nil n flaw = ⊥
 HasFirstFlaw script earlier (Cons x xs) zero flaw = item_in script earlier x ≡ Err flaw
 HasFirstFlaw script earlier (Cons x xs) (suc n) flaw =
-    (e : Entry) × (item_in script earlier x ≡ Ok e) × HasFirstFlaw script (earlier ++ e ∷ []) xs n flaw
+    (o : Option Entry) × (item_in script earlier x ≡ Ok o)
+    × HasFirstFlaw script (earlier ++ list_of o) xs n flaw
 
 -- the first entry that a command declared and no item defines is of this command
 pub record IsFirstLacking (entries items : List Entry) (command : ℕ) : Type 0 where

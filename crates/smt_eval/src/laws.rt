@@ -3,7 +3,7 @@
 pub mod terms;
 
 ghost use Rattle.std.specs.Prelude.{◌≡◌, ◌↔◌, ℕ, ◌+◌, ◌*◌, ◌^◌, List, [], ◌∷◌, Ok, Err, Option, length};
-ghost use Rattle.smt_trees.specs.Sexp.{Sexp, Sexps};
+ghost use Rattle.smt_trees.specs.Sexp.{Cons, Sexp, Sexps, append};
 ghost use Rattle.smt_trees.specs.Tree.{sexp_of};
 ghost use Rattle.smt_theory.specs.declared.sort.Sort.{Sort};
 ghost use Rattle.smt_values.specs.Element.{Agrees, Element, IsOfSort};
@@ -14,6 +14,7 @@ ghost use Rattle.smt_terms.specs.Checking.{sort_in};
 ghost use Rattle.smt_terms.specs.Denotes.{Denotes, Table};
 ghost use Rattle.smt_terms.specs.Items.{items_before};
 ghost use Rattle.smt_terms.specs.Library.{IsTerm, StandsFor};
+ghost use Rattle.smt_terms.specs.Repeated.{IsRepeated};
 ghost use Rattle.smt_terms.specs.Signature.{AreDistinct, Entry, Signature, names_of, unlabelled};
 ghost use Rattle.smt_terms.specs.TermsOf.{AreTermsOf};
 ghost use Rattle.smt_terms.specs.WellSorted.{AreIntroduced, AreWellSorted};
@@ -39,7 +40,7 @@ use crate::checked::Checked;
 use crate::closed::Closed;
 use crate::plain;
 use smt_machine::laws::{nodes_have_their_costs, nodes_have_their_values};
-use smt_terms::laws::{items_are_well_sorted, sorts_are_kept};
+use smt_terms::laws::{items_are_well_sorted, repeated_items_are_set_aside, sorts_are_kept};
 use smt_theory::laws::{ranks_are_the_table, sorts_are_compared};
 use smt_values::laws::{known_results_are_true, results_are_of_their_sorts};
 
@@ -120,13 +121,24 @@ pub fn plain_trees_stand_for_themselves()
         × (term ≡ sexp_of closed.tree.now)) }
 {}
 
-/// A model of the script's names is its items: they are definitions in order, each over the earlier ones, and
-/// every declared name is among them (SMT-LIB 2.6, section 4.2.6).
+/// A model of the script's names is its items: those that are not set aside are definitions in order, each over
+/// the earlier ones, and every declared name is among them (SMT-LIB 2.6, section 4.2.6).
 pub fn models_are_their_items()
     ensures { (script : Signature) (parts : Sexps) (items : List Entry)
         → (model_in script parts ≡ Ok (items_before script items))
         ↔ (AreItems script [] (items_of parts) items × AreDefined script.entries items) }
 {}
+
+/// An item that repeats a definition or a label of the script, in the wide profile, changes nothing of a model:
+/// with it and without it the model has the same definitions, and so gives the same structure.
+pub fn repeated_items_change_no_structure()
+    ensures { (script definitions : Signature) (parts fewer before after : Sexps) (tree : Sexp)
+        → IsRepeated script tree → items_of parts ≡ append before (Cons tree after)
+        → items_of fewer ≡ append before after
+        → (model_in script parts ≡ Ok definitions) ↔ (model_in script fewer ≡ Ok definitions) }
+{
+    repeated_items_are_set_aside();
+}
 
 /// The fault of a model is its first: the items before the one that is told are definitions, and that one has
 /// the fault; a lacking name is told where all items are definitions, and is the first declared name that

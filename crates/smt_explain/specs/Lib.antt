@@ -1,3 +1,4 @@
 pub mod Internal
 pub mod Places
 pub mod Values
+pub mod Sorts

@@ -1,6 +1,8 @@
 -- What an explanation says of a value.
-use Rattle.std.specs.Prelude.{◌≡◌, List, [], Option, true}
+use Rattle.std.specs.Prelude.{◌≡◌, List, [], Option}
 use Rattle.smt_trees.specs.Sexp.{Sexp}
+use Rattle.smt_theory.specs.Theories.{all_theories}
+use Rattle.smt_theory.specs.declared.profile.Profile.TheVariants.{Base}
 use Rattle.smt_values.specs.Element.{known_element}
 use Rattle.smt_values.specs.declared.value.Value.{Value}
 use Rattle.smt_eval.specs.Known.{known_over}
@@ -11,7 +13,7 @@ use Rattle.smt_eval.specs.declared.plain.Definition.{Definition}
 abbrev pub IsKnownOver : List Definition → Sexp → Option Value → Type 0
 IsKnownOver definitions term v = known_element v ≡ known_over
     (record {
-      theories = record { ints = true; bits = true };
+      theories = all_theories Base;
       entries = entries_of definitions;
       abbreviations = [];
     }) term

@@ -1,5 +1,5 @@
-//! What is known of terms that see variables, over the definitions of a model and a script. This file evaluates no
-//! term itself: values are those of the plain evaluator.
+//! What is known of terms, and of terms that see variables, over the definitions of a model and a script. This file
+//! evaluates no term itself: values are those of the plain evaluator.
 
 ghost use Rattle.std.specs.Prelude.{IfOk};
 ghost use Rattle.smt_trees.specs.Tree.{sexp_of};
@@ -11,7 +11,7 @@ use crate::world::World;
 use smt_eval::plain::{Closed, Definition};
 use smt_faults::Memory;
 use smt_forms::Scope;
-use smt_theory::Theories;
+use smt_theory::{Profile, all_theories};
 use smt_trees::{Bytes, Tree, Trees, Word};
 use smt_values::Value;
 use std::alloc::{AllocError, AllocFailed, Global};
@@ -97,10 +97,7 @@ pub(crate) fn known(
 {
     Closed {
         alloc,
-        theories: Theories {
-            ints: true,
-            bits: true,
-        },
+        theories: all_theories(Profile::Base),
         definitions,
         tree: term,
     }

@@ -1,11 +1,14 @@
-//! What is told of faults: of a text, of a command, of an item of a model, and of the pairing.
+//! What is told of faults: of a text, of a command, of an item of a model, and of the pairing. This file finds no
+//! fault: the line of the report names it. What a command needs of the answers it only says in words.
 
 use crate::force::in_force;
+use crate::ill_sorted::{ItemAt, tell_sorts_in_command, tell_sorts_in_item};
 use crate::page::Page;
 use crate::pairs::{Head, head_of, word};
-use crate::scan::{Place, Span, find_tokens, place_of, text_at};
+use crate::scan::{Place, Scan, Span, find_tokens, place_of, text_at};
 use crate::told::{
-    Dialogue, answer_of, index_of_number, model_of, put_place, tell_answer, tell_command,
+    Dialogue, ENOUGH, answer_of, index_of_number, model_of, put_place, standing_at, tell_answer,
+    tell_command,
 };
 use crate::unknown::{
     Brought, brought_by, is_operator, unknown_in_command, unknown_in_form, without_bars,
@@ -51,26 +54,31 @@ pub(crate) fn tell_text_fault(
         TextFlaw::Deep { .. } => page.line(b": a list at a depth over 1,000"),
         TextFlaw::End { .. } => {
             page.line(b": the text ends here")?;
-            if let Some(token) = scan.token {
-                tell_open(
-                    page,
-                    text,
-                    name,
-                    b"  not ended: the string or quoted symbol at ",
-                    token,
-                )?;
-            }
-            if let Some(inner) = scan.open.as_slice().last() {
-                tell_open(page, text, name, b"  open: the list at ", *inner)?;
-            }
-            if scan.open.len() > 1
-                && let Some(outer) = scan.open.as_slice().first()
-            {
-                tell_open(page, text, name, b"  open: the outermost list at ", *outer)?;
-            }
-            Ok(())
+            tell_all_open(page, text, name, scan)
         }
     }
+}
+
+// What stands open where a text ends: a token, and the innermost and the outermost list.
+fn tell_all_open(page: &mut Page, text: &[u8], name: &[u8], scan: &Scan) -> Result<(), Memory> {
+    if let Some(token) = scan.token {
+        tell_open(
+            page,
+            text,
+            name,
+            b"  not ended: the string or quoted symbol at ",
+            token,
+        )?;
+    }
+    if let Some(inner) = scan.open.as_slice().last() {
+        tell_open(page, text, name, b"  open: the list at ", *inner)?;
+    }
+    if scan.open.len() > 1
+        && let Some(outer) = scan.open.as_slice().first()
+    {
+        tell_open(page, text, name, b"  open: the outermost list at ", *outer)?;
+    }
+    Ok(())
 }
 
 fn tell_open(
@@ -174,6 +182,7 @@ fn tell_term(
             _ => tell_earlier(page, dialogue, place, word(text, 1)),
         },
         TermFlaw::BoundTwice => tell_bound_twice(page, &tree),
+        TermFlaw::IllSorted => tell_sorts_in_command(page, dialogue, place, &tree),
         _ => Ok(()),
     }
 }
@@ -336,6 +345,7 @@ pub(crate) fn tell_item_fault(
     model: u64,
     item: u64,
     flaw: TermFlaw,
+    left: &mut u64,
 ) -> Result<(), Memory> {
     let Some(list) = model_of(dialogue, model) else {
         return Ok(());
@@ -366,12 +376,44 @@ pub(crate) fn tell_item_fault(
                 None => Ok(()),
             }
         }
-        TermFlaw::NotFresh => tell_earlier(page, dialogue, index_of_number(check), name),
-        TermFlaw::IllSorted => tell_declared(page, dialogue, index_of_number(check), name),
-        TermFlaw::Unknown => {
-            tell_unknown_in_item(page, dialogue, index_of_number(check), spans, place)
+        TermFlaw::NotFresh | TermFlaw::IllSorted | TermFlaw::Unknown => {
+            if standing_at(page.alloc, dialogue, check, model, left)?.is_none() {
+                return page.line(ENOUGH);
+            }
+            tell_item_names(page, dialogue, index_of_number(check), spans, place, flaw)
         }
         _ => Ok(()),
+    }
+}
+
+// What differs between an item of a model and what stands at the check.
+fn tell_item_names(
+    page: &mut Page,
+    dialogue: &Dialogue<'_>,
+    check: usize,
+    spans: &[Span],
+    place: usize,
+    flaw: TermFlaw,
+) -> Result<(), Memory> {
+    let Some(span) = spans.get(place) else {
+        return Ok(());
+    };
+    let name = word(text_at(dialogue.texts.answers, *span), 1);
+    match flaw {
+        TermFlaw::NotFresh => tell_earlier(page, dialogue, check, name),
+        TermFlaw::IllSorted => {
+            tell_declared(page, dialogue, check, name)?;
+            tell_sorts_in_item(
+                page,
+                dialogue,
+                &ItemAt {
+                    check,
+                    spans,
+                    place,
+                },
+            )
+        }
+        _ => tell_unknown_in_item(page, dialogue, check, spans, place),
     }
 }
 

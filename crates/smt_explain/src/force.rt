@@ -3,6 +3,7 @@
 use crate::pairs::{Head, Pair, word};
 use crate::scan::{Span, text_at};
 use smt_faults::Memory;
+use smt_theory::Profile;
 use std::alloc::Global;
 
 /// The most levels that one command pushes or pops.
@@ -16,9 +17,10 @@ pub(crate) struct Stand {
     pub(crate) gone: bool,
 }
 
-/// The commands of a script, with what each is.
+/// The commands of a script, with what each is, and the profile of their language.
 #[derive(Clone, Copy)]
 pub(crate) struct Commands<'a> {
+    pub(crate) profile: Profile,
     pub(crate) script: &'a [u8],
     pub(crate) spans: &'a [Span],
     pub(crate) pairs: &'a [Pair],
@@ -151,10 +153,14 @@ pub(crate) fn has_label(text: &[u8]) -> bool {
     false
 }
 
-// How many levels a command pushes or pops.
+// How many levels a command pushes or pops: one where it says none.
 fn levels_of(text: &[u8]) -> u64 {
+    let digits = word(text, 1);
+    if digits.is_empty() {
+        return 1;
+    }
     let mut number = 0u64;
-    for byte in word(text, 1) {
+    for byte in digits {
         if matches!(*byte, b'0'..=b'9') {
             number = number
                 .saturating_mul(10)

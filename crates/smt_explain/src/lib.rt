@@ -12,12 +12,15 @@
 mod evaluation;
 mod faults;
 mod force;
+mod ill_sorted;
+mod library;
 mod names;
 mod page;
 mod pairs;
 mod parts;
 mod scan;
 mod show;
+mod sorts;
 mod told;
 mod unknown;
 mod values;

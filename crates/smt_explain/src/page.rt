@@ -1,4 +1,5 @@
 //! The lines of an explanation. Each is of printable bytes, and bounded, and so is how many there are of a check.
+//! This file knows nothing of what they say.
 
 use crate::scan::part;
 use smt_faults::Memory;

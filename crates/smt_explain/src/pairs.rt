@@ -2,6 +2,7 @@
 
 use crate::scan::{Span, is_word, part, text_at};
 use smt_faults::Memory;
+use smt_theory::Profile;
 use std::alloc::Global;
 
 /// What a command is, as far as answers and what is in force go.
@@ -57,6 +58,13 @@ enum Said {
     Else,
 }
 
+/// How a solver answers from the start.
+#[derive(Clone, Copy)]
+pub(crate) struct Start {
+    pub(crate) prints_success: bool,
+    pub(crate) profile: Profile,
+}
+
 /// Pairs the commands of a script with its answers.
 pub(crate) fn pair_up(
     alloc: Global,
@@ -64,10 +72,10 @@ pub(crate) fn pair_up(
     commands: &[Span],
     answers: &[u8],
     given: &[Span],
-    prints_success: bool,
+    start: &Start,
 ) -> Result<Vec<Pair>, Memory> {
     let mut pairs = Vec::with_capacity(alloc, commands.len())?;
-    let mut prints = prints_success;
+    let mut prints = start.prints_success;
     let mut next = 0usize;
     for command in commands {
         let text = text_at(script, *command);
@@ -77,7 +85,7 @@ pub(crate) fn pair_up(
             None => None,
         };
         let takes = match said {
-            Some(said) => takes(need_of(head, prints), said),
+            Some(said) => takes(need_of(head, prints, start), said),
             None => false,
         };
         let effective = !takes || said == Some(Said::Success) || said == Some(Said::Else);
@@ -90,7 +98,7 @@ pub(crate) fn pair_up(
             next = next.saturating_add(1);
         }
         if effective {
-            prints = prints_after(head, prints, prints_success);
+            prints = prints_after(head, prints, start.prints_success);
         }
     }
     Ok(pairs)
@@ -114,14 +122,22 @@ fn takes(need: Need, said: Said) -> bool {
     }
 }
 
-fn need_of(head: Head, prints: bool) -> Need {
+fn need_of(head: Head, prints: bool, start: &Start) -> Need {
     match head {
         Head::Check | Head::Model | Head::Echo | Head::Query => Need::Needed,
         Head::Exit => Need::Success,
         Head::Prints(true) => Need::Needed,
         Head::Prints(false) => Need::General,
         Head::Setting | Head::Global(_) => needed_or(prints, Need::Unsupported),
+        Head::Logic => needed_or(prints, unsupported_if_wide(start)),
         _ => needed_or(prints, Need::Nothing),
+    }
+}
+
+fn unsupported_if_wide(start: &Start) -> Need {
+    match start.profile {
+        Profile::Base => Need::Nothing,
+        Profile::Wide => Need::Unsupported,
     }
 }
 
@@ -148,7 +164,7 @@ pub(crate) fn head_of(text: &[u8]) -> Head {
     match word(text, 0) {
         b"assert" => Head::Assert,
         b"declare-const" | b"declare-fun" => Head::Declare,
-        b"define-fun" => Head::Define,
+        b"define-fun" | b"define-const" => Head::Define,
         b"define-sort" => Head::DefineSort,
         b"push" => Head::Push,
         b"pop" => Head::Pop,
@@ -184,45 +200,58 @@ fn option_of(text: &[u8]) -> Head {
 /// The atom of a list that stands behind so many others, if no list stands before it: its bytes, without bars.
 pub(crate) fn word(text: &[u8], place: usize) -> &[u8] {
     let mut skipped = 0usize;
-    let mut begun: Option<usize> = None;
-    let mut barred = false;
-    let mut comment = false;
+    let mut within = Within::Gap;
     for (index, byte) in text.iter().enumerate() {
-        match begun {
-            Some(from) => {
-                let ends = if barred {
-                    *byte == b'|'
-                } else {
-                    !is_word(*byte)
-                };
-                if ends {
-                    if skipped == place {
-                        return part(text, from, index);
-                    }
-                    skipped = skipped.saturating_add(1);
-                    begun = None;
-                    comment = !barred && *byte == b';';
-                    barred = false;
+        match within {
+            Within::Word(from) | Within::Bars(from) if ends(within, *byte) => {
+                if skipped == place {
+                    return part(text, from, index);
                 }
+                skipped = skipped.saturating_add(1);
             }
-            None => {
-                if comment {
-                    comment = *byte != b'\n' && *byte != b'\r';
-                } else if *byte == b';' {
-                    comment = true;
-                } else if *byte == b'|' {
-                    barred = true;
-                    begun = Some(index.saturating_add(1));
-                } else if is_word(*byte) {
-                    begun = Some(index);
-                } else if *byte == b'(' && index > 0 {
-                    return &[];
-                }
-            }
+            Within::Gap if *byte == b'(' && index > 0 => return &[],
+            _ => {}
         }
+        within = after(within, index, *byte);
     }
-    match begun {
-        Some(from) if skipped == place => part(text, from, text.len()),
+    match within {
+        Within::Word(from) | Within::Bars(from) if skipped == place => part(text, from, text.len()),
         _ => &[],
+    }
+}
+
+/// What a byte of a list stands within.
+#[derive(Clone, Copy)]
+enum Within {
+    Gap,
+    Comment,
+    /// An atom that begins at this byte.
+    Word(usize),
+    /// An atom between bars, the first byte of which is this.
+    Bars(usize),
+}
+
+// Whether an atom ends before this byte.
+fn ends(within: Within, byte: u8) -> bool {
+    match within {
+        Within::Word(_) => !is_word(byte),
+        Within::Bars(_) => byte == b'|',
+        _ => false,
+    }
+}
+
+// What the next byte stands within.
+fn after(within: Within, index: usize, byte: u8) -> Within {
+    match within {
+        Within::Gap => match byte {
+            b';' => Within::Comment,
+            b'|' => Within::Bars(index.saturating_add(1)),
+            _ if is_word(byte) => Within::Word(index),
+            _ => Within::Gap,
+        },
+        Within::Comment if matches!(byte, b'\n' | b'\r') => Within::Gap,
+        Within::Word(_) if byte == b';' => Within::Comment,
+        Within::Word(_) | Within::Bars(_) if ends(within, byte) => Within::Gap,
+        _ => within,
     }
 }

@@ -2,6 +2,7 @@
 
 use smt_bits::Bits;
 use smt_faults::Memory;
+use smt_theory::Sort;
 use smt_trees::{Bytes, Tree, Trees, spelling};
 use smt_values::Value;
 use std::alloc::Global;
@@ -146,6 +147,18 @@ pub(crate) fn constant(alloc: Global, value: &Option<Value>) -> Result<Tree, Mem
 fn vector(alloc: Global, bits: &Bits) -> Result<Tree, Memory> {
     let digits = digits_of(alloc, bits.number(), bits.width().bits())?;
     Ok(Tree::Bin(Bytes::new(alloc, digits.as_slice())?))
+}
+
+/// A constant of a sort, as it is written.
+pub(crate) fn constant_of(alloc: Global, sort: Sort) -> Result<Tree, Memory> {
+    match sort {
+        Sort::Bool => symbol(alloc, b"true"),
+        Sort::Int => integer(alloc, 0),
+        Sort::Bits(width) => {
+            let digits = digits_of(alloc, 0, width.bits())?;
+            Ok(Tree::Bin(Bytes::new(alloc, digits.as_slice())?))
+        }
+    }
 }
 
 fn symbol(alloc: Global, name: &[u8]) -> Result<Tree, Memory> {

@@ -5,7 +5,7 @@ use crate::faults::{tell_command_fault, tell_item_fault, tell_pairing, tell_text
 use crate::force::{Commands, Stand, has_label, in_force};
 use crate::names::{Costs, cost_of, index_of};
 use crate::page::Page;
-use crate::pairs::{Head, Pair, head_of, pair_up};
+use crate::pairs::{Head, Pair, Start, head_of, pair_up};
 use crate::parts::{Known, tell_parts};
 use crate::scan::{Place, Scan, Span, find_trees, first_place, text_at};
 use crate::show::text_of;
@@ -13,6 +13,7 @@ use crate::world::{World, tree_of, world_of};
 use smt_faults::Memory;
 use smt_forms::Scope;
 use smt_report::{Claim, Line};
+use smt_theory::Profile;
 use smt_trees::{Tree, split_first};
 use smt_values::Value;
 use std::alloc::Global;
@@ -21,10 +22,10 @@ use std::alloc::Global;
 const LEAST: u64 = 10_000_000;
 
 /// What is told of a check for which no work is left.
-const ENOUGH: &[u8] = b"  (enough was looked at for the checks above)";
+pub(crate) const ENOUGH: &[u8] = b"  (enough was looked at for the checks above)";
 
-/// Both texts of a dialogue, what the files are called, whether the solver prints `success` from the start, and how
-/// many steps of evaluation the explanation of a check may take.
+/// Both texts of a dialogue, what the files are called, whether the solver prints `success` from the start, the
+/// profile of the language, and how many steps of evaluation the explanation of a check may take.
 #[derive(Clone, Copy)]
 pub struct Texts<'a> {
     pub script: &'a [u8],
@@ -32,6 +33,7 @@ pub struct Texts<'a> {
     pub script_name: &'a [u8],
     pub answers_name: &'a [u8],
     pub prints_success: bool,
+    pub profile: Profile,
     pub steps: u64,
 }
 
@@ -49,6 +51,7 @@ pub(crate) struct Dialogue<'a> {
 impl<'a> Dialogue<'a> {
     pub(crate) fn commands(&self) -> Commands<'a> {
         Commands {
+            profile: self.texts.profile,
             script: self.texts.script,
             spans: self.commands,
             pairs: self.pairs,
@@ -68,7 +71,10 @@ pub fn explain(alloc: Global, texts: Texts<'_>, lines: &[Line]) -> Result<Vec<u8
         script_scan.spans.as_slice(),
         texts.answers,
         answers_scan.spans.as_slice(),
-        texts.prints_success,
+        &Start {
+            prints_success: texts.prints_success,
+            profile: texts.profile,
+        },
     )?;
     let dialogue = Dialogue {
         texts,
@@ -109,63 +115,69 @@ fn tell_line(
                 b"  no model: no (get-model) behind it was answered by a list before the next check or change",
             )
         }
+        Line::ItemFault { check, command, .. }
+        | Line::Lacks { check, command, .. }
+        | Line::TooLong { check, command, .. }
+        | Line::Refuted { check, command, .. }
+        | Line::NotDecided { check, command, .. } => {
+            tell_check(page, dialogue, check, command)?;
+            tell_judgement(page, dialogue, line, left)
+        }
+        _ => tell_fault(page, dialogue, line),
+    }
+}
+
+// Why a model does not confirm a check.
+fn tell_judgement(
+    page: &mut Page,
+    dialogue: &Dialogue<'_>,
+    line: &Line,
+    left: &mut u64,
+) -> Result<(), Memory> {
+    match *line {
         Line::ItemFault {
-            check,
             command,
             model,
             item,
             flaw,
-        } => {
-            tell_check(page, dialogue, check, command)?;
-            tell_item_fault(page, dialogue, command, model, item, flaw)
-        }
+            ..
+        } => tell_item_fault(page, dialogue, command, model, item, flaw, left),
         Line::Lacks {
-            check,
-            command,
-            model,
             declaration,
+            model,
+            ..
         } => {
-            tell_check(page, dialogue, check, command)?;
             tell_command(page, dialogue, b"  lacks: ", declaration)?;
             tell_model(page, dialogue, model)
         }
-        Line::TooLong {
-            check,
-            command,
-            model,
-        } => {
-            tell_check(page, dialogue, check, command)?;
+        Line::TooLong { command, model, .. } => {
             tell_cost(page, dialogue, command, model, left)?;
             tell_model(page, dialogue, model)
         }
         Line::Refuted {
-            check,
             command,
             model,
             claim,
-        } => {
-            tell_check(page, dialogue, check, command)?;
-            tell_claim(page, dialogue, command, model, claim, Known::False, left)?;
-            tell_model(page, dialogue, model)
-        }
+            ..
+        } => tell_claim(page, dialogue, command, model, claim, Known::False, left),
         Line::NotDecided {
-            check,
             command,
             model,
             claim,
-        } => {
-            tell_check(page, dialogue, check, command)?;
-            tell_claim(page, dialogue, command, model, claim, Known::Open, left)?;
-            tell_model(page, dialogue, model)
-        }
+            ..
+        } => tell_claim(page, dialogue, command, model, claim, Known::Open, left),
+        _ => Ok(()),
+    }
+}
+
+fn tell_fault(page: &mut Page, dialogue: &Dialogue<'_>, line: &Line) -> Result<(), Memory> {
+    match *line {
         Line::TextFault { side, flaw } => tell_text_fault(page, dialogue, side, flaw),
         Line::CommandFault { command, flaw } => {
             tell_command(page, dialogue, b"fault: ", command)?;
             tell_command_fault(page, dialogue, command, flaw)
         }
-        Line::MissingAnswer { .. } | Line::UnexpectedAnswer { .. } | Line::ExtraAnswer { .. } => {
-            tell_pairing(page, dialogue, line)
-        }
+        _ => tell_pairing(page, dialogue, line),
     }
 }
 
@@ -312,6 +324,7 @@ fn claim_term(command: &Tree, claim: Claim) -> Option<&Tree> {
     }
 }
 
+// A claim of a check that is false or open, why, and where the model stands.
 fn tell_claim(
     page: &mut Page,
     dialogue: &Dialogue<'_>,
@@ -333,19 +346,32 @@ fn tell_claim(
             check
         }
     };
-    let Some(tree) = tree_of_command(page.alloc, dialogue, command)? else {
-        return Ok(());
-    };
-    let Some(term) = claim_term(&tree, claim) else {
-        return Ok(());
-    };
     let claimed = Claimed {
         check,
         command,
         claim,
         value,
     };
-    let Some((standing, mut world)) = world_at(page.alloc, dialogue, check, model, left)? else {
+    tell_reason(page, dialogue, claimed, model, left)?;
+    tell_model(page, dialogue, model)
+}
+
+// Why a claim is false or open.
+fn tell_reason(
+    page: &mut Page,
+    dialogue: &Dialogue<'_>,
+    claimed: Claimed,
+    model: u64,
+    left: &mut u64,
+) -> Result<(), Memory> {
+    let Some(tree) = tree_of_command(page.alloc, dialogue, claimed.command)? else {
+        return Ok(());
+    };
+    let Some(term) = claim_term(&tree, claimed.claim) else {
+        return Ok(());
+    };
+    let found = world_at(page.alloc, dialogue, claimed.check, model, left)?;
+    let Some((standing, mut world)) = found else {
         return page.line(ENOUGH);
     };
     world.claim = Some(term.copy(page.alloc)?);
@@ -390,13 +416,34 @@ fn world_at(
     model: u64,
     left: &mut u64,
 ) -> Result<Option<(Vec<Stand>, World)>, Memory> {
+    let Some(standing) = standing_at(alloc, dialogue, check, model, left)? else {
+        return Ok(None);
+    };
+    let world = world_of(
+        alloc,
+        dialogue.commands(),
+        standing.as_slice(),
+        dialogue.texts.answers,
+        model_of(dialogue, model),
+    )?;
+    Ok(Some((standing, world)))
+}
+
+/// What stands at a check; `None` where too little work is left to look at that and at the model that was printed for
+/// a command.
+pub(crate) fn standing_at(
+    alloc: Global,
+    dialogue: &Dialogue<'_>,
+    check: u64,
+    model: u64,
+    left: &mut u64,
+) -> Result<Option<Vec<Stand>>, Memory> {
     let place = index_of_number(check);
     if !take_work(left, place as u64) {
         return Ok(None);
     }
     let standing = in_force(alloc, dialogue.commands(), place)?;
-    let printed = model_of(dialogue, model);
-    let model_size = match printed {
+    let model_size = match model_of(dialogue, model) {
         Some(span) => span.end.saturating_sub(span.start.byte) as u64,
         None => 0,
     };
@@ -404,14 +451,7 @@ fn world_at(
     if !take_work(left, size.saturating_add(model_size)) {
         return Ok(None);
     }
-    let world = world_of(
-        alloc,
-        dialogue.commands(),
-        standing.as_slice(),
-        dialogue.texts.answers,
-        printed,
-    )?;
-    Ok(Some((standing, world)))
+    Ok(Some(standing))
 }
 
 fn tell_in(

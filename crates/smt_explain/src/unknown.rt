@@ -4,11 +4,10 @@
 use crate::force::{Commands, Stand, has_label};
 use crate::pairs::{Head, word};
 use crate::scan::{find_tokens, first_place, text_at};
+use crate::world::form_of;
 use smt_faults::Memory;
-use smt_forms::{
-    ItemForm, Scope, is_bang, is_let, is_underscore, item_form, split_let, split_named,
-};
-use smt_theory::{Theories, op_of};
+use smt_forms::{ItemForm, Scope, is_bang, is_let, is_underscore, split_let, split_named};
+use smt_theory::{Profile, all_theories, op_of};
 use smt_trees::{Tree, split_first};
 use std::alloc::Global;
 
@@ -73,11 +72,7 @@ pub(crate) fn without_bars(symbol: &[u8]) -> &[u8] {
 
 /// Whether a name is an operator's, of any theory.
 pub(crate) fn is_operator(name: &[u8]) -> bool {
-    let all = Theories {
-        ints: true,
-        bits: true,
-    };
-    op_of(all, name, &[]).is_ok()
+    op_of(all_theories(Profile::Base), name, &[]).is_ok()
 }
 
 fn is_indexed_operator(name: &[u8]) -> bool {
@@ -114,9 +109,9 @@ pub(crate) fn unknown_in_command<'a>(
             }
             Ok(None)
         }
-        (Head::Define, _) => match item_form(command) {
-            Ok(form) => unknown_in_form(alloc, known, &form),
-            Err(_) => Ok(None),
+        (Head::Define, _) => match form_of(command) {
+            Some(form) => unknown_in_form(alloc, known, &form),
+            None => Ok(None),
         },
         (_, [_, _, Tree::List(sorts), sort]) => Ok(unknown_sort_in(
             &known.sorts,

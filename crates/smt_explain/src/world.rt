@@ -5,7 +5,7 @@ use crate::pairs::Head;
 use crate::scan::{Place, Span, find_trees, part, text_at};
 use crate::walk::all_inside_first;
 use smt_faults::{Memory, TextFault};
-use smt_forms::{ItemForm, is_bang, item_form, label_at, split_named};
+use smt_forms::{ItemForm, NameSet, is_bang, item_form, label_at, split_named};
 use smt_text::read_trees;
 use smt_theory::{Sort, Width};
 use smt_trees::{Tree, split_first};
@@ -42,6 +42,25 @@ pub(crate) fn tree_of(alloc: Global, text: &[u8]) -> Result<Option<Tree>, Memory
     }
 }
 
+/// The parts of a definition or of an item; `None` where a tree is neither.
+pub(crate) fn form_of(tree: &Tree) -> Option<ItemForm<'_>> {
+    let Tree::List(parts) = tree else {
+        return None;
+    };
+    match parts.as_slice() {
+        [Tree::Symbol(word), Tree::Symbol(name), sort, body]
+            if matches!(word.as_slice(), b"define-const") => {
+            Some(ItemForm {
+                name: name.as_slice(),
+                parameters: &[],
+                sort,
+                body,
+            })
+        }
+        _ => item_form(tree).ok(),
+    }
+}
+
 /// The places of the trees of a list.
 pub(crate) fn places_in(alloc: Global, text: &[u8], list: Span) -> Result<Vec<Span>, Memory> {
     let from = Place {
@@ -61,31 +80,49 @@ pub(crate) fn world_of(
     answers: &[u8],
     model: Option<Span>,
 ) -> Result<World, Memory> {
-    let mut world = World {
+    let mut own = World {
         definitions: Vec::new(alloc),
         claim: None,
     };
-    if let Some(span) = model {
-        add_model(alloc, &mut world, answers, span)?;
-    }
     for stand in standing {
         if let (Some((head, text)), Some(span)) = (
             commands.at(stand.place),
             commands.spans.get(stand.place),
         ) {
-            add_command(alloc, &mut world, head, text, span.start)?;
+            add_command(alloc, &mut own, head, text, span.start)?;
         }
     }
+    let mut world = World {
+        definitions: Vec::new(alloc),
+        claim: None,
+    };
+    if let Some(span) = model {
+        add_model(alloc, &mut world, answers, span, own.definitions.as_slice())?;
+    }
+    world.definitions.append(&mut own.definitions)?;
     Ok(world)
 }
 
-fn add_model(alloc: Global, world: &mut World, answers: &[u8], model: Span) -> Result<(), Memory> {
+// Adds the items of a model, but for those of names that the script itself defines: they are set aside.
+fn add_model(
+    alloc: Global,
+    world: &mut World,
+    answers: &[u8],
+    model: Span,
+    own: &[Defined],
+) -> Result<(), Memory> {
     let Some(Tree::List(items)) = tree_of(alloc, text_at(answers, model))? else {
         return Ok(());
     };
+    let mut defined = NameSet::new(alloc);
+    for definition in own {
+        defined.insert(definition.name.as_slice())?;
+    }
     let places = places_in(alloc, answers, model)?;
     for (item, span) in items.as_slice().iter().zip(places.as_slice().iter()) {
-        if let Ok(form) = item_form(item) {
+        if let Ok(form) = item_form(item)
+            && !defined.contains(form.name)
+        {
             add_form(alloc, world, &form, span.start, true)?;
         }
     }
@@ -110,9 +147,9 @@ fn add_command(
     let Some(tree) = tree_of(alloc, text)? else {
         return Ok(());
     };
-    match item_form(&tree) {
-        Ok(form) => add_form(alloc, world, &form, place, false),
-        Err(_) => add_labels(alloc, world, &tree, place),
+    match form_of(&tree) {
+        Some(form) => add_form(alloc, world, &form, place, false),
+        None => add_labels(alloc, world, &tree, place),
     }
 }
 

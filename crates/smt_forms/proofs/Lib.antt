@@ -1,7 +1,6 @@
 mod AttributeLemmas
 mod IdentifierLemmas
 pub mod HeadLemmas
-pub mod UsesLemmas
 pub mod PartLemmas
 pub mod PlaceLemmas
 pub mod ScopeLemmas

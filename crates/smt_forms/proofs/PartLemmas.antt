@@ -8,6 +8,7 @@ use Rattle.std.proofs.lemmas.List.Elements.{Contains-append_right, Contains-push
 use Rattle.std.specs.List.{Contains, flat_map}
 use Rattle.std.specs.Prelude.{slice_index_or, codes}
 use Rattle.std.specs.Str.{bytes_eq}
+use Rattle.smt_theory.specs.declared.sort.Sort.{Sort}
 use Rattle.smt_trees.specs.Sexp.{Sexp, Sexps, Atom, Reserved, Items, Nil, Cons, Symbol, Keyword, append}
 use Rattle.smt_trees.specs.declared.reserved.Word.TheVariants.{Bang, Let, Underscore}
 use Rattle.smt_theory.specs.Words.{look_up}
@@ -18,7 +19,6 @@ use Rattle.smt_forms.specs.Parts.{IsLabelled, IsNamedBy, OccursFree, Alone, Insi
 use Rattle.smt_forms.specs.Parts.{own_labels, parts_of, trees_of}
 use Rattle.std.specs.Cmp.Lexicographic.{same_text}
 use Rattle.std.proofs.lemmas.Cmp.{nat_list_eq_equiv}
-use Rattle.smt_forms.proofs.UsesLemmas.{Scope}
 
 -- names that pass the test are the same, and one passes it with itself
 same_name : (x y : List ℕ) → bytes_eq x y ≡ true → x ≡ y
@@ -30,6 +30,10 @@ same_self x = nat_list_eq_equiv.refl x
 neither : (a b : Bool) → a || b ≡ false → (a ≡ false) × (b ≡ false)
 neither true b h = cc
 neither false b h = (refl, h)
+
+-- variables with their sorts
+abbrev Scope : Type 0
+Scope = List (List ℕ × Sort)
 
 -- the names of variables
 abbrev names_in : Scope → List (List ℕ)

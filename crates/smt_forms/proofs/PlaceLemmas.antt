@@ -12,9 +12,11 @@ use Rattle.std.proofs.lemmas.Option.{none-some}
 use Rattle.std.proofs.lemmas.Cmp.{nat_list_eq_equiv}
 use Rattle.std.specs.Cmp.Lexicographic.{same_text}
 use Rattle.std.specs.Prelude.{bytes_eq, if◌then◌else◌}
-use Rattle.std.specs.BTreeMap.{BTreeMap}
 use Rattle.std.specs.Map.{update}
-use Rattle.std.specs.Option.{option_or}
+use Rattle.std.specs.Option.{option_flatten, option_or}
+use Rattle.smt_theory.specs.Words.{look_up}
+use Rattle.smt_names.specs.Entries.{entries_of}
+use Rattle.smt_names.specs.declared.map.NameMap.{NameMap}
 use Rattle.smt_forms.specs.declared.places.Placed.{Placed}
 use Rattle.smt_forms.specs.Internal.Places.{AreHiding, IsIndexed, names_of, place_from, place_in}
 
@@ -105,13 +107,13 @@ early few ns name h =
 
 -- ## The map, one name more or fewer
 
-pub indexed-none : (few : ℕ) (m : BTreeMap (Bor (List ℕ)) ℕ) → m.entries ≡ [] → IsIndexed few [] m
+pub indexed-none : (few : ℕ) (m : NameMap (Option ℕ)) → entries_of m ≡ [] → IsIndexed few [] m
 indexed-none few m h = record {
-  found = λ name. grind (arith, h);
+  found = λ name. ap (λ es. option_flatten (look_up es name)) h ∙ sym (early few [] name (omega arith));
   hiding = tt;
 }
 
-pub indexed-few : (few : ℕ) (ns : List Placed) (n : Placed) (m : BTreeMap (Bor (List ℕ)) ℕ)
+pub indexed-few : (few : ℕ) (ns : List Placed) (n : Placed) (m : NameMap (Option ℕ))
     → length ns < few → n.hidden ≡ None → IsIndexed few ns m → IsIndexed few (ns ++ n ∷ []) m
 indexed-few few ns n m l none i =
     let short : length (ns ++ n ∷ []) ≤ few = omega (arith, length-append ns (n ∷ [])) in
@@ -121,7 +123,7 @@ indexed-few few ns n m l none i =
       hiding = hiding-push few [] ns n i.hiding (none ∙ sym (early few ns n.name.now (omega arith)));
     }
 
-pub indexed-front : (few : ℕ) (ns : List Placed) (n : Placed) (m : BTreeMap (Bor (List ℕ)) ℕ)
+pub indexed-front : (few : ℕ) (ns : List Placed) (n : Placed) (m : NameMap (Option ℕ))
     → length ns < few → IsIndexed few (ns ++ n ∷ []) m → IsIndexed few ns m
 indexed-front few ns n m l i =
     let short : length (ns ++ n ∷ []) ≤ few = omega (arith, length-append ns (n ∷ [])) in
@@ -131,7 +133,7 @@ indexed-front few ns n m l i =
       hiding = hiding-front few [] ns n i.hiding;
     }
 
-pub indexed-push : (few : ℕ) (ns : List Placed) (n : Placed) (m m' : BTreeMap (Bor (List ℕ)) ℕ) (k : ℕ)
+pub indexed-push : (few : ℕ) (ns : List Placed) (n : Placed) (m m' : NameMap (Option ℕ)) (k : ℕ)
     → few ≤ length ns → k ≡ length ns → n.hidden ≡ place_in m n.name.now
     → ((name : List ℕ) → place_in m' name ≡ update bytes_eq (place_in m) n.name.now (Some k) name)
     → IsIndexed few ns m → IsIndexed few (ns ++ n ∷ []) m'
@@ -145,7 +147,7 @@ indexed-push few ns n m m' k l at hides after i =
       hiding = hiding-push few [] ns n i.hiding (hides ∙ i.found n.name.now);
     }
 
-pub indexed-pop : (few : ℕ) (ns : List Placed) (n : Placed) (m m' : BTreeMap (Bor (List ℕ)) ℕ)
+pub indexed-pop : (few : ℕ) (ns : List Placed) (n : Placed) (m m' : NameMap (Option ℕ))
     (hidden : Option ℕ) → few ≤ length ns → n.hidden ≡ hidden
     → ((name : List ℕ) → place_in m' name ≡ update bytes_eq (place_in m) n.name.now hidden name)
     → IsIndexed few (ns ++ n ∷ []) m → IsIndexed few ns m'
@@ -168,7 +170,7 @@ indexed-pop few ns n m m' hidden l same after i =
         (nat_list_eq_equiv.symm name n.name.now ∙ is)
 
 -- a name at the end has a place
-pub last-known : (few : ℕ) (ns : List Placed) (n : Placed) (m : BTreeMap (Bor (List ℕ)) ℕ)
+pub last-known : (few : ℕ) (ns : List Placed) (n : Placed) (m : NameMap (Option ℕ))
     → few ≤ length ns → IsIndexed few (ns ++ n ∷ []) m → place_in m n.name.now ≡ Some (length ns)
 last-known few ns n m l i =
     i.found n.name.now ∙ late few ns n n.name.now l
@@ -216,7 +218,7 @@ names-drop zero ns = refl
 names-drop (suc n) [] = refl
 names-drop (suc n) (x ∷ xs) = names-drop n xs
 
-whole : (few : ℕ) (ns : List Placed) (m : BTreeMap (Bor (List ℕ)) ℕ) (name : List ℕ) → few ≤ length ns
+whole : (few : ℕ) (ns : List Placed) (m : NameMap (Option ℕ)) (name : List ℕ) → few ≤ length ns
     → IsIndexed few ns m → place_from 0 (names_of ns) name
     ≡ option_or (place_in m name) (place_from 0 (names_of (take few ns)) name)
 whole few ns m name l i =
@@ -229,20 +231,39 @@ whole few ns m name l i =
     ∙ ap (λ xs. option_or (place_from few xs name) (place_from 0 front name)) (names-drop few ns)
     ∙ ap (λ o. option_or o (place_from 0 front name)) (sym (i.found name))
 
-pub found-late : (few : ℕ) (ns : List Placed) (m : BTreeMap (Bor (List ℕ)) ℕ) (name : List ℕ) (k : ℕ)
+pub found-late : (few : ℕ) (ns : List Placed) (m : NameMap (Option ℕ)) (name : List ℕ) (k : ℕ)
     → few ≤ length ns → IsIndexed few ns m → place_in m name ≡ Some k
     → place_from 0 (names_of ns) name ≡ Some k
 found-late few ns m name k l i is =
     whole few ns m name l i ∙ ap (λ o. option_or o (place_from 0 (names_of (take few ns)) name)) is
 
-pub found-early : (few : ℕ) (ns : List Placed) (m : BTreeMap (Bor (List ℕ)) ℕ) (name : List ℕ)
+pub found-early : (few : ℕ) (ns : List Placed) (m : NameMap (Option ℕ)) (name : List ℕ)
     → few ≤ length ns → IsIndexed few ns m → place_in m name ≡ None
     → place_from 0 (names_of ns) name ≡ place_from 0 (names_of (take few ns)) name
 found-early few ns m name l i is =
     whole few ns m name l i ∙ ap (λ o. option_or o (place_from 0 (names_of (take few ns)) name)) is
 
--- what a write of a key that is there makes: it takes no memory
-pub written : {T E P : Type 0} (r : Result T E) (o : Option ℕ) (k : ℕ) → OnOk r P → OnErr r (o ≡ None)
-    → o ≡ Some k → P
+-- ## What the map has of a name
+
+-- a name that has a place stands for one
+stands_for : (o : Option (Option ℕ)) (k : ℕ) → option_flatten o ≡ Some k → o ≡ Some (Some k)
+stands_for None k is = cc
+stands_for (Some p) k is = ap (λ q. Some q) is
+
+-- a place that is written, among those of all names
+pub placed_alone : (m m' : NameMap (Option ℕ)) (name : List ℕ) (place : Option ℕ)
+    → ((other : List ℕ) → look_up (entries_of m') other
+    ≡ (if bytes_eq name other then Some place else look_up (entries_of m) other))
+    → (other : List ℕ) → place_in m' other ≡ update bytes_eq (place_in m) name place other
+placed_alone m m' name place alone other =
+    ap option_flatten (alone other) ∙ by (bytes_eq name other) (look_up (entries_of m) other)
+  where
+    by : (b : Bool) (o : Option (Option ℕ)) → option_flatten (cond b (Some place) o) ≡ cond b place (option_flatten o)
+    by true o = refl
+    by false o = refl
+
+-- what a write of a name that is there makes: it takes no memory
+pub written : {T E P : Type 0} (r : Result T E) (o : Option (Option ℕ)) (k : ℕ) → OnOk r P → OnErr r (o ≡ None)
+    → option_flatten o ≡ Some k → P
 written (Ok v) o k h i is = h
-written (Err f) o k h i is = absurd (none-some k (sym i ∙ is))
+written (Err f) o k h i is = absurd (none-some (Some k) (sym i ∙ stands_for o k is))

@@ -1,6 +1,6 @@
 -- What a contract sees of the variables in scope, the innermost first.
 use Rattle.std.specs.Prelude.{ℕ, List, [], ◌∷◌, ◌++◌}
-use Rattle.smt_forms.specs.declared.variable_scope.Scope.{Scope}
+use Rattle.smt_forms.specs.declared.scope.Scope.{Scope}
 
 -- names with what stands for each, the last first
 abbrev pub innermost_first : {V : Type 0} → List (List ℕ) → List V → List (List ℕ × V)

@@ -1,4 +1,5 @@
-//! Lists of a symbol and a tree, as bindings and parameters are, and the parts of a `let`.
+//! Lists of a symbol and a tree, as bindings and parameters are, and the parts of a `let`. This file reads no term:
+//! what stands beside a symbol is any tree.
 
 ghost use Rattle.std.specs.Prelude.{◌≡◌, None, MatchOption};
 ghost use Rattle.smt_trees.specs.Sexp.{Atom, Cons, Items, Nil, Symbol};

@@ -1,4 +1,4 @@
-//! Identifiers: plain symbols, and symbols with indexes.
+//! Identifiers: plain symbols, and symbols with indexes. This file knows no names but those of operators.
 
 ghost use Rattle.std.specs.Prelude.{◌≡◌, Some, None, map, is_some, ok_or, MatchOption};
 ghost use Rattle.smt_trees.specs.Sexp.{Items};

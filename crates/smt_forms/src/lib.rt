@@ -19,10 +19,8 @@ pub mod laws;
 mod name_set;
 mod params;
 mod places;
-mod repeated;
 mod scope;
-mod variable_scope;
-mod variables;
+mod variable;
 
 pub use attributes::{are_attributes, label_at};
 pub use bindings::{are_named, split_let, split_named};
@@ -31,7 +29,5 @@ pub use identifier::{Identifier, applied_identifier, are_indexes, indexed_identi
 pub use items::{ItemForm, item_form};
 pub use name_set::NameSet;
 pub use params::{Param, params_of};
-pub use repeated::{first_repeated, first_repeated_param};
-pub use scope::{Variable, find_variable};
-pub use variable_scope::Scope;
-pub use variables::uses_variable;
+pub use scope::Scope;
+pub use variable::{Variable, find_variable};

@@ -1,4 +1,4 @@
-//! The parameters of definitions.
+//! The parameters of definitions. This file knows no sorts: the trees that name them stay as they are.
 
 ghost use Rattle.std.specs.Prelude.{◌≡◌, map, IfOk};
 ghost use Rattle.smt_trees.specs.Tree.{sexps_of};

@@ -2,11 +2,11 @@
 //! a name stands for.
 
 ghost use Rattle.std.specs.Prelude.{◌≡◌, ◌∷◌, ◌++◌, ◌-◌, [], length, take, OnErr, OnOk, bytes_eq};
-ghost use Rattle.smt_forms.specs.Internal.Places.{names_of, place_from};
+ghost use Rattle.smt_forms.specs.Internal.Places.{names_of, place_from, place_in};
 
 use smt_faults::Memory;
+use smt_names::NameMap;
 use std::alloc::Global;
-use std::collections::BTreeMap;
 use std::marker::Model;
 
 // How many names are compared one after another. Those behind them stand in the map.
@@ -16,7 +16,8 @@ const FEW: usize = 8;
 #[derive(Drop)]
 pub struct Places<'a> {
     names: Vec<Placed<'a>>,
-    last: BTreeMap<&'a [u8], usize>,
+    // Of each name the place of the last that is the same, if one is left.
+    last: NameMap<Option<usize>>,
 }
 
 // A name, and the place that it hides in the map.
@@ -44,7 +45,7 @@ impl<'a> Places<'a> {
     {
         Places {
             names: Vec::new(alloc),
-            last: BTreeMap::new(alloc),
+            last: NameMap::new(alloc),
         }
     }
 
@@ -67,7 +68,7 @@ impl<'a> Places<'a> {
         if names.len() <= FEW {
             return find_last(names, name);
         }
-        match self.last.get(name).copied() {
+        match last_place(&self.last, name) {
             Some(place) => Some(place),
             None => find_last(&names[..FEW], name),
         }
@@ -84,7 +85,8 @@ impl<'a> Places<'a> {
         }
         // Nothing is refused behind the map's own want of memory, which leaves all as it was.
         self.names.reserve(1)?;
-        let hidden = self.last.insert(name, place)?;
+        let hidden = self.last.replace(name, Some(place))?;
+        let hidden = hidden.flatten();
         self.names.push(Placed { name, hidden })?;
         Ok(())
     }
@@ -107,16 +109,17 @@ impl<'a> Places<'a> {
         if self.names.len() < FEW {
             return;
         }
-        match gone.hidden {
-            Some(place) => {
-                // The map has the name, so that this takes no memory.
-                let _ = self.last.insert(gone.name, place);
-            }
-            None => {
-                self.last.remove(gone.name);
-            }
-        }
+        // The map has the name, so that this takes no memory.
+        let _ = self.last.replace(gone.name, gone.hidden);
     }
+}
+
+// The place that a map has of a name.
+#[inline(always)]
+fn last_place(last: &NameMap<Option<usize>>, name: &[u8]) -> Option<usize>
+    ensures { result ≡ place_in last.now name.now }
+{
+    last.get(name).copied().flatten()
 }
 
 fn find_last(names: &[Placed<'_>], name: &[u8]) -> Option<usize>

@@ -1,32 +1,77 @@
-//! The variables that a term sees.
+//! The variables in scope, by name. This file knows nothing of what stands for a variable.
 
-ghost use Rattle.std.specs.Prelude.{◌≡◌, bytes_eq};
-ghost use Rattle.smt_theory.specs.Words.{look_up};
-ghost use Rattle.smt_forms.specs.ScopeView.{scope_view};
+ghost use Rattle.std.specs.Prelude.{◌≡◌, length, slice_get};
 
-/// A variable with what stands for it: its sort, or its value. The name is without bars.
-#[derive(Clone, Copy)]
-pub struct Variable<'a, V> {
-    pub name: &'a [u8],
-    pub value: V,
+use crate::places::Places;
+use smt_faults::Memory;
+use std::alloc::Global;
+
+/// The variables that a term sees, each with what stands for it (SMT-LIB 2.6, section 3.6.1). A contract sees
+/// their list, the innermost first. To push a variable, to find one and to let one go each take time in
+/// proportion to a name and to the logarithm of how many there are, whatever the names.
+#[derive(Drop)]
+pub struct Scope<'a, V> {
+    places: Places<'a>,
+    values: Vec<V>,
+    ghost paired: { length values.items ≡ length places },
 }
 
-/// What stands for the innermost variable of this name among those that a term sees, the innermost first
-/// (SMT-LIB 2.6, section 3.6.1).
-#[inline(always)]
-pub fn find_variable<V: Copy>(scope: &[Variable<'_, V>], name: &[u8]) -> Option<V>
-    ensures { result ≡ look_up (scope_view scope.now) name.now }
-{
-    for variable in scope {
-        if is_same(name, variable.name) {
-            return Some(variable.value);
+impl<'a, V: Copy> Scope<'a, V> {
+    ghost use Rattle.std.specs.Prelude.{◌≡◌, ◌∷◌, ◌-◌, [], drop, length, OnErr, OnOk};
+    ghost use Rattle.smt_theory.specs.Words.{look_up};
+    ghost use Rattle.smt_forms.specs.ScopeOf.{scope_of};
+
+    /// No variable. It takes no memory.
+    pub fn new(alloc: Global) -> Self
+        ensures { scope_of result ≡ [] }
+    {
+        Scope {
+            places: Places::new(alloc),
+            values: Vec::new(alloc),
         }
     }
-    None
+
+    /// How many variables there are, those that others hide among them.
+    pub fn len(&self) -> usize
+        ensures { result ≡ length (scope_of self.now) }
+    {
+        self.values.len()
+    }
+
+    /// What stands for the innermost variable of this name, without bars; `None` where there is none.
+    #[inline(always)]
+    pub fn find(&self, name: &[u8]) -> Option<V>
+        ensures { result ≡ look_up (scope_of self.now) name.now }
+    {
+        match self.places.find(name) {
+            Some(place) => value_at(self.values.as_slice(), place),
+            None => None,
+        }
+    }
+
+    /// Puts a variable inside the others. It is refused only for want of memory, and then nothing changes.
+    pub fn push(&mut self, name: &'a [u8], value: V) -> Result<(), Memory>
+        ensures pushed { OnOk result (scope_of self.new ≡ (name.now, value) ∷ scope_of self.old) }
+        ensures unchanged { OnErr result (scope_of self.new ≡ scope_of self.old) }
+    {
+        self.values.reserve(1)?;
+        self.places.push(name)?;
+        self.values.push(value)?;
+        Ok(())
+    }
+
+    /// Leaves the outermost `len` variables, or all where there are no more.
+    pub fn cut(&mut self, len: usize)
+        ensures { scope_of self.new ≡ drop (length (scope_of self.old) - len) (scope_of self.old) }
+    {
+        self.places.cut(len);
+        self.values.truncate(len);
+    }
 }
 
-fn is_same(name: &[u8], other: &[u8]) -> bool
-    ensures { result ≡ bytes_eq name.now other.now }
+#[inline(always)]
+fn value_at<V: Copy>(values: &[V], place: usize) -> Option<V>
+    ensures { result ≡ slice_get values.now place }
 {
-    name == other
+    values.get(place).copied()
 }

@@ -1,4 +1,4 @@
-//! An item of a slice.
+//! An item of a slice. This file knows nothing of what it is.
 
 ghost use Rattle.std.specs.Prelude.{◌≡◌, ◌≤◌, MatchOption, None, Some, drop, length, min, slice_get};
 

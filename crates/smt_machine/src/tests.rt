@@ -4,7 +4,7 @@
 use crate::{Machine, Tables, cost_of_term, costs};
 use smt_faults::Memory;
 use smt_nodes::{Node, Nodes, TermId};
-use smt_theory::{Arithmetic, Comparison, CoreOp, IntsOp, Op, Sort};
+use smt_theory::{Arithmetic, Comparison, CoreOp, IntsOp, Op};
 use smt_values::Value;
 use std::alloc::Global;
 
@@ -15,41 +15,38 @@ const LESS: Op = Op::Ints(IntsOp::Comparison(Comparison::Less));
 const ITE: Op = Op::Core(CoreOp::Ite);
 
 fn apply(nodes: &mut Nodes, op: Op, args: &[TermId]) -> Result<TermId, Memory> {
-    nodes.push(&Node::Apply { op, args }, Sort::Int)
+    nodes.push(&Node::Apply { op, args })
 }
 
 // `x` is 2, and `(f a)` is `(let ((b 1) (a a)) (- b a a))`: -3 for 2.
 fn model(alloc: Global) -> Result<(Nodes, [TermId; 2]), Memory> {
     let mut nodes = Nodes::new(alloc);
-    let x = nodes.push(&Node::Numeral(b"2"), Sort::Int)?;
-    let one = nodes.push(&Node::Numeral(b"1"), Sort::Int)?;
-    let a = nodes.push(&Node::Slot(0), Sort::Int)?;
-    let inner_b = nodes.push(&Node::Slot(1), Sort::Int)?;
-    let inner_a = nodes.push(&Node::Slot(2), Sort::Int)?;
+    let x = nodes.push(&Node::Numeral(b"2"))?;
+    let one = nodes.push(&Node::Numeral(b"1"))?;
+    let a = nodes.push(&Node::Slot(0))?;
+    let inner_b = nodes.push(&Node::Slot(1))?;
+    let inner_a = nodes.push(&Node::Slot(2))?;
     let body = apply(&mut nodes, MINUS, &[inner_b, inner_a, inner_a])?;
     let values = &[one, a];
-    let f = nodes.push(&Node::Let { values, body }, Sort::Int)?;
+    let f = nodes.push(&Node::Let { values, body })?;
     Ok((nodes, [x, f]))
 }
 
 // `(g a b)` is `(ite (< b a) (- b a) (f b))`, and `(f x)` is the last of the script's own nodes.
 fn script(alloc: Global) -> Result<(Nodes, TermId, [TermId; 2]), Memory> {
     let mut nodes = Nodes::new(alloc);
-    let a = nodes.push(&Node::Slot(0), Sort::Int)?;
-    let b = nodes.push(&Node::Slot(1), Sort::Int)?;
+    let a = nodes.push(&Node::Slot(0))?;
+    let b = nodes.push(&Node::Slot(1))?;
     let less = apply(&mut nodes, LESS, &[b, a])?;
     let place = 1;
-    let f_b = nodes.push(&Node::Declared { place, args: &[b] }, Sort::Int)?;
+    let f_b = nodes.push(&Node::Declared { place, args: &[b] })?;
     let difference = apply(&mut nodes, MINUS, &[b, a])?;
     let g = apply(&mut nodes, ITE, &[less, difference, f_b])?;
-    let x = nodes.push(
-        &Node::Declared {
-            place: 0,
-            args: &[],
-        },
-        Sort::Int,
-    )?;
-    let f_x = nodes.push(&Node::Declared { place, args: &[x] }, Sort::Int)?;
+    let x = nodes.push(&Node::Declared {
+        place: 0,
+        args: &[],
+    })?;
+    let f_x = nodes.push(&Node::Declared { place, args: &[x] })?;
     Ok((nodes, g, [x, f_x]))
 }
 
@@ -62,7 +59,7 @@ fn value(alloc: Global) -> Result<(u64, Option<Value>, u64), Memory> {
         place: 0,
         args: &args,
     };
-    let term = transient.push(&call, Sort::Int)?.behind(script.len())?;
+    let term = transient.push(&call)?.behind(script.len())?;
     let tables = Tables {
         model: &model,
         model_bodies: &declared,

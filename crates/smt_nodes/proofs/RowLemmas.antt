@@ -78,7 +78,7 @@ row_kept rows more t u i r sound grown at =
     ap (λ (s : StoredRow). node_of u s.ends s.stored) (source_kept rows more r within)
     ∙ node_kept t u (source rows r).ends (source rows r).stored (sound.held p.0 (source rows r) p.1)
     (sound.within p.0 (source rows r) p.1) grown in
-    ap (λ (n : spec.Node). record { node = n; sort = r.sort; around = around_of r.stored }) here
+    ap (λ (n : spec.Node). record { node = n; around = around_of r.stored }) here
 
 -- a row that names no other holds its own node, without annotations
 own_source : (rows : List StoredRow) (r : StoredRow) → rows_in r.stored ≡ 0 → source rows r ≡ r
@@ -92,15 +92,15 @@ own_around : (s : Stored) → rows_in s ≡ 0 → around_of s ≡ 0
 own_around (Same number around) h = absurd (omega arith)
 own_around _ h = refl
 
--- a stored node with a sort
+-- a stored node
 pub stored_view : (rows : List StoredRow) (t : Lists) (r : StoredRow) (n : spec.Node) → r.ends ≡ lengths t
-    → IsStored t r.stored n → row_view rows t r ≡ record { node = n; sort = r.sort; around = 0 }
+    → IsStored t r.stored n → row_view rows t r ≡ record { node = n; around = 0 }
 stored_view rows t r n ends stored =
     let node : node_of t (source rows r).ends (source rows r).stored ≡ n =
     ap (λ (s : StoredRow). node_of t s.ends s.stored) (own_source rows r stored.own)
     ∙ ap (λ (e : Ends). node_of t e r.stored) ends ∙ stored.node in
     let around : around_of r.stored ≡ 0 = own_around r.stored stored.own in
-    λ k. record { node = node k; sort = r.sort; around = around k }
+    λ k. record { node = node k; around = around k }
 
 -- one annotation more
 pub annotated_around : (i : ℕ) (s : Stored) → around_of (annotated i s) ≡ around_of s + 1
@@ -123,12 +123,12 @@ annotated_source rows more i r new at below is =
 
 -- a row with one annotation more
 pub annotated_view : (rows more : List StoredRow) (t : Lists) (i : ℕ) (r new : StoredRow) → IsSound rows t
-    → slice_get rows i ≡ Some r → new.stored ≡ annotated i r.stored → new.sort ≡ r.sort
+    → slice_get rows i ≡ Some r → new.stored ≡ annotated i r.stored
     → row_view (rows ++ more) t new
     ≡ record (row_view rows t r) { around = (row_view rows t r).around + 1 }
-annotated_view rows more t i r new sound at is sort =
+annotated_view rows more t i r new sound at is =
     let from : source (rows ++ more) new ≡ source rows r =
     annotated_source rows more i r new at (sound.below i r at) is in
     let around : around_of new.stored ≡ around_of r.stored + 1 =
     ap (λ (s : Stored). around_of s) is ∙ annotated_around i r.stored in
-    λ k. record { node = node_of t (from k).ends (from k).stored; sort = sort k; around = around k }
+    λ k. record { node = node_of t (from k).ends (from k).stored; around = around k }

@@ -50,9 +50,9 @@ views_pushed rows t u new row sound grown is =
 
 pub stored_pushed : (rows : List StoredRow) (t u : Lists) (new : StoredRow) (n : Node) → IsSound rows t
     → Grows t u → new.ends ≡ lengths u → IsStored u new.stored n
-    → views (rows ++ new ∷ []) u ≡ views rows t ++ (record { node = n; sort = new.sort; around = 0 }) ∷ []
+    → views (rows ++ new ∷ []) u ≡ views rows t ++ (record { node = n; around = 0 }) ∷ []
 stored_pushed rows t u new n sound grown ends stored =
-    views_pushed rows t u new (record { node = n; sort = new.sort; around = 0 }) sound grown
+    views_pushed rows t u new (record { node = n; around = 0 }) sound grown
     (stored_view (rows ++ new ∷ []) u new n ends stored)
 
 nothing_more : (t : Lists) → Grows t t
@@ -63,12 +63,12 @@ nothing_more t = record {
 }
 
 pub annotated_pushed : (rows : List StoredRow) (t : Lists) (i : ℕ) (r new : StoredRow) → IsSound rows t
-    → slice_get rows i ≡ Some r → new.stored ≡ annotated i r.stored → new.sort ≡ r.sort
+    → slice_get rows i ≡ Some r → new.stored ≡ annotated i r.stored
     → views (rows ++ new ∷ []) t
     ≡ views rows t ++ (record (row_view rows t r) { around = (row_view rows t r).around + 1 }) ∷ []
-annotated_pushed rows t i r new sound at is sort =
+annotated_pushed rows t i r new sound at is =
     views_pushed rows t t new (record (row_view rows t r) { around = (row_view rows t r).around + 1 }) sound
-    (nothing_more t) (annotated_view rows (new ∷ []) t i r new sound at is sort)
+    (nothing_more t) (annotated_view rows (new ∷ []) t i r new sound at is)
 
 -- ---- cut
 

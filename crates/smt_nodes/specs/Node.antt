@@ -2,7 +2,6 @@
 -- nodes. Nothing here knows what a number or a place stands for.
 use Rattle.std.specs.Prelude.{ℕ, List}
 use Rattle.smt_theory.specs.declared.op.Op.{Op}
-use Rattle.smt_theory.specs.declared.sort.Sort.{Sort}
 
 pub data Node : Type 0 where
   -- literals, by their digits
@@ -17,8 +16,7 @@ pub data Node : Type 0 where
   Defined : (place : ℕ) → (args : List ℕ) → Node
   Let : (values : List ℕ) → (body : ℕ) → Node
 
--- a node with its sort, and how many annotations without a label stand directly round it
+-- a node, and how many annotations without a label stand directly round it
 pub record Row : Type 0 where
   pub node : Node
-  pub sort : Sort
   pub around : ℕ

@@ -5,10 +5,10 @@
 //! `Nodes::cut` leaves the first so many. So `(+ x 1)`, where `x` is the first variable in scope:
 //!
 //! ```text
-//! let x = nodes.push(&Node::Slot(0), Sort::Int)?;                           // 0
-//! let one = nodes.push(&Node::Numeral(b"1"), Sort::Int)?;                   // 1
-//! let sum = nodes.push(&Node::Apply { op: plus, args: &[x, one] }, Sort::Int)?; // 2
-//! nodes.get(sum.number())                                                   // Some(Node::Apply { .. })
+//! let x = nodes.push(&Node::Slot(0))?;                               // 0
+//! let one = nodes.push(&Node::Numeral(b"1"))?;                       // 1
+//! let sum = nodes.push(&Node::Apply { op: plus, args: &[x, one] })?; // 2
+//! nodes.get(sum.number())                                            // Some(Node::Apply { .. })
 //! ```
 #![tactic(auto)]
 

@@ -3,11 +3,10 @@
 
 use crate::op::PlainOp;
 use crate::term_id::TermId;
-use smt_theory::Sort;
 use std::mem::size_of;
 
 // Rows are read at random, and there may be many.
-const _: () = prove!(size_of::<StoredRow>() == 28);
+const _: () = prove!(size_of::<StoredRow>() == 24);
 
 const _: () = prove!(size_of::<TermId>() == 4);
 
@@ -44,6 +43,5 @@ pub(crate) enum Stored {
 #[derive(Clone, Copy)]
 pub(crate) struct StoredRow {
     pub(crate) stored: Stored,
-    pub(crate) sort: Sort,
     pub(crate) ends: Ends,
 }

@@ -10,12 +10,11 @@ use crate::rows::{Ends, Stored, StoredRow};
 use crate::tables::{Tables, narrow};
 use crate::term_id::TermId;
 use smt_faults::Memory;
-use smt_theory::Sort;
 use std::alloc::Global;
 
-/// Nodes by their numbers, from 0, in the order in which they came: each with its sort, and with how many
-/// annotations without a label stand directly round it (`!`, SMT-LIB 2.6, section 3.6.5). At most 2^32 - 1
-/// nodes, and as many arguments and digits in all.
+/// Nodes by their numbers, from 0, in the order in which they came: each with how many annotations without a
+/// label stand directly round it (`!`, SMT-LIB 2.6, section 3.6.5). At most 2^32 - 1 nodes, and as many
+/// arguments and digits in all.
 #[derive(Drop)]
 pub struct Nodes {
     rows: Vec<StoredRow>,
@@ -83,16 +82,6 @@ impl Nodes {
         }
     }
 
-    /// The sort of the node of a number; `None` from the length on.
-    pub fn sort(&self, number: usize) -> Option<Sort>
-        ensures { result ≡ option_map (λ row. row.sort) (slice_get (rows_of self.now) number) }
-    {
-        match self.row(number) {
-            Some(row) => Some(row.sort),
-            None => None,
-        }
-    }
-
     /// How many annotations without a label stand directly round the node of a number; `None` from the length
     /// on.
     pub fn around(&self, number: usize) -> Option<usize>
@@ -104,17 +93,17 @@ impl Nodes {
         }
     }
 
-    /// Adds a node of a sort, without annotations round it, and answers its number. If memory is refused, no
+    /// Adds a node, without annotations round it, and answers its number. If memory is refused, no
     /// node is added.
     #[inline(always)]
-    pub fn push(&mut self, node: &Node<'_>, sort: Sort) -> Result<TermId, Memory>
+    pub fn push(&mut self, node: &Node<'_>) -> Result<TermId, Memory>
         ensures pushed { OnOk result (rows_of self.new
-            ≡ rows_of self.old ++ (record { node = node_view node.now; sort = sort; around = 0 }) ∷ []) }
+            ≡ rows_of self.old ++ (record { node = node_view node.now; around = 0 }) ∷ []) }
         ensures number { IfOk result (λ id. id ≡ length (rows_of self.old)) }
         ensures unchanged { OnErr result (rows_of self.new ≡ rows_of self.old) }
     {
         let stored = self.tables.store(node)?;
-        self.push_row(stored, sort)
+        self.push_row(stored)
     }
 
     /// Adds the node of a number once more, with one annotation more round it, and answers the new number. If
@@ -128,7 +117,7 @@ impl Nodes {
     {
         let row = self.rows.as_slice()[id.number()];
         let stored = annotated(id, row.stored)?;
-        self.push_row(stored, row.sort)
+        self.push_row(stored)
     }
 
     /// Leaves the first so many nodes, at the cost of what goes.
@@ -142,11 +131,11 @@ impl Nodes {
 
     // Adds a row behind lists that hold what it stores, and answers its number.
     #[inline(always)]
-    fn push_row(&mut self, stored: Stored, sort: Sort) -> Result<TermId, Memory>
+    fn push_row(&mut self, stored: Stored) -> Result<TermId, Memory>
         requires held { IsHeld (lengths (lists_of self.old.tables)) stored }
         requires below { rows_in stored ≤ length self.old.rows.items }
         ensures pushed { OnOk result (self.new.rows.items ≡ self.old.rows.items
-            ++ (record { stored = stored; sort = sort; ends = lengths (lists_of self.old.tables) }) ∷ []) }
+            ++ (record { stored = stored; ends = lengths (lists_of self.old.tables) }) ∷ []) }
         ensures number { IfOk result (λ id. id ≡ length self.old.rows.items) }
         ensures unchanged { OnErr result (self.new.rows.items ≡ self.old.rows.items) }
         ensures tables { self.new.tables ≡ self.old.tables }
@@ -154,7 +143,7 @@ impl Nodes {
         let number = narrow(self.rows.len())?;
         let ends = self.tables.ends()?;
         self.rows.reserve(1)?;
-        self.rows.push_reserved(StoredRow { stored, sort, ends });
+        self.rows.push_reserved(StoredRow { stored, ends });
         Ok(TermId::new(number))
     }
 

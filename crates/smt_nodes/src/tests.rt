@@ -2,25 +2,22 @@
 
 use crate::{Node, NodeParts, Nodes};
 use smt_faults::Memory;
-use smt_theory::{Arithmetic, BitsOp, IntsOp, Op, Sort};
+use smt_theory::{Arithmetic, BitsOp, IntsOp, Op};
 use std::alloc::Global;
 
 // `(+ x (! 1))`, where `x` is the first variable in scope, and then one operator with a number on top.
 fn sum(alloc: Global) -> Result<Nodes, Memory> {
     let mut nodes = Nodes::new(alloc);
-    let x = nodes.push(&Node::Slot(0), Sort::Int)?;
-    let one = nodes.push(&Node::Numeral(b"1"), Sort::Int)?;
+    let x = nodes.push(&Node::Slot(0))?;
+    let one = nodes.push(&Node::Numeral(b"1"))?;
     let one = nodes.annotate(one)?;
     let op = Op::Ints(IntsOp::Arithmetic(Arithmetic::Plus));
-    let sum = nodes.push(
-        &Node::Apply {
-            op,
-            args: &[x, one],
-        },
-        Sort::Int,
-    )?;
+    let sum = nodes.push(&Node::Apply {
+        op,
+        args: &[x, one],
+    })?;
     let op = Op::Bits(BitsOp::Repeat(2));
-    let _ = nodes.push(&Node::Apply { op, args: &[sum] }, Sort::Int)?;
+    let _ = nodes.push(&Node::Apply { op, args: &[sum] })?;
     Ok(nodes)
 }
 

@@ -1,4 +1,4 @@
-//! What a check claims of a model: that these formulas are true in it.
+//! What a check claims of a model: that these formulas are true in it. This file knows no formula, and no model.
 
 use std::fmt;
 

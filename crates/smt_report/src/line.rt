@@ -1,4 +1,4 @@
-//! The lines of a report.
+//! The lines of a report. This file knows only what they say, and not how one is found.
 
 ghost use Rattle.std.specs.Prelude.{◌≡◌};
 ghost use Rattle.smt_report.specs.Verdict as verdicts;

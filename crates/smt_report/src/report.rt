@@ -1,4 +1,4 @@
-//! Reports.
+//! Reports. This file finds no line.
 
 use crate::line::Line;
 use crate::verdict::Verdict;

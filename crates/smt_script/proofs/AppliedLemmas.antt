@@ -10,9 +10,10 @@ use Rattle.smt_terms.specs.declared.library.Library.{Library}
 use Rattle.smt_script.specs.Command.{Command, effect_of}
 use Rattle.smt_script.specs.Stack.{Numbered, assumptions_after, assumptions_in_force, ends_assumptions}
 use Rattle.smt_script.specs.Stack.{signature_in_force}
-use Rattle.smt_script.specs.StackView.{AreTerms, HasInForce, StandsFor}
+use Rattle.smt_script.specs.StackView.{AreNamesAlike, AreTerms, HasInForce, StandsFor, profile_of}
 use Rattle.smt_script.specs.Internal.Effect.{HasAssumed, HasEffect, IsEnded, IsUnchanged, assumptions_left, with_notes}
 use Rattle.smt_script.specs.declared.stack.Stack.{Stack}
+use Rattle.smt_script.specs.declared.stack.Start.{Start}
 use Rattle.smt_script.proofs.HistoryLemmas.{alike_step}
 use Rattle.smt_script.proofs.AssumptionLemmas.{left_assumptions}
 use Rattle.smt_script.proofs.NeedLemmas.{same_force}
@@ -74,10 +75,13 @@ applied_stands old taken noted ended n command effect assumed is gone cs h =
     record {
       force = with_last ended n all
           (same_force noted ended all gone.library (ap (λ v. v.items) gone.assertions) gone.levels gone.notes force);
-      alike = alike_step cs (record { number = n; command = command }) (effect.faultless cs h.force) h.alike;
+      alike = subst (λ (x : Start). AreNamesAlike x.profile all)
+          (sym (gone.notes.start ∙ ap (λ (s : Stack). s.start) is ∙ effect.start))
+          (alike_step (profile_of old) cs (record { number = n; command = command }) (effect.faultless cs h.force)
+          h.alike);
       assumptions = subst (λ (ts : List Sexp). AreTerms (terms_of ended.library) ended.assumptions.items ts)
           (sym pushed)
-          (left_assumptions old taken (terms_of ended.library) command (signature_in_force cs)
+          (left_assumptions old taken (terms_of ended.library) command (signature_in_force (profile_of old) cs)
           (assumptions_in_force cs) ended.assumptions.items h.force.library assumed h.assumptions items table);
     }
 
@@ -86,7 +90,7 @@ pub unchanged_stands : (old new : Stack) → IsUnchanged old new → (cs : List 
     → StandsFor new cs
 unchanged_stands old new same cs h = record {
   force = same_force old new cs same.library same.assertions same.levels same.notes h.force;
-  alike = h.alike;
+  alike = subst (λ (x : Start). AreNamesAlike x.profile cs) (sym same.notes.start) h.alike;
   assumptions = subst (λ (t : Table). AreTerms t new.assumptions.items (assumptions_in_force cs))
       (sym (same_terms new.library old.library same.library same.transient))
       (subst (λ (ids : List ℕ). AreTerms (terms_of old.library) ids (assumptions_in_force cs))

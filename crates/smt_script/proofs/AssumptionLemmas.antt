@@ -17,11 +17,12 @@ use Rattle.smt_script.specs.Command.{Reset, ResetAssertions, Exit, CheckSat, Che
 use Rattle.smt_script.specs.Stack as spec
 use Rattle.smt_script.specs.Stack.{assertions_in_force, signature_in_force, assumptions_after, flaw_of_formula}
 use Rattle.smt_script.specs.Stack.{ends_assumptions, flaw_of_literals, trees_of}
-use Rattle.smt_script.specs.StackView.{AreAssertions, AreTerms}
+use Rattle.smt_script.specs.StackView.{AreAssertions, AreTerms, profile_of}
 use Rattle.smt_script.specs.Internal.Effect.{ContentsAreKept, HasAssumed, HasEffect, assumptions_left}
 use Rattle.smt_faults.specs.declared.command_flaw.CommandFlaw.{CommandFlaw}
 use Rattle.smt_script.specs.declared.stack.Stack.{Stack}
 use Rattle.smt_script.proofs.EffectLemmas.{Adds, added, assertions_stay, nothing_brought}
+use Rattle.smt_theory.specs.declared.profile.Profile.{Profile}
 
 -- the assumptions behind a command are those that it leaves or assumes
 pub left_assumptions : (old new : Stack) (now : Table) (command : Command) (s : Signature) (ts : List Sexp)
@@ -86,8 +87,8 @@ literal_next names l ls all e none =
     ap (flaw_of_literals names) e
     ∙ ap (λ (o : Option CommandFlaw). option_or o (flaw_of_literals names ls)) none
 
-assumes_adds : (literals : Sexps) → Adds (CheckSatAssuming literals)
-assumes_adds literals = record { no_reset = refl; level = λ d. refl; theories = λ t. refl }
+assumes_adds : (profile : Profile) (literals : Sexps) → Adds profile (CheckSatAssuming literals)
+assumes_adds profile literals = record { no_reset = refl; level = λ d. refl; theories = λ t. refl }
 
 -- literals that are formulas are assumed, and nothing else changes
 pub assume_effect : ContentsAreKept → (old : Stack) (l : Library) (v : Vec ℕ) (n : ℕ) (literals : Sexps)
@@ -96,15 +97,16 @@ pub assume_effect : ContentsAreKept → (old : Stack) (l : Library) (v : Vec ℕ
     → ((s : Signature) → library.StandsFor old.library s → flaw_of_literals (names_of s) literals ≡ None)
     → HasEffect old (record old { library = l; assumptions = v }) n (CheckSatAssuming literals)
 assume_effect law old l v n literals names grown none = record {
-  faultless = λ cs h. none (signature_in_force cs) h.library;
+  faultless = λ cs h. none (signature_in_force (profile_of old) cs) h.library;
   stands = λ cs h alike.
       added law old (record old { library = l; assumptions = v }) [] cs n (CheckSatAssuming literals) h alike
-      (assumes_adds literals) refl refl refl refl refl refl refl grown (sym (append-nil old.assertions.items))
-      (nothing_brought l (signature_in_force cs) n (CheckSatAssuming literals) refl refl
-      (names (signature_in_force cs) h.library))
+      (assumes_adds (profile_of old) literals) refl refl refl refl refl refl refl grown
+      (sym (append-nil old.assertions.items))
+      (nothing_brought l (signature_in_force (profile_of old) cs) n (CheckSatAssuming literals) refl refl
+      (names (signature_in_force (profile_of old) cs) h.library))
       (subst (λ (bs : List spec.Assertion). AreAssertions (contents_of l) old.assertions.items bs)
-      (sym (append-nil (assertions_in_force cs)))
+      (sym (append-nil (assertions_in_force (profile_of old) cs)))
       (assertions_stay law (contents_of old.library) (contents_of l) grown old.assertions.items
-      (assertions_in_force cs) h.assertions));
+      (assertions_in_force (profile_of old) cs) h.assertions));
   start = refl;
 }

@@ -11,26 +11,28 @@ use Rattle.smt_script.specs.Standing.{AreAmong, AreBrought, Brings, IsAmong, IsB
 use Rattle.smt_script.proofs.HistoryLemmas.{assertion_stands_after, history-push, standing}
 use Rattle.smt_script.proofs.StandingLemmas.{IsAssertion, Keeps, Yes, No, all_leave, all_stand, depth-push}
 use Rattle.smt_script.proofs.StandingLemmas.{keeps, leaves, steps, steps-from}
+use Rattle.smt_theory.specs.declared.profile.Profile.{Profile}
 
 -- ---- in order
 
 -- a part of what a command brought behind the earlier ones
-abbrev pub part_by : {A : Type 0} → (Brought → List A) → Brings A
-part_by part earlier c = part (brought_by earlier (history earlier) c)
+abbrev pub part_by : (profile : Profile) → {A : Type 0} → (Brought → List A) → Brings A
+part_by profile part earlier c = part (brought_by profile earlier (history profile earlier) c)
 
 -- what later commands brought, behind the earlier ones and one more
-abbrev behind : List Numbered → Numbered → List Numbered → List Brought
-behind before c cs = steps (before ++ c ∷ []) (history before ++ brought_by before (history before) c ∷ []) cs
+abbrev behind : (profile : Profile) → List Numbered → Numbered → List Numbered → List Brought
+behind profile before c cs = steps profile (before ++ c ∷ [])
+    (history profile before ++ brought_by profile before (history profile before) c ∷ []) cs
 
 -- a rule by which what was brought stands, in the words of commands
-pub record InWords (after : Brought → Brought → Bool) (S : Standing) : Type 0 where
+pub record InWords (profile : Profile) (after : Brought → Brought → Bool) (S : Standing) : Type 0 where
   pub there : (commands before : List Numbered) (c : Numbered) (cs : List Numbered)
       → commands ≡ before ++ c ∷ cs
-      → list_all (after (brought_by before (history before) c)) (behind before c cs) ≡ true
+      → list_all (after (brought_by profile before (history profile before) c)) (behind profile before c cs) ≡ true
       → S commands before c
   pub not_there : (commands before : List Numbered) (c : Numbered) (cs : List Numbered)
       → commands ≡ before ++ c ∷ cs
-      → list_all (after (brought_by before (history before) c)) (behind before c cs) ≡ false
+      → list_all (after (brought_by profile before (history profile before) c)) (behind profile before c cs) ≡ false
       → S commands before c → ⊥
 
 same_later : (commands before : List Numbered) (c : Numbered) (later cs : List Numbered)
@@ -40,40 +42,44 @@ same_later commands before c later cs place is =
 
 -- ---- assertions, level by level
 
-at_its_level : (before : List Numbered) (c : Numbered) (cs : List Numbered)
-    → list_all (stands_after (brought_by before (history before) c).level) (behind before c cs)
-    ≡ list_all (stands_after (depth_in_force (before ++ c ∷ []))) (behind before c cs)
-at_its_level before c cs =
-    ap (λ (l : ℕ). list_all (stands_after l) (behind before c cs)) (sym (depth-push before c))
+at_its_level : (profile : Profile) (before : List Numbered) (c : Numbered) (cs : List Numbered)
+    → list_all (stands_after (brought_by profile before (history profile before) c).level) (behind profile before c cs)
+    ≡ list_all (stands_after (depth_in_force (before ++ c ∷ []))) (behind profile before c cs)
+at_its_level profile before c cs =
+    ap (λ (l : ℕ). list_all (stands_after l) (behind profile before c cs)) (sym (depth-push before c))
 
-kept_behind : (before : List Numbered) (c : Numbered) (cs : List Numbered)
-    → list_all (stands_after (brought_by before (history before) c).level) (behind before c cs) ≡ true
+kept_behind : (profile : Profile) (before : List Numbered) (c : Numbered) (cs : List Numbered)
+    → list_all (stands_after (brought_by profile before (history profile before) c).level) (behind profile before c cs)
+    ≡ true
     → Keeps (depth_in_force (before ++ c ∷ [])) (before ++ c ∷ []) cs
-kept_behind before c cs e =
-    keeps (depth_in_force (before ++ c ∷ [])) (before ++ c ∷ [])
-    (history before ++ brought_by before (history before) c ∷ []) cs (sym (at_its_level before c cs) ∙ e)
+kept_behind profile before c cs e =
+    keeps profile (depth_in_force (before ++ c ∷ [])) (before ++ c ∷ [])
+    (history profile before ++ brought_by profile before (history profile before) c ∷ []) cs
+    (sym (at_its_level profile before c cs) ∙ e)
 
-all_behind : (before : List Numbered) (c : Numbered) (cs : List Numbered)
+all_behind : (profile : Profile) (before : List Numbered) (c : Numbered) (cs : List Numbered)
     → list_any (λ d. is_reset d.command) cs ≡ false
     → KeepLevels (depth_in_force (before ++ c ∷ [])) (before ++ c ∷ []) cs
-    → list_all (stands_after (brought_by before (history before) c).level) (behind before c cs) ≡ true
-all_behind before c cs none levels =
-    at_its_level before c cs
-    ∙ all_stand (depth_in_force (before ++ c ∷ [])) (before ++ c ∷ [])
-    (history before ++ brought_by before (history before) c ∷ []) cs none levels
+    → list_all (stands_after (brought_by profile before (history profile before) c).level) (behind profile before c cs)
+    ≡ true
+all_behind profile before c cs none levels =
+    at_its_level profile before c cs
+    ∙ all_stand profile (depth_in_force (before ++ c ∷ [])) (before ++ c ∷ [])
+    (history profile before ++ brought_by profile before (history profile before) c ∷ []) cs none levels
 
 both_ways : (b : Bool) → b ≡ true → b ≡ false → ⊥
 both_ways b h k = absurd (cc)
 
-pub assertions_in_words : InWords assertion_stands_after Stands
-assertions_in_words = record {
+pub assertions_in_words : (profile : Profile) → InWords profile assertion_stands_after Stands
+assertions_in_words profile = record {
   there = λ commands before c cs is e.
-      let kept = kept_behind before c cs e in
+      let kept = kept_behind profile before c cs e in
       record { later = cs; place = is; no_reset = kept.no_reset; levels = kept.levels };
   not_there = λ commands before c cs is e s.
       let same = same_later commands before c s.later cs s.place is in
-      both_ways (list_all (stands_after (brought_by before (history before) c).level) (behind before c cs))
-      (all_behind before c cs
+      both_ways (list_all (stands_after (brought_by profile before (history profile before) c).level)
+      (behind profile before c cs))
+      (all_behind profile before c cs
       (subst (λ (l : List Numbered). list_any (λ d. is_reset d.command) l ≡ false) same s.no_reset)
       (subst (λ (l : List Numbered). KeepLevels (depth_in_force (before ++ c ∷ [])) (before ++ c ∷ []) l) same
       s.levels)) e;
@@ -81,73 +87,77 @@ assertions_in_words = record {
 
 -- ---- names, by whether declarations were global
 
-abbrev names_left : Bool → List Numbered → Numbered → List Numbered → Bool
-names_left global before c cs =
+abbrev names_left : (profile : Profile) → Bool → List Numbered → Numbered → List Numbered → Bool
+names_left profile global before c cs =
     list_all (λ (l : Brought). cond global (not (is_everything l.removes))
-    (stands_after (brought_by before (history before) c).level l)) (behind before c cs)
+    (stands_after (brought_by profile before (history profile before) c).level l)) (behind profile before c cs)
 
-left_by : (global : Bool) (before : List Numbered) (c : Numbered) (cs : List Numbered)
-    → names_left global before c cs ≡ true → LeaveNames global (before ++ c ∷ []) cs
-left_by true before c cs e =
-    leaves (before ++ c ∷ []) (history before ++ brought_by before (history before) c ∷ []) cs e
-left_by false before c cs e = let kept = kept_behind before c cs e in (kept.no_reset, kept.levels)
+left_by : (profile : Profile) (global : Bool) (before : List Numbered) (c : Numbered) (cs : List Numbered)
+    → names_left profile global before c cs ≡ true → LeaveNames global (before ++ c ∷ []) cs
+left_by profile true before c cs e =
+    leaves profile (before ++ c ∷ [])
+    (history profile before ++ brought_by profile before (history profile before) c ∷ []) cs e
+left_by profile false before c cs e = let kept = kept_behind profile before c cs e in (kept.no_reset, kept.levels)
 
-all_left_by : (global : Bool) (before : List Numbered) (c : Numbered) (cs : List Numbered)
-    → LeaveNames global (before ++ c ∷ []) cs → names_left global before c cs ≡ true
-all_left_by true before c cs h =
-    all_leave (before ++ c ∷ []) (history before ++ brought_by before (history before) c ∷ []) cs h
-all_left_by false before c cs h = all_behind before c cs h.0 h.1
+all_left_by : (profile : Profile) (global : Bool) (before : List Numbered) (c : Numbered) (cs : List Numbered)
+    → LeaveNames global (before ++ c ∷ []) cs → names_left profile global before c cs ≡ true
+all_left_by profile true before c cs h =
+    all_leave profile (before ++ c ∷ [])
+    (history profile before ++ brought_by profile before (history profile before) c ∷ []) cs h
+all_left_by profile false before c cs h = all_behind profile before c cs h.0 h.1
 
-pub names_in_words : InWords name_stands_after NamesStand
-names_in_words = record {
+pub names_in_words : (profile : Profile) → InWords profile name_stands_after NamesStand
+names_in_words profile = record {
   there = λ commands before c cs is e.
-      record { later = cs; place = is; left = left_by (global_in_force before) before c cs e };
+      record { later = cs; place = is; left = left_by profile (global_in_force before) before c cs e };
   not_there = λ commands before c cs is e s.
       let same = same_later commands before c s.later cs s.place is in
-      both_ways (names_left (global_in_force before) before c cs)
-      (all_left_by (global_in_force before) before c cs
+      both_ways (names_left profile (global_in_force before) before c cs)
+      (all_left_by profile (global_in_force before) before c cs
       (subst (LeaveNames (global_in_force before) (before ++ c ∷ [])) same s.left)) e;
 }
 
-module _ {A : Type 0} (after : Brought → Brought → Bool) (S : Standing) (words : InWords after S)
+module _ (profile : Profile) {A : Type 0} (after : Brought → Brought → Bool) (S : Standing)
+    (words : InWords profile after S)
     (part : Brought → List A) where
   one_in_order : (commands before : List Numbered) (c : Numbered)
       (cs : List Numbered) → commands ≡ before ++ c ∷ cs
-      → AreBrought S (part_by part) commands (before ++ c ∷ []) cs
-      (flat_map part (in_force (standing after) (behind before c cs)))
-      → (t : Bool) → list_all (after (brought_by before (history before) c)) (behind before c cs) ≡ t
-      → AreBrought S (part_by part) commands before (c ∷ cs)
-      (flat_map part (cond t (brought_by before (history before) c ∷ []) []
-      ++ in_force (standing after) (behind before c cs)))
+      → AreBrought S (part_by profile part) commands (before ++ c ∷ []) cs
+      (flat_map part (in_force (standing after) (behind profile before c cs)))
+      → (t : Bool) → list_all (after (brought_by profile before (history profile before) c))
+      (behind profile before c cs) ≡ t
+      → AreBrought S (part_by profile part) commands before (c ∷ cs)
+      (flat_map part (cond t (brought_by profile before (history profile before) c ∷ []) []
+      ++ in_force (standing after) (behind profile before c cs)))
   one_in_order commands before c cs is next true e =
       inl (
         words.there commands before c cs is e,
-        flat_map part (in_force (standing after) (behind before c cs)),
+        flat_map part (in_force (standing after) (behind profile before c cs)),
         refl,
         next,
       )
   one_in_order commands before c cs is next false e = inr (words.not_there commands before c cs is e, next)
 
   in_order : (commands before cs : List Numbered) → commands ≡ before ++ cs
-      → AreBrought S (part_by part) commands before cs
-      (flat_map part (in_force (standing after) (steps before (history before) cs)))
+      → AreBrought S (part_by profile part) commands before cs
+      (flat_map part (in_force (standing after) (steps profile before (history profile before) cs)))
   in_order commands before [] is = refl
   in_order commands before (c ∷ cs) is =
-      let b = brought_by before (history before) c in
+      let b = brought_by profile before (history profile before) c in
       let more = before ++ c ∷ [] in
       let next = in_order commands more cs (is ∙ sym (append_assoc before (c ∷ []) cs)) in
       let P : List Brought → Type 0 =
-      λ h. AreBrought S (part_by part) commands more cs
-      (flat_map part (in_force (standing after) (steps more h cs))) in
-      one_in_order commands before c cs is (subst P (history-push before c) next)
-      (list_all (after b) (behind before c cs)) refl
+      λ h. AreBrought S (part_by profile part) commands more cs
+      (flat_map part (in_force (standing after) (steps profile more h cs))) in
+      one_in_order commands before c cs is (subst P (history-push profile before c) next)
+      (list_all (after b) (behind profile before c cs)) refl
 
   pub brought_in_order : (commands : List Numbered)
-      → AreBrought S (part_by part) commands [] commands
-      (flat_map part (in_force (standing after) (history commands)))
+      → AreBrought S (part_by profile part) commands [] commands
+      (flat_map part (in_force (standing after) (history profile commands)))
   brought_in_order commands =
-      subst (λ (h : List Brought). AreBrought S (part_by part) commands [] commands
-      (flat_map part (in_force (standing after) h))) (sym (steps-from [] [] commands))
+      subst (λ (h : List Brought). AreBrought S (part_by profile part) commands [] commands
+      (flat_map part (in_force (standing after) h))) (sym (steps-from profile [] [] commands))
       (in_order commands [] commands refl)
 
 -- ---- what a command brought that stands is in force
@@ -246,22 +256,23 @@ asserted_itself n command a (No none) (first, last, h) = absurd (none_among firs
 
 -- ---- the parts of what is in force
 
-module _ {A : Type 0} (after : Brought → Brought → Bool) (S : Standing) (words : InWords after S)
+module _ (profile : Profile) {A : Type 0} (after : Brought → Brought → Bool) (S : Standing)
+    (words : InWords profile after S)
     (part : Brought → List A) where
   abbrev pub part_in_force : List Numbered → List A
-  part_in_force commands = flat_map part (in_force (standing after) (history commands))
+  part_in_force commands = flat_map part (in_force (standing after) (history profile commands))
 
   pub part_stands : (commands earlier : List Numbered) (c : Numbered) → S commands earlier c
       → (later : List Numbered) → commands ≡ earlier ++ c ∷ later
-      → AreAmong (part_by part earlier c) (part_in_force commands)
+      → AreAmong (part_by profile part earlier c) (part_in_force commands)
   part_stands commands earlier c s later place =
       let xs = part_in_force commands in
-      stands_among S (part_by part) commands [] earlier c later xs
-      (subst (λ (l : List Numbered). AreBrought S (part_by part) commands [] l xs) place
-      (brought_in_order after S words part commands)) s
+      stands_among S (part_by profile part) commands [] earlier c later xs
+      (subst (λ (l : List Numbered). AreBrought S (part_by profile part) commands [] l xs) place
+      (brought_in_order profile after S words part commands)) s
 
   pub part_found : (commands : List Numbered) (x : A) → IsAmong x (part_in_force commands)
-      → IsBrought S (part_by part) commands x
+      → IsBrought S (part_by profile part) commands x
   part_found commands x i =
-      brought_found S (part_by part) commands [] commands (part_in_force commands) x
-      (brought_in_order after S words part commands) i
+      brought_found S (part_by profile part) commands [] commands (part_in_force commands) x
+      (brought_in_order profile after S words part commands) i

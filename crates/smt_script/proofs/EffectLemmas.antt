@@ -8,6 +8,7 @@ use Rattle.std.specs.Prelude.{nat_le, ◌<◌}
 use Rattle.std.specs.Global.{Vec}
 use Rattle.smt_trees.specs.Sexp.{Sexp, Sexps, Nil}
 use Rattle.smt_theory.specs.Theories.{theories_named}
+use Rattle.smt_theory.specs.declared.profile.Profile.{Profile}
 use Rattle.smt_theory.specs.declared.sort.Sort.{Sort}
 use Rattle.smt_theory.specs.declared.theories.Theories.{Theories}
 use Rattle.smt_terms.specs.Assertions.{asserted_in}
@@ -30,11 +31,11 @@ use Rattle.smt_script.specs.Stack.{removed_of_effect, resets, theories_by, abbre
 use Rattle.smt_script.specs.Stack.{assertions_in_force, assertions_of, brought_by, depth_after}
 use Rattle.smt_script.specs.Stack.{depth_in_force, entries_by, entries_of, flaw_of, flaw_of_effect}
 use Rattle.smt_script.specs.Stack.{history, in_force, names_stand, is_exit, is_reset, one_or_none}
-use Rattle.smt_script.specs.Stack.{print_success_after, print_success_in_force, signature_in_force}
+use Rattle.smt_script.specs.Stack.{print_success_after, signature_in_force}
 use Rattle.smt_script.specs.Stack.{signature_of, theories_after, theories_in_force, theories_or}
 use Rattle.smt_script.specs.Stack.{global_after, global_by, global_in_force, name_stands_after}
 use Rattle.smt_script.specs.Stack.{assertions_stand, is_logic_set, is_too_late}
-use Rattle.smt_script.specs.StackView.{AreAs, AreAssertions, AreNamesAlike, HasInForce, IsLevel}
+use Rattle.smt_script.specs.StackView.{AreAs, AreAssertions, AreNamesAlike, HasInForce, IsLevel, profile_of}
 use Rattle.smt_script.specs.StackView.{assertions_to_level, names_level, names_to_level, signature_to_level, to_level}
 use Rattle.smt_script.specs.Internal.Effect.{ContentsAreKept, HasEffect, HasMore, logic_after, with_notes}
 use Rattle.smt_faults.specs.declared.command_fault.CommandFault.{CommandFault}
@@ -45,6 +46,7 @@ use Rattle.smt_faults.specs.declared.term_fault.TermFault.{TermFault}
 use Rattle.smt_faults.specs.declared.term_fault.TermFault.TheVariants as terms
 use Rattle.smt_script.specs.declared.stack.Assertion.{Assertion}
 use Rattle.smt_script.specs.declared.stack.LogicState.{LogicState}
+use Rattle.smt_script.specs.declared.stack.Start.{Start}
 use Rattle.smt_script.specs.declared.stack.levels.Level.{Level}
 use Rattle.smt_script.specs.declared.stack.Stack.{Stack}
 use Rattle.smt_script.proofs.HistoryLemmas.{abbreviations-push, alike-append, assertion_stands_after}
@@ -87,19 +89,19 @@ take_before (suc n) (x ∷ xs) ys h = ap (λ (l : List _). x ∷ l) (take_before
 -- ---- commands that add to what is in force
 
 -- a command that neither resets nor changes levels and theories
-pub record Adds (command : Command) : Type 0 where
+pub record Adds (profile : Profile) (command : Command) : Type 0 where
   pub no_reset : is_reset command ≡ false
   pub level : (d : ℕ) → depth_after d command ≡ d
-  pub theories : (t : Theories) → theories_after t command ≡ t
+  pub theories : (t : Theories) → theories_after profile t command ≡ t
 
 -- a command that neither resets nor removes levels
-pub record Keeps (command : Command) : Type 0 where
+pub record Keeps (profile : Profile) (command : Command) : Type 0 where
   pub no_reset : is_reset command ≡ false
   pub level : (d : ℕ) → d ≤ depth_after d command
-  pub theories : (t : Theories) → theories_after t command ≡ t
+  pub theories : (t : Theories) → theories_after profile t command ≡ t
 
-pub adds_keeps : (command : Command) → Adds command → Keeps command
-adds_keeps command adds =
+pub adds_keeps : (profile : Profile) (command : Command) → Adds profile command → Keeps profile command
+adds_keeps profile command adds =
     record {
       no_reset = adds.no_reset;
       level = λ d. (let e = adds.level d in omega arith);
@@ -126,76 +128,78 @@ same_signature t u xs ys theories abbreviations entries =
     ∙ ap (λ (as' : List (List ℕ × Sort)). record { theories = u; abbreviations = as'; entries = entries_of ys })
     abbreviations
 
-pub names_grow : (cs : List Numbered) (c : Numbered) → is_reset c.command ≡ false
+pub names_grow : (profile : Profile) (cs : List Numbered) (c : Numbered) → is_reset c.command ≡ false
     → depth_in_force cs ≤ depth_after (depth_in_force cs) c.command
-    → in_force names_stand (history (cs ++ c ∷ []))
-    ≡ in_force names_stand (history cs) ++ brought_by cs (history cs) c ∷ []
-names_grow = in_force-grow name_stands_after names_level names_rule
+    → in_force names_stand (history profile (cs ++ c ∷ []))
+    ≡ in_force names_stand (history profile cs) ++ brought_by profile cs (history profile cs) c ∷ []
+names_grow profile = in_force-grow profile name_stands_after names_level names_rule
 
-pub assertions_grow : (cs : List Numbered) (c : Numbered) → is_reset c.command ≡ false
+pub assertions_grow : (profile : Profile) (cs : List Numbered) (c : Numbered) → is_reset c.command ≡ false
     → depth_in_force cs ≤ depth_after (depth_in_force cs) c.command
-    → in_force assertions_stand (history (cs ++ c ∷ []))
-    ≡ in_force assertions_stand (history cs) ++ brought_by cs (history cs) c ∷ []
-assertions_grow = in_force-grow assertion_stands_after level_of assertions_rule
+    → in_force assertions_stand (history profile (cs ++ c ∷ []))
+    ≡ in_force assertions_stand (history profile cs) ++ brought_by profile cs (history profile cs) c ∷ []
+assertions_grow profile = in_force-grow profile assertion_stands_after level_of assertions_rule
 
-pub signature-add : (cs : List Numbered) (c : Numbered) → Keeps c.command
-    → signature_in_force (cs ++ c ∷ []) ≡ with_brought (signature_in_force cs) c.number c.command
-signature-add cs c adds =
-    let b = brought_by cs (history cs) c in
-    let grow = names_grow cs c adds.no_reset (adds.level (depth_in_force cs)) in
-    ap (λ (t : Theories). signature_of t (in_force names_stand (history (cs ++ c ∷ []))))
-    (theories-push cs c ∙ adds.theories (theories_in_force cs))
-    ∙ ap (λ (l : List Brought). signature_of (theories_in_force cs) l) grow
+pub signature-add : (profile : Profile) (cs : List Numbered) (c : Numbered) → Keeps profile c.command
+    → signature_in_force profile (cs ++ c ∷ []) ≡ with_brought (signature_in_force profile cs) c.number c.command
+signature-add profile cs c adds =
+    let b = brought_by profile cs (history profile cs) c in
+    let grow = names_grow profile cs c adds.no_reset (adds.level (depth_in_force cs)) in
+    ap (λ (t : Theories). signature_of t (in_force names_stand (history profile (cs ++ c ∷ []))))
+    (theories-push profile cs c ∙ adds.theories (theories_in_force profile cs))
+    ∙ ap (λ (l : List Brought). signature_of (theories_in_force profile cs) l) grow
     ∙ ap (λ (es : List Entry).
     record {
-      theories = theories_in_force cs;
+      theories = theories_in_force profile cs;
       abbreviations =
-          abbreviations_of (in_force names_stand (history cs) ++ b ∷ []);
+          abbreviations_of (in_force names_stand (history profile cs) ++ b ∷ []);
       entries = es;
     })
-    (entries-push (in_force names_stand (history cs)) b)
+    (entries-push (in_force names_stand (history profile cs)) b)
     ∙ ap (λ (as' : List (List ℕ × Sort)).
     record {
-      theories = theories_in_force cs;
+      theories = theories_in_force profile cs;
       abbreviations = as';
       entries =
-          entries_of (in_force names_stand (history cs)) ++ b.entries;
+          entries_of (in_force names_stand (history profile cs)) ++ b.entries;
     })
-    (abbreviations-push (in_force names_stand (history cs)) b)
+    (abbreviations-push (in_force names_stand (history profile cs)) b)
 
-pub assertions-add : (cs : List Numbered) (c : Numbered) → Keeps c.command
-    → assertions_in_force (cs ++ c ∷ []) ≡ assertions_in_force cs ++ assertions_by c.number c.command
-assertions-add cs c adds =
-    let b = brought_by cs (history cs) c in
-    let grow = assertions_grow cs c adds.no_reset (adds.level (depth_in_force cs)) in
-    ap assertions_of grow ∙ assertions-push (in_force assertions_stand (history cs)) b
+pub assertions-add : (profile : Profile) (cs : List Numbered) (c : Numbered) → Keeps profile c.command
+    → assertions_in_force profile (cs ++ c ∷ []) ≡ assertions_in_force profile cs ++ assertions_by c.number c.command
+assertions-add profile cs c adds =
+    let b = brought_by profile cs (history profile cs) c in
+    let grow = assertions_grow profile cs c adds.no_reset (adds.level (depth_in_force cs)) in
+    ap assertions_of grow ∙ assertions-push (in_force assertions_stand (history profile cs)) b
 
 -- ---- levels
 
 -- what levels leave of names that are global are all
-pub all_names_left : (k : ℕ) (cs : List Numbered) → AreAs true (in_force names_stand (history cs))
-    → signature_to_level k cs ≡ signature_in_force cs
-all_names_left k cs h =
-    let all = global_to_level k (in_force names_stand (history cs)) h in
-    same_signature (theories_in_force cs) (theories_in_force cs)
-    (names_to_level k (in_force names_stand (history cs))) (in_force names_stand (history cs)) refl all.1 all.0
+pub all_names_left : (profile : Profile) (k : ℕ) (cs : List Numbered)
+    → AreAs true (in_force names_stand (history profile cs))
+    → signature_to_level profile k cs ≡ signature_in_force profile cs
+all_names_left profile k cs h =
+    let all = global_to_level k (in_force names_stand (history profile cs)) h in
+    same_signature (theories_in_force profile cs) (theories_in_force profile cs)
+    (names_to_level k (in_force names_stand (history profile cs)))
+    (in_force names_stand (history profile cs)) refl all.1 all.0
 
 inside_local : (global : Bool) (k level : ℕ) → global ≡ false → k + 1 ≤ level → k + 1 ≤ cond global 0 level
 inside_local true k level h le = absurd (cc)
 inside_local false k level h le = le
 
 -- names that go with their level are none of an outer one
-pub local_names_left : (k : ℕ) (cs : List Numbered) (c : Numbered) → Keeps c.command
+pub local_names_left : (profile : Profile) (k : ℕ) (cs : List Numbered) (c : Numbered) → Keeps profile c.command
     → global_in_force cs ≡ false → k + 1 ≤ depth_after (depth_in_force cs) c.command
-    → signature_to_level k (cs ++ c ∷ []) ≡ signature_to_level k cs
-local_names_left k cs c keeps local inside =
-    let b = brought_by cs (history cs) c in
-    let N = in_force names_stand (history cs) in
-    let same = ap (names_to_level k) (names_grow cs c keeps.no_reset (keeps.level (depth_in_force cs)))
+    → signature_to_level profile k (cs ++ c ∷ []) ≡ signature_to_level profile k cs
+local_names_left profile k cs c keeps local inside =
+    let b = brought_by profile cs (history profile cs) c in
+    let N = in_force names_stand (history profile cs) in
+    let same = ap (names_to_level k) (names_grow profile cs c keeps.no_reset (keeps.level (depth_in_force cs)))
     ∙ to_level-push names_level k N b (inside_local (global_in_force cs) k b.level local inside) in
-    same_signature (theories_in_force (cs ++ c ∷ [])) (theories_in_force cs)
-    (names_to_level k (in_force names_stand (history (cs ++ c ∷ [])))) (names_to_level k N)
-    (theories-push cs c ∙ keeps.theories (theories_in_force cs))
+    same_signature (theories_in_force profile (cs ++ c ∷ [])) (theories_in_force profile cs)
+    (names_to_level k (in_force names_stand (history profile (cs ++ c ∷ [])))) (names_to_level k N)
+    (theories-push profile cs c ∙ keeps.theories (theories_in_force profile cs))
     (ap abbreviations_of same) (ap entries_of same)
 
 -- no names and no abbreviations behind others
@@ -210,28 +214,29 @@ none_more xs b true e a = (
 none_more xs b false e a = (ap entries_of (append-nil xs), ap abbreviations_of (append-nil xs))
 
 -- nor are there more where a command brings none
-pub no_names_left : (k : ℕ) (cs : List Numbered) (c : Numbered) → Keeps c.command
-    → entries_by (signature_in_force cs) c.number c.command ≡ []
-    → abbreviations_by (signature_in_force cs) c.command ≡ []
-    → signature_to_level k (cs ++ c ∷ []) ≡ signature_to_level k cs
-no_names_left k cs c keeps entries abbreviations =
-    let b = brought_by cs (history cs) c in
-    let N = in_force names_stand (history cs) in
-    let same = ap (names_to_level k) (names_grow cs c keeps.no_reset (keeps.level (depth_in_force cs)))
+pub no_names_left : (profile : Profile) (k : ℕ) (cs : List Numbered) (c : Numbered) → Keeps profile c.command
+    → entries_by (signature_in_force profile cs) c.number c.command ≡ []
+    → abbreviations_by (signature_in_force profile cs) c.command ≡ []
+    → signature_to_level profile k (cs ++ c ∷ []) ≡ signature_to_level profile k cs
+no_names_left profile k cs c keeps entries abbreviations =
+    let b = brought_by profile cs (history profile cs) c in
+    let N = in_force names_stand (history profile cs) in
+    let same = ap (names_to_level k) (names_grow profile cs c keeps.no_reset (keeps.level (depth_in_force cs)))
     ∙ levels_to-push names_level k N b in
     let none = none_more (names_to_level k N) b (nat_le (names_level b) k) entries abbreviations in
-    same_signature (theories_in_force (cs ++ c ∷ [])) (theories_in_force cs)
-    (names_to_level k (in_force names_stand (history (cs ++ c ∷ [])))) (names_to_level k N)
-    (theories-push cs c ∙ keeps.theories (theories_in_force cs))
+    same_signature (theories_in_force profile (cs ++ c ∷ [])) (theories_in_force profile cs)
+    (names_to_level k (in_force names_stand (history profile (cs ++ c ∷ [])))) (names_to_level k N)
+    (theories-push profile cs c ∙ keeps.theories (theories_in_force profile cs))
     (ap abbreviations_of same ∙ none.1) (ap entries_of same ∙ none.0)
 
 -- assertions go with their level
-pub assertions_left : (k : ℕ) (cs : List Numbered) (c : Numbered) → Keeps c.command
+pub assertions_left : (profile : Profile) (k : ℕ) (cs : List Numbered) (c : Numbered) → Keeps profile c.command
     → k + 1 ≤ depth_after (depth_in_force cs) c.command
-    → assertions_to_level k (cs ++ c ∷ []) ≡ assertions_to_level k cs
-assertions_left k cs c keeps inside =
-    ap assertions_of (ap (to_level k) (assertions_grow cs c keeps.no_reset (keeps.level (depth_in_force cs)))
-    ∙ to_level-push level_of k (in_force assertions_stand (history cs)) (brought_by cs (history cs) c) inside)
+    → assertions_to_level profile k (cs ++ c ∷ []) ≡ assertions_to_level profile k cs
+assertions_left profile k cs c keeps inside =
+    ap assertions_of (ap (to_level k) (assertions_grow profile cs c keeps.no_reset (keeps.level (depth_in_force cs)))
+    ∙ to_level-push level_of k (in_force assertions_stand (history profile cs))
+    (brought_by profile cs (history profile cs) c) inside)
 
 -- a level as the contents and the assertions grow; global names grow with them
 pub level_grows : ContentsAreKept → (global : Bool)
@@ -264,29 +269,30 @@ level_grows law false c d as' more l old new asserted grown local names h = reco
 -- a stack after a command that adds to what is in force
 pub added : ContentsAreKept
     → (old new : Stack) (more : List Assertion) (cs : List Numbered) (n : ℕ) (command : Command)
-    → HasInForce old cs → AreNamesAlike cs → Adds command
+    → HasInForce old cs → AreNamesAlike (profile_of old) cs → Adds (profile_of old) command
     → global_after (global_in_force cs) command ≡ global_in_force cs → new.global ≡ old.global
     → new.levels ≡ old.levels → new.logic ≡ old.logic → new.print_success ≡ old.print_success
-    → new.exited ≡ old.exited → new.initial_print_success ≡ old.initial_print_success
+    → new.exited ≡ old.exited → new.start ≡ old.start
     → Extends (contents_of old.library) (contents_of new.library)
     → new.assertions.items ≡ old.assertions.items ++ more
-    → library.StandsFor new.library (with_brought (signature_in_force cs) n command)
+    → library.StandsFor new.library (with_brought (signature_in_force (profile_of old) cs) n command)
     → AreAssertions (contents_of new.library) new.assertions.items
-    (assertions_in_force cs ++ assertions_by n command)
+    (assertions_in_force (profile_of old) cs ++ assertions_by n command)
     → HasInForce (with_notes command new) (cs ++ record { number = n; command = command } ∷ [])
 added law old new more cs n command h alike adds same_global global levels logic print exited start grown asserted
     names assertions =
     let c : Numbered = record { number = n; command = command } in
-    let b = brought_by cs (history cs) c in
-    let keeps = adds_keeps command adds in
+    let b = brought_by (profile_of old) cs (history (profile_of old) cs) c in
+    let keeps = adds_keeps (profile_of old) command adds in
     let all = cs ++ c ∷ [] in
     let now : global_after new.global command ≡ old.global =
     ap (λ (g : Bool). global_after g command) (global ∙ h.global) ∙ same_global ∙ sym h.global in
-    record {
+    subst (λ (x : Start). HasInForce (with_notes command (record new { start = x })) all) (sym start)
+    (record {
       library = subst (λ (s : Signature). library.StandsFor new.library s)
-          (sym (signature-add cs c keeps)) names;
+          (sym (signature-add (profile_of old) cs c keeps)) names;
       assertions = subst (λ (l : List spec.Assertion). AreAssertions (contents_of new.library)
-          new.assertions.items l) (sym (assertions-add cs c keeps)) assertions;
+          new.assertions.items l) (sym (assertions-add (profile_of old) cs c keeps)) assertions;
       depth = ap length levels ∙ h.depth ∙ sym (depth-push cs c ∙ adds.level (depth_in_force cs));
       levels = λ k l at.
           let there : slice_get old.levels k ≡ Some l =
@@ -294,25 +300,27 @@ added law old new more cs n command h alike adds same_global global levels logic
           let inside : k + 1 ≤ b.level =
           (let m = within old.levels k l there in let e = h.depth in let f =
           adds.level (depth_in_force cs) in omega arith) in
-          let more_global : AreAs (global_in_force cs) (in_force names_stand (history all)) =
+          let more_global : AreAs (global_in_force cs) (in_force names_stand (history (profile_of old) all)) =
           subst (AreAs (global_in_force cs))
-          (sym (names_grow cs c adds.no_reset (keeps.level (depth_in_force cs))))
-          (alike-append (global_in_force cs) (in_force names_stand (history cs)) b alike (inl refl)) in
+          (sym (names_grow (profile_of old) cs c adds.no_reset (keeps.level (depth_in_force cs))))
+          (alike-append (global_in_force cs) (in_force names_stand (history (profile_of old) cs)) b alike (inl refl)) in
           subst (λ (g : Bool). IsLevel g (contents_of new.library) new.assertions.items l
-          (signature_to_level k all) (assertions_to_level k all)) (sym now)
+          (signature_to_level (profile_of old) k all) (assertions_to_level (profile_of old) k all)) (sym now)
           (subst (λ (x : List Assertion). IsLevel old.global (contents_of new.library) x l
-          (signature_to_level k all) (assertions_to_level k all)) (sym asserted)
+          (signature_to_level (profile_of old) k all) (assertions_to_level (profile_of old) k all)) (sym asserted)
           (subst (λ (x : List spec.Assertion). IsLevel old.global (contents_of new.library)
-          (old.assertions.items ++ more) l (signature_to_level k all) x)
-          (sym (assertions_left k cs c keeps inside))
+          (old.assertions.items ++ more) l (signature_to_level (profile_of old) k all) x)
+          (sym (assertions_left (profile_of old) k cs c keeps inside))
           (level_grows law old.global (contents_of old.library) (contents_of new.library)
-          old.assertions.items more l (signature_to_level k cs) (signature_to_level k all)
-          (assertions_to_level k cs) grown
-          (λ local. local_names_left k cs c keeps (sym h.global ∙ local) inside)
+          old.assertions.items more l (signature_to_level (profile_of old) k cs)
+          (signature_to_level (profile_of old) k all)
+          (assertions_to_level (profile_of old) k cs) grown
+          (λ local. local_names_left (profile_of old) k cs c keeps (sym h.global ∙ local) inside)
           (λ everywhere held. subst (λ (s : Signature). library.StandsFor new.library s)
-          (sym (all_names_left k all
-          (subst (λ (g : Bool). AreAs g (in_force names_stand (history all))) (sym h.global ∙ everywhere)
-          more_global) ∙ signature-add cs c keeps)) names)
+          (sym (all_names_left (profile_of old) k all
+          (subst (λ (g : Bool). AreAs g (in_force names_stand (history (profile_of old) all)))
+          (sym h.global ∙ everywhere)
+          more_global) ∙ signature-add (profile_of old) cs c keeps)) names)
           (h.levels k l there))));
       ordered = λ j k l m le at there.
           h.ordered j k l m le (ap (λ (xs : List Level). slice_get xs j) (sym levels) ∙ at)
@@ -320,11 +328,10 @@ added law old new more cs n command h alike adds same_global global levels logic
       logic = ap (λ (x : LogicState). logic_after x command) (logic ∙ h.logic) ∙ sym (logic-push cs c);
       global = ap (λ (g : Bool). global_after g command) (global ∙ h.global) ∙ sym (global-push cs c);
       print_success =
-          ap (λ (x : Bool). print_success_after new.initial_print_success x command) (print ∙ h.print_success)
-          ∙ ap (λ (x : Bool). print_success_after new.initial_print_success (print_success_in_force x cs) command) (sym start)
-          ∙ sym (print-push new.initial_print_success cs c);
+          ap (λ (x : Bool). print_success_after old.start.print_success x command) (print ∙ h.print_success)
+          ∙ sym (print-push old.start.print_success cs c);
       exited = ap (λ (x : Bool). x || is_exit command) (exited ∙ h.exited) ∙ sym (exited-push cs c);
-    }
+    })
 
 -- contents extend themselves
 pub extends_itself : (c : Contents) → Extends c c
@@ -363,82 +370,85 @@ nothing_brought l s n command abbreviations entries h =
     (append-nil s.abbreviations))) h
 
 -- a command that changes nothing but the notes
-pub record Idle (command : Command) : Type 0 where
-  pub adds : Adds command
+pub record Idle (profile : Profile) (command : Command) : Type 0 where
+  pub adds : Adds profile command
   pub global : (g : Bool) → global_after g command ≡ g
   pub entries : (s : Signature) (n : ℕ) → entries_by s n command ≡ []
   pub abbreviations : (s : Signature) → abbreviations_by s command ≡ []
   pub assertions : (n : ℕ) → assertions_by n command ≡ []
-  pub faultless : (cs : List Numbered) (n : ℕ) → flaw_of_effect cs n command ≡ None
+  pub faultless : (cs : List Numbered) (n : ℕ) → flaw_of_effect profile cs n command ≡ None
 
-pub idle_effect : ContentsAreKept → (s : Stack) (n : ℕ) (command : Command) → Idle command
+pub idle_effect : ContentsAreKept → (s : Stack) (n : ℕ) (command : Command) → Idle (profile_of s) command
     → HasEffect s s n command
 idle_effect law s n command idle = record {
   faultless = λ cs h. idle.faultless cs n;
   stands = λ cs h alike.
       let P : List spec.Assertion → Type 0 =
-      λ bs. AreAssertions (contents_of s.library) s.assertions.items (assertions_in_force cs ++ bs) in
+      λ bs. AreAssertions (contents_of s.library) s.assertions.items (assertions_in_force (profile_of s) cs ++ bs) in
       added law s s [] cs n command h alike idle.adds (idle.global (global_in_force cs)) refl refl refl refl refl refl
       (extends_itself (contents_of s.library)) (sym (append-nil s.assertions.items))
-      (nothing_brought s.library (signature_in_force cs) n command
-      (idle.abbreviations (signature_in_force cs)) (idle.entries (signature_in_force cs) n) h.library)
+      (nothing_brought s.library (signature_in_force (profile_of s) cs) n command
+      (idle.abbreviations (signature_in_force (profile_of s) cs))
+      (idle.entries (signature_in_force (profile_of s) cs) n) h.library)
       (subst P (sym (idle.assertions n))
       (subst (λ (bs : List spec.Assertion). AreAssertions (contents_of s.library) s.assertions.items bs)
-      (sym (append-nil (assertions_in_force cs))) h.assertions));
+      (sym (append-nil (assertions_in_force (profile_of s) cs))) h.assertions));
   start = refl;
 }
 
 -- a command that brings an item adds it
-pub addition_adds : (command : Command) (item : Addition) → effect_of command ≡ Brings item → Adds command
-addition_adds command item is = record {
+pub addition_adds : (profile : Profile) (command : Command) (item : Addition) → effect_of command ≡ Brings item
+    → Adds profile command
+addition_adds profile command item is = record {
   no_reset = ap (λ (e : Effect). resets (removed_of_effect e)) is;
   level = λ d. ap (depth_by d) is;
-  theories = λ t. ap (theories_by t) is;
+  theories = λ t. ap (theories_by profile t) is;
 }
 
 -- so is each that has no effect
-pub no_effect_is_idle : (command : Command) → effect_of command ≡ Removing Nothing → Idle command
-no_effect_is_idle command is = record {
+pub no_effect_is_idle : (profile : Profile) (command : Command) → effect_of command ≡ Removing Nothing
+    → Idle profile command
+no_effect_is_idle profile command is = record {
   adds = record {
     no_reset = ap (λ (e : Effect). resets (removed_of_effect e)) is;
     level = λ d. ap (depth_by d) is;
-    theories = λ t. ap (theories_by t) is;
+    theories = λ t. ap (theories_by profile t) is;
   };
   global = λ g. ap (global_by g) is;
   entries = λ s n. ap (entries_of_effect s n) is;
   abbreviations = λ s. ap (abbreviations_of_effect s) is;
   assertions = λ n. ap (assertions_of_effect n) is;
-  faultless = λ cs n. ap (flaw_by cs n) is;
+  faultless = λ cs n. ap (flaw_by profile cs n) is;
 }
 
 -- ---- names
 
 -- a command that brings these names, without a fault
-pub record BringsNames (old new : Library) (n : ℕ) (command : Command) : Type 0 where
-  pub adds : Adds command
+pub record BringsNames (profile : Profile) (old new : Library) (n : ℕ) (command : Command) : Type 0 where
+  pub adds : Adds profile command
   pub global : (g : Bool) → global_after g command ≡ g
   pub grown : Extends (contents_of old) (contents_of new)
   pub assertions : assertions_by n command ≡ []
-  pub names : (cs : List Numbered) → library.StandsFor old (signature_in_force cs)
-      → (flaw_of_effect cs n command ≡ None)
-      × library.StandsFor new (with_brought (signature_in_force cs) n command)
+  pub names : (cs : List Numbered) → library.StandsFor old (signature_in_force profile cs)
+      → (flaw_of_effect profile cs n command ≡ None)
+      × library.StandsFor new (with_brought (signature_in_force profile cs) n command)
 
 pub names_effect : ContentsAreKept → (old : Stack) (l : Library) (n : ℕ) (command : Command)
-    → BringsNames old.library l n command → HasEffect old (record old { library = l }) n command
+    → BringsNames (profile_of old) old.library l n command → HasEffect old (record old { library = l }) n command
 names_effect law old l n command brings = record {
   faultless = λ cs h. (brings.names cs h.library).0;
   stands = λ cs h alike.
       let P : List spec.Assertion → Type 0 =
-      λ bs. AreAssertions (contents_of l) old.assertions.items (assertions_in_force cs ++ bs) in
+      λ bs. AreAssertions (contents_of l) old.assertions.items (assertions_in_force (profile_of old) cs ++ bs) in
       added law old (record old { library = l })
       [] cs n command h alike brings.adds (brings.global (global_in_force cs)) refl refl refl refl refl refl
       brings.grown
       (sym (append-nil old.assertions.items)) (brings.names cs h.library).1
       (subst P (sym brings.assertions)
       (subst (λ (bs : List spec.Assertion). AreAssertions (contents_of l) old.assertions.items bs)
-      (sym (append-nil (assertions_in_force cs)))
+      (sym (append-nil (assertions_in_force (profile_of old) cs)))
       (assertions_stay law (contents_of old.library) (contents_of l) brings.grown old.assertions.items
-      (assertions_in_force cs) h.assertions)));
+      (assertions_in_force (profile_of old) cs) h.assertions)));
   start = refl;
 }
 
@@ -472,14 +482,14 @@ pub declare_const_effect : ContentsAreKept → (old : Stack) (l : Library) (n : 
     → HasEffect old (record old { library = l }) n (DeclareConst x sort)
 declare_const_effect law old l n x sort declares grown =
     names_effect law old l n (DeclareConst x sort) (record {
-      adds = addition_adds (DeclareConst x sort) _ refl;
+      adds = addition_adds (profile_of old) (DeclareConst x sort) _ refl;
       global = λ g. refl;
       grown = grown;
       assertions = refl;
       names = λ cs h.
-          let made = declares (signature_in_force cs) h in (
+          let made = declares (signature_in_force (profile_of old) cs) h in (
             ap flaw_of made.1,
-            one_entry l (signature_in_force cs) n (DeclareConst x sort) made.0 refl
+            one_entry l (signature_in_force (profile_of old) cs) n (DeclareConst x sort) made.0 refl
                 (ap one_or_none made.1) made.2,
           );
     })
@@ -490,14 +500,14 @@ pub declare_fun_effect : ContentsAreKept
     → HasEffect old (record old { library = l }) n (DeclareFun x parameters sort)
 declare_fun_effect law old l n x parameters sort declares grown =
     names_effect law old l n (DeclareFun x parameters sort) (record {
-      adds = addition_adds (DeclareFun x parameters sort) _ refl;
+      adds = addition_adds (profile_of old) (DeclareFun x parameters sort) _ refl;
       global = λ g. refl;
       grown = grown;
       assertions = refl;
       names = λ cs h.
-          let made = declares (signature_in_force cs) h in (
+          let made = declares (signature_in_force (profile_of old) cs) h in (
             ap flaw_of made.1,
-            one_entry l (signature_in_force cs) n (DeclareFun x parameters sort)
+            one_entry l (signature_in_force (profile_of old) cs) n (DeclareFun x parameters sort)
                 made.0 refl (ap one_or_none made.1) made.2,
           );
     })
@@ -513,14 +523,14 @@ pub define_effect : ContentsAreKept
     → HasEffect old (record old { library = l }) n (DefineFun x parameters sort body)
 define_effect law old l n x parameters sort body defines grown =
     names_effect law old l n (DefineFun x parameters sort body) (record {
-      adds = addition_adds (DefineFun x parameters sort body) _ refl;
+      adds = addition_adds (profile_of old) (DefineFun x parameters sort body) _ refl;
       global = λ g. refl;
       grown = grown;
       assertions = refl;
       names = λ cs h.
-          let made = defines (signature_in_force cs) h in (
+          let made = defines (signature_in_force (profile_of old) cs) h in (
             ap flaw_of made.1,
-            one_entry l (signature_in_force cs) n (DefineFun x parameters sort body)
+            one_entry l (signature_in_force (profile_of old) cs) n (DefineFun x parameters sort body)
                 made.0 refl (ap one_or_none made.1) made.2,
           );
     })
@@ -559,14 +569,14 @@ pub define_sort_effect : ContentsAreKept → (old : Stack) (l : Library) (n : �
     → HasEffect old (record old { library = l }) n (DefineSort x sort)
 define_sort_effect law old l n x sort abbreviates grown =
     names_effect law old l n (DefineSort x sort) (record {
-      adds = addition_adds (DefineSort x sort) _ refl;
+      adds = addition_adds (profile_of old) (DefineSort x sort) _ refl;
       global = λ g. refl;
       grown = grown;
       assertions = refl;
       names = λ cs h.
-          let made = abbreviates (signature_in_force cs) h in (
+          let made = abbreviates (signature_in_force (profile_of old) cs) h in (
             ap flaw_of made.1,
-            one_abbreviation l (signature_in_force cs) n (DefineSort x sort) x made.0
+            one_abbreviation l (signature_in_force (profile_of old) cs) n (DefineSort x sort) x made.0
                 (ap (λ (r : Result Sort TermFlaw). spec.named x (one_or_none r)) made.1) refl made.2,
           );
     })
@@ -606,21 +616,22 @@ pub assert_effect : ContentsAreKept
     → as'.items ≡ old.assertions.items ++ a ∷ []
     → HasEffect old (record old { library = l; assertions = as' }) a.command (Assert term)
 assert_effect law old l as' a term asserts stored grown pushed = record {
-  faultless = λ cs h. ap flaw_of (asserts (signature_in_force cs) h.library).1;
+  faultless = λ cs h. ap flaw_of (asserts (signature_in_force (profile_of old) cs) h.library).1;
   stands = λ cs h alike.
-      let made = asserts (signature_in_force cs) h.library in
+      let made = asserts (signature_in_force (profile_of old) cs) h.library in
       let P : List Assertion → Type 0 =
       λ xs. AreAssertions (contents_of l) xs
-      (assertions_in_force cs ++ record { command = a.command; term = term } ∷ []) in
+      (assertions_in_force (profile_of old) cs ++ record { command = a.command; term = term } ∷ []) in
       added law old (record old { library = l; assertions = as' }) (a ∷ []) cs a.command (Assert term) h alike
-      (addition_adds (Assert term) _ refl) refl refl refl refl refl refl refl grown pushed
-      (some_entries l (signature_in_force cs) a.command (Assert term) made.0 refl
+      (addition_adds (profile_of old) (Assert term) _ refl) refl refl refl refl refl refl refl grown pushed
+      (some_entries l (signature_in_force (profile_of old) cs) a.command (Assert term) made.0 refl
       (ap spec.all_or_none made.1) made.2)
       (subst P (sym pushed)
-      (one_more_assertion (contents_of l) old.assertions.items (assertions_in_force cs) a
+      (one_more_assertion (contents_of l) old.assertions.items (assertions_in_force (profile_of old) cs) a
       (record { command = a.command; term = term })
       (assertions_stay law (contents_of old.library) (contents_of l) grown old.assertions.items
-      (assertions_in_force cs) h.assertions) refl (stored (signature_in_force cs) h.library)));
+      (assertions_in_force (profile_of old) cs) h.assertions) refl
+      (stored (signature_in_force (profile_of old) cs) h.library)));
   start = refl;
 }
 
@@ -657,27 +668,30 @@ not_late true late h = absurd (cc)
 not_late false late h = h
 
 pub logic_effect : (old : Stack) (l : Library) (theories : Theories) (name : List ℕ)
-    → (old.logic.set || old.logic.late) ≡ false → theories_named name ≡ Some theories
+    → (old.logic.set || old.logic.late) ≡ false → theories_named (profile_of old) name ≡ Some theories
     → library.StandsFor l (no_names theories)
     → (n : ℕ) → HasEffect old (record old { library = l }) n (SetLogic name)
 logic_effect old l theories name free named fresh n = record {
   faultless = λ cs h. rw (not_fixed old cs h free, named);
   stands = λ cs h alike.
       let c : Numbered = record { number = n; command = SetLogic name } in
-      let b = brought_by cs (history cs) c in
-      let N = in_force names_stand (history cs) in
-      let A = in_force assertions_stand (history cs) in
-      let empty = unfixed_is_empty cs (not_late (is_logic_set cs) (is_too_late cs) (not_fixed old cs h free)) in
+      let b = brought_by (profile_of old) cs (history (profile_of old) cs) c in
+      let N = in_force names_stand (history (profile_of old) cs) in
+      let A = in_force assertions_stand (history (profile_of old) cs) in
+      let empty = unfixed_is_empty (profile_of old) cs
+      (not_late (is_logic_set cs) (is_too_late cs) (not_fixed old cs h free)) in
       let none = none_more N b true refl refl in
-      let names = names_grow cs c refl (omega arith) in
-      let assertions : assertions_in_force (cs ++ c ∷ []) ≡ [] =
-      ap assertions_of (assertions_grow cs c refl (omega arith)) ∙ assertions-push A b
+      let names = names_grow (profile_of old) cs c refl (omega arith) in
+      let assertions : assertions_in_force (profile_of old) (cs ++ c ∷ []) ≡ [] =
+      ap assertions_of (assertions_grow (profile_of old) cs c refl (omega arith)) ∙ assertions-push A b
       ∙ append-nil (assertions_of A) ∙ empty.0.assertions in
-      let t : theories_in_force (cs ++ c ∷ []) ≡ theories =
-      theories-push cs c ∙ ap (λ (o : Option Theories). theories_or (theories_in_force cs) o) named in
+      let t : theories_in_force (profile_of old) (cs ++ c ∷ []) ≡ theories =
+      theories-push (profile_of old) cs c
+      ∙ ap (λ (o : Option Theories). theories_or (theories_in_force (profile_of old) cs) o) named in
       let deep : depth_in_force (cs ++ c ∷ []) ≡ 0 = depth-push cs c ∙ empty.1 in
-      let s : signature_in_force (cs ++ c ∷ []) ≡ no_names theories =
-      same_signature (theories_in_force (cs ++ c ∷ [])) theories (in_force names_stand (history (cs ++ c ∷ []))) []
+      let s : signature_in_force (profile_of old) (cs ++ c ∷ []) ≡ no_names theories =
+      same_signature (theories_in_force (profile_of old) (cs ++ c ∷ [])) theories
+      (in_force names_stand (history (profile_of old) (cs ++ c ∷ []))) []
       t (ap abbreviations_of names ∙ none.1 ∙ empty.0.abbreviations)
       (ap entries_of names ∙ none.0 ∙ empty.0.entries) in
       let was : AreAssertions (contents_of old.library) old.assertions.items [] =
@@ -693,8 +707,8 @@ logic_effect old l theories name free named fresh n = record {
         ordered = h.ordered;
         logic = ap (λ (x : LogicState). logic_after x (SetLogic name)) h.logic ∙ sym (logic-push cs c);
         global = h.global ∙ sym (global-push cs c);
-        print_success = ap (λ (x : Bool). print_success_after old.initial_print_success x (SetLogic name)) h.print_success
-            ∙ sym (print-push old.initial_print_success cs c);
+        print_success = ap (λ (x : Bool). print_success_after old.start.print_success x (SetLogic name)) h.print_success
+            ∙ sym (print-push old.start.print_success cs c);
         exited = ap (λ (x : Bool). x || is_exit (SetLogic name)) h.exited ∙ sym (exited-push cs c);
       };
   start = refl;

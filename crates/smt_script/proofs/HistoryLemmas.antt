@@ -11,6 +11,8 @@ use Rattle.std.proofs.lemmas.List.Sums.{fold-append}
 use Rattle.std.proofs.lemmas.Grind.{flat_map-append}
 use Rattle.smt_theory.specs.declared.sort.Sort.{Sort}
 use Rattle.smt_theory.specs.declared.theories.Theories.{Theories}
+use Rattle.smt_theory.specs.Theories.{all_theories}
+use Rattle.smt_theory.specs.declared.profile.Profile.{Profile}
 use Rattle.smt_terms.specs.Signature.{Entry, Signature}
 use Rattle.smt_script.specs.Command.{Command, Effect, Removes, SetsLogic, Brings, Pushes, Pops, Removing, SetsGlobal}
 use Rattle.smt_script.specs.Command.{Assumes, AllButOptions, Everything, SetLogic, SetPrintSuccess, effect_of}
@@ -21,7 +23,7 @@ use Rattle.smt_script.specs.Command as removals
 use Rattle.smt_script.specs.Stack.{Assertion, Brought, Numbered, abbreviations_by, abbreviations_of_effect}
 use Rattle.smt_script.specs.Stack.{assertions_of_effect, assertions_stand, depth_by, entries_of_effect, flaw_by}
 use Rattle.smt_script.specs.Stack.{flaw_of_effect, flaw_of_global, global_after, global_by, global_in_force}
-use Rattle.smt_script.specs.Stack.{removed_of_effect, abbreviations_of, all_theories, assertions_by}
+use Rattle.smt_script.specs.Stack.{removed_of_effect, abbreviations_of, assertions_by}
 use Rattle.smt_script.specs.Stack.{assertions_of, brought_by, brought_from, depth_after, depth_in_force}
 use Rattle.smt_script.specs.Stack.{entries_by, entries_of, has_exited, history, in_force, names_stand}
 use Rattle.smt_script.specs.Stack.{is_everything, is_exit, is_reset, name_stands_after, print_success_after}
@@ -34,9 +36,10 @@ use Rattle.smt_script.proofs.StandingLemmas.{and_true, depth-push, le_of, le_tru
 
 -- ---- the notes after one more command
 
-pub theories-push : (cs : List Numbered) (c : Numbered)
-    → theories_in_force (cs ++ c ∷ []) ≡ theories_after (theories_in_force cs) c.command
-theories-push cs c = fold-append (λ (t : Theories) (d : Numbered). theories_after t d.command) all_theories cs
+pub theories-push : (profile : Profile) (cs : List Numbered) (c : Numbered)
+    → theories_in_force profile (cs ++ c ∷ []) ≡ theories_after profile (theories_in_force profile cs) c.command
+theories-push profile cs c = fold-append (λ (t : Theories) (d : Numbered). theories_after profile t d.command)
+    (all_theories profile) cs
     (c ∷ [])
 
 set-push : (cs : List Numbered) (c : Numbered)
@@ -67,11 +70,11 @@ exited-push cs c =
 
 -- ---- what was brought
 
-pub history-push : (cs : List Numbered) (c : Numbered)
-    → history (cs ++ c ∷ []) ≡ history cs ++ brought_by cs (history cs) c ∷ []
-history-push cs c =
-    steps-from [] [] (cs ++ c ∷ []) ∙ steps-append [] [] cs (c ∷ [])
-    ∙ ap (λ (h : List Brought). h ++ brought_by cs h c ∷ []) (sym (steps-from [] [] cs))
+pub history-push : (profile : Profile) (cs : List Numbered) (c : Numbered)
+    → history profile (cs ++ c ∷ []) ≡ history profile cs ++ brought_by profile cs (history profile cs) c ∷ []
+history-push profile cs c =
+    steps-from profile [] [] (cs ++ c ∷ []) ∙ steps-append profile [] [] cs (c ∷ [])
+    ∙ ap (λ (h : List Brought). h ++ brought_by profile cs h c ∷ []) (sym (steps-from profile [] [] cs))
 
 -- ---- rules by which what was brought stands
 
@@ -194,23 +197,24 @@ at_most-append level d [] b all h = (h, tt)
 at_most-append level d (x ∷ xs) b all h = (all.0, at_most-append level d xs b all.1 h)
 
 -- what holds before any command, and is kept by each, holds of all commands
-abbrev pub Kept : (List Numbered → List Brought → Type 0) → Type 0
-Kept P = (before : List Numbered) (brought : List Brought) (c : Numbered) → P before brought
-    → P (before ++ c ∷ []) (brought ++ brought_by before brought c ∷ [])
+abbrev pub Kept : (profile : Profile) → (List Numbered → List Brought → Type 0) → Type 0
+Kept profile P = (before : List Numbered) (brought : List Brought) (c : Numbered) → P before brought
+    → P (before ++ c ∷ []) (brought ++ brought_by profile before brought c ∷ [])
 
-kept_from : (P : List Numbered → List Brought → Type 0) → Kept P
+kept_from : (profile : Profile) (P : List Numbered → List Brought → Type 0) → Kept profile P
     → (before : List Numbered) (brought : List Brought) (cs : List Numbered) → P before brought
-    → P (before ++ cs) (brought_from before brought cs)
-kept_from P keep before brought [] h = subst (λ (b : List Numbered). P b brought) (sym (append-nil before)) h
-kept_from P keep before brought (c ∷ cs) h =
-    let b = brought_by before brought c in
-    subst (λ (l : List Numbered). P l (brought_from (before ++ c ∷ []) (brought ++ b ∷ []) cs))
+    → P (before ++ cs) (brought_from profile before brought cs)
+kept_from profile P keep before brought [] h = subst (λ (b : List Numbered). P b brought) (sym (append-nil before)) h
+kept_from profile P keep before brought (c ∷ cs) h =
+    let b = brought_by profile before brought c in
+    subst (λ (l : List Numbered). P l (brought_from profile (before ++ c ∷ []) (brought ++ b ∷ []) cs))
     (append_assoc before (c ∷ []) cs)
-    (kept_from P keep (before ++ c ∷ []) (brought ++ b ∷ []) cs (keep before brought c h))
+    (kept_from profile P keep (before ++ c ∷ []) (brought ++ b ∷ []) cs (keep before brought c h))
 
-pub kept_by_all : (P : List Numbered → List Brought → Type 0) → P [] [] → Kept P → (cs : List Numbered)
-    → P cs (history cs)
-kept_by_all P start keep cs = kept_from P keep [] [] cs start
+pub kept_by_all : (profile : Profile) (P : List Numbered → List Brought → Type 0) → P [] [] → Kept profile P
+    → (cs : List Numbered)
+    → P cs (history profile cs)
+kept_by_all profile P start keep cs = kept_from profile P keep [] [] cs start
 
 -- ---- the parts of what was brought
 
@@ -247,21 +251,6 @@ module _ (after : Brought → Brought → Bool) (level : Brought → ℕ) (rule 
   still_at_most b [] = tt
   still_at_most b (a ∷ brought) = at_most_by a b brought (still_at_most b brought) (after a b) refl
 
-  pub bound_step : Kept (Bounded after level)
-  bound_step before brought c h =
-      let b = brought_by before brought c in
-      let some = still after b (in_force (standing after) brought) in
-      let all : AtMost level b.level (some ++ b ∷ []) =
-      at_most-append level b.level some b (still_at_most b (in_force (standing after) brought)) (rule.inner b) in
-      subst (λ (l : List Brought). AtMost level (depth_in_force (before ++ c ∷ [])) l)
-      (sym (in_force-push after brought b))
-      (subst (λ (d : ℕ). AtMost level d (some ++ b ∷ [])) (sym (depth-push before c)) all)
-
-  -- nothing in force goes with more levels than there are
-  pub levels_bound : (cs : List Numbered)
-      → AtMost level (depth_in_force cs) (in_force (standing after) (history cs))
-  levels_bound cs = kept_by_all (Bounded after level) tt bound_step cs
-
   -- where a later one only leaves some levels, what goes with these stands
   pub levels_still : (b : Brought) (brought : List Brought) → resets b.removes ≡ false
       → still after b brought ≡ levels_to level b.level brought
@@ -293,26 +282,45 @@ module _ (after : Brought → Brought → Bool) (level : Brought → ℕ) (rule 
       ap (λ (u : Bool). cond u (a ∷ still after b brought) (still after b brought)) (rule.gone a b all)
       ∙ none_still b brought all
 
+module _ (profile : Profile) (after : Brought → Brought → Bool) (level : Brought → ℕ) (rule : IsRule after level) where
+  pub bound_step : Kept profile (Bounded after level)
+  bound_step before brought c h =
+      let b = brought_by profile before brought c in
+      let some = still after b (in_force (standing after) brought) in
+      let all : AtMost level b.level (some ++ b ∷ []) =
+      at_most-append level b.level some b (still_at_most after level rule b (in_force (standing after) brought))
+      (rule.inner b) in
+      subst (λ (l : List Brought). AtMost level (depth_in_force (before ++ c ∷ [])) l)
+      (sym (in_force-push after brought b))
+      (subst (λ (d : ℕ). AtMost level d (some ++ b ∷ [])) (sym (depth-push before c)) all)
+
+  -- nothing in force goes with more levels than there are
+  pub levels_bound : (cs : List Numbered)
+      → AtMost level (depth_in_force cs) (in_force (standing after) (history profile cs))
+  levels_bound cs = kept_by_all profile (Bounded after level) tt bound_step cs
+
   -- what is in force after a command that neither resets nor leaves fewer levels
   pub in_force-grow : (cs : List Numbered) (c : Numbered) → is_reset c.command ≡ false
       → depth_in_force cs ≤ depth_after (depth_in_force cs) c.command
-      → in_force (standing after) (history (cs ++ c ∷ []))
-      ≡ in_force (standing after) (history cs) ++ brought_by cs (history cs) c ∷ []
+      → in_force (standing after) (history profile (cs ++ c ∷ []))
+      ≡ in_force (standing after) (history profile cs) ++ brought_by profile cs (history profile cs) c ∷ []
   in_force-grow cs c keeps h =
-      let b = brought_by cs (history cs) c in
-      ap (in_force (standing after)) (history-push cs c) ∙ in_force-push after (history cs) b
+      let b = brought_by profile cs (history profile cs) c in
+      ap (in_force (standing after)) (history-push profile cs c) ∙ in_force-push after (history profile cs) b
       ∙ ap (λ (l : List Brought). l ++ b ∷ [])
-      (all_still b (depth_in_force cs) (in_force (standing after) (history cs)) keeps h (levels_bound cs))
+      (all_still after level rule b (depth_in_force cs) (in_force (standing after) (history profile cs)) keeps h
+      (levels_bound cs))
 
   -- what is in force after a command that only leaves some levels
   pub in_force-left : (cs : List Numbered) (c : Numbered) → is_reset c.command ≡ false
-      → in_force (standing after) (history (cs ++ c ∷ []))
-      ≡ levels_to level (depth_after (depth_in_force cs) c.command) (in_force (standing after) (history cs))
-      ++ brought_by cs (history cs) c ∷ []
+      → in_force (standing after) (history profile (cs ++ c ∷ []))
+      ≡ levels_to level (depth_after (depth_in_force cs) c.command) (in_force (standing after) (history profile cs))
+      ++ brought_by profile cs (history profile cs) c ∷ []
   in_force-left cs c keeps =
-      let b = brought_by cs (history cs) c in
-      ap (in_force (standing after)) (history-push cs c) ∙ in_force-push after (history cs) b
-      ∙ ap (λ (l : List Brought). l ++ b ∷ []) (levels_still b (in_force (standing after) (history cs)) keeps)
+      let b = brought_by profile cs (history profile cs) c in
+      ap (in_force (standing after)) (history-push profile cs c) ∙ in_force-push after (history profile cs) b
+      ∙ ap (λ (l : List Brought). l ++ b ∷ [])
+      (levels_still after level rule b (in_force (standing after) (history profile cs)) keeps)
 
 -- where a command removes all assertions, none stands
 pub no_assertions_still : (b : Brought) (brought : List Brought) → resets b.removes ≡ true
@@ -428,21 +436,22 @@ nothing_with names asserted b e a t f g u = record {
   assertions = assertions-push asserted b ∙ ap (λ (l : List Assertion). l ++ b.assertions) t ∙ u;
 }
 
-abbrev AfterStep : List Numbered → List Brought → Numbered → Type 0
-AfterStep before brought c =
-    let b = brought_by before brought c in
+abbrev AfterStep : (profile : Profile) → List Numbered → List Brought → Numbered → Type 0
+AfterStep profile before brought c =
+    let b = brought_by profile before brought c in
     Nothing (still name_stands_after b (names_in brought) ++ b ∷ [])
     (still assertion_stands_after b (assertions_in brought) ++ b ∷ [])
     × (depth_after (depth_in_force before) c.command ≡ 0)
 
-unfixed_by : (before : List Numbered) (brought : List Brought) (c : Numbered) → Unfixed before brought
-    → Unfixing (is_too_late before) c.command → AfterStep before brought c
-unfixed_by before brought c h (Resets is) =
-    let b = brought_by before brought c in
+unfixed_by : (profile : Profile) (before : List Numbered) (brought : List Brought) (c : Numbered)
+    → Unfixed before brought
+    → Unfixing (is_too_late before) c.command → AfterStep profile before brought c
+unfixed_by profile before brought c h (Resets is) =
+    let b = brought_by profile before brought c in
     let all : is_everything b.removes ≡ true = ap (λ (e : Effect). is_everything (removed_of_effect e)) is in
     let names = none_still name_stands_after names_level names_rule b (names_in brought) all in
     let asserted = none_still assertion_stands_after level_of assertions_rule b (assertions_in brought) all in
-    let s = signature_of (theories_in_force before) (names_in brought) in
+    let s = signature_of (theories_in_force profile before) (names_in brought) in
     let P : Effect → Type 0 =
     λ e. (entries_of_effect s c.number e ≡ []) × (abbreviations_of_effect s e ≡ [])
     × (assertions_of_effect c.number e ≡ []) in
@@ -451,28 +460,28 @@ unfixed_by before brought c h (Resets is) =
           b (ap entries_of names) (ap abbreviations_of names) (ap assertions_of asserted) none.0 none.1 none.2,
       ap (depth_by (depth_in_force before)) is,
     )
-unfixed_by before brought c h (Idles unfixed entries abbreviations assertions keeps depth) =
-    let b = brought_by before brought c in
+unfixed_by profile before brought c h (Idles unfixed entries abbreviations assertions keeps depth) =
+    let b = brought_by profile before brought c in
     let was = h.2 unfixed in
     let deep : depth_in_force before ≤ b.level = (let e = depth (depth_in_force before) in omega arith) in
     let names = all_still name_stands_after names_level names_rule b (depth_in_force before) (names_in brought)
     keeps deep h.0 in
     let asserted = all_still assertion_stands_after level_of assertions_rule b (depth_in_force before)
     (assertions_in brought) keeps deep h.1 in
-    let s = signature_of (theories_in_force before) (names_in brought) in (
+    let s = signature_of (theories_in_force profile before) (names_in brought) in (
       nothing_with (still name_stands_after b (names_in brought)) (still assertion_stands_after b (assertions_in brought))
           b (ap entries_of names ∙ was.0.entries) (ap abbreviations_of names ∙ was.0.abbreviations)
           (ap assertions_of asserted ∙ was.0.assertions) (entries s c.number) (abbreviations s) (assertions c.number),
       depth (depth_in_force before) ∙ was.1,
     )
 
-unfixed_step : Kept Unfixed
-unfixed_step before brought c h = (
-  bound_step name_stands_after names_level names_rule before brought c h.0,
-  bound_step assertion_stands_after level_of assertions_rule before brought c h.1,
+unfixed_step : (profile : Profile) → Kept profile Unfixed
+unfixed_step profile before brought c h = (
+  bound_step profile name_stands_after names_level names_rule before brought c h.0,
+  bound_step profile assertion_stands_after level_of assertions_rule before brought c h.1,
   λ is.
-      let b = brought_by before brought c in
-      let after = unfixed_by before brought c h
+      let b = brought_by profile before brought c in
+      let after = unfixed_by profile before brought c h
       (unfixing (is_too_late before) c.command (sym (late-push before c) ∙ is)) in
       let P : List Brought → List Brought → Type 0 = λ xs ys. Nothing xs ys in (
         subst (λ (xs : List Brought). P xs (assertions_in (brought ++ b ∷ [])))
@@ -484,15 +493,15 @@ unfixed_step before brought c h = (
 )
 
 -- until it is too late to set a logic nothing is in force, and there are no levels
-pub unfixed_is_empty : (cs : List Numbered) → is_too_late cs ≡ false
-    → Nothing (in_force names_stand (history cs)) (in_force assertions_stand (history cs))
+pub unfixed_is_empty : (profile : Profile) (cs : List Numbered) → is_too_late cs ≡ false
+    → Nothing (in_force names_stand (history profile cs)) (in_force assertions_stand (history profile cs))
     × (depth_in_force cs ≡ 0)
-unfixed_is_empty cs h =
-    (kept_by_all Unfixed (
+unfixed_is_empty profile cs h =
+    (kept_by_all profile Unfixed (
       tt,
       tt,
       λ is. (record { entries = refl; abbreviations = refl; assertions = refl }, refl),
-    ) unfixed_step cs).2 h
+    ) (unfixed_step profile) cs).2 h
 
 -- ---- global names and others never stand together
 
@@ -540,17 +549,17 @@ set_early true false false h = inr refl
 set_early true true false h = absurd (cc)
 set_early true false true h = absurd (cc)
 
-regards : (cs : List Numbered) (n : ℕ) (command : Command) (e : Effect) → effect_of command ≡ e
-    → flaw_by cs n e ≡ None → Regards (is_too_late cs) (global_in_force cs) command
-regards cs n command (SetsLogic x) is h = Same (ap (global_by (global_in_force cs)) is)
-regards cs n command (Brings item) is h = Same (ap (global_by (global_in_force cs)) is)
-regards cs n command (Pushes m) is h = Same (ap (global_by (global_in_force cs)) is)
-regards cs n command (Pops m) is h = Same (ap (global_by (global_in_force cs)) is)
-regards cs n command (Assumes literals) is h = Same (ap (global_by (global_in_force cs)) is)
-regards cs n command (Removing removals.Nothing) is h = Same (ap (global_by (global_in_force cs)) is)
-regards cs n command (Removing AllButOptions) is h = Same (ap (global_by (global_in_force cs)) is)
-regards cs n command (Removing Everything) is h = Anew is
-regards cs n command (SetsGlobal on) is h = by (set_early (is_too_late cs) (global_in_force cs) on h)
+regards : (profile : Profile) (cs : List Numbered) (n : ℕ) (command : Command) (e : Effect) → effect_of command ≡ e
+    → flaw_by profile cs n e ≡ None → Regards (is_too_late cs) (global_in_force cs) command
+regards profile cs n command (SetsLogic x) is h = Same (ap (global_by (global_in_force cs)) is)
+regards profile cs n command (Brings item) is h = Same (ap (global_by (global_in_force cs)) is)
+regards profile cs n command (Pushes m) is h = Same (ap (global_by (global_in_force cs)) is)
+regards profile cs n command (Pops m) is h = Same (ap (global_by (global_in_force cs)) is)
+regards profile cs n command (Assumes literals) is h = Same (ap (global_by (global_in_force cs)) is)
+regards profile cs n command (Removing removals.Nothing) is h = Same (ap (global_by (global_in_force cs)) is)
+regards profile cs n command (Removing AllButOptions) is h = Same (ap (global_by (global_in_force cs)) is)
+regards profile cs n command (Removing Everything) is h = Anew is
+regards profile cs n command (SetsGlobal on) is h = by (set_early (is_too_late cs) (global_in_force cs) on h)
   where
     by : (is_too_late cs ≡ false) ⊎ (on ≡ global_in_force cs)
         → Regards (is_too_late cs) (global_in_force cs) command
@@ -558,45 +567,47 @@ regards cs n command (SetsGlobal on) is h = by (set_early (is_too_late cs) (glob
         Early early (λ s k. ap (entries_of_effect s k) is) (λ s. ap (abbreviations_of_effect s) is)
     by (inr same) = Same (ap (global_by (global_in_force cs)) is ∙ same)
 
-alike_by : (cs : List Numbered) (c : Numbered) → AreNamesAlike cs
+alike_by : (profile : Profile) (cs : List Numbered) (c : Numbered) → AreNamesAlike profile cs
     → Regards (is_too_late cs) (global_in_force cs) c.command
     → AreAs (global_after (global_in_force cs) c.command)
-    (still name_stands_after (brought_by cs (history cs) c) (in_force names_stand (history cs))
-    ++ brought_by cs (history cs) c ∷ [])
-alike_by cs c h (Same is) =
-    let b = brought_by cs (history cs) c in
-    let all = in_force names_stand (history cs) in
+    (still name_stands_after (brought_by profile cs (history profile cs) c) (in_force names_stand (history profile cs))
+    ++ brought_by profile cs (history profile cs) c ∷ [])
+alike_by profile cs c h (Same is) =
+    let b = brought_by profile cs (history profile cs) c in
+    let all = in_force names_stand (history profile cs) in
     subst (λ (g : Bool). AreAs g (still name_stands_after b all ++ b ∷ [])) (sym is)
     (alike-append (global_in_force cs) (still name_stands_after b all) b
     (filter_alike (λ (a : Brought). name_stands_after a b) (global_in_force cs) all h) (inl refl))
-alike_by cs c h (Early early entries abbreviations) =
-    let b = brought_by cs (history cs) c in
-    let all = in_force names_stand (history cs) in
-    let none = (unfixed_is_empty cs early).0 in
+alike_by profile cs c h (Early early entries abbreviations) =
+    let b = brought_by profile cs (history profile cs) c in
+    let all = in_force names_stand (history profile cs) in
+    let none = (unfixed_is_empty profile cs early).0 in
     let g = global_after (global_in_force cs) c.command in
-    let s = signature_of (theories_in_force cs) all in
+    let s = signature_of (theories_in_force profile cs) all in
     alike-append g (still name_stands_after b all) b
     (filter_alike (λ (a : Brought). name_stands_after a b) g all
     (brings_none all g none.entries none.abbreviations)) (inr (entries s c.number, abbreviations s))
-alike_by cs c h (Anew is) =
-    let b = brought_by cs (history cs) c in
-    let all = in_force names_stand (history cs) in
+alike_by profile cs c h (Anew is) =
+    let b = brought_by profile cs (history profile cs) c in
+    let all = in_force names_stand (history profile cs) in
     let g = global_after (global_in_force cs) c.command in
     let gone = none_still name_stands_after names_level names_rule b all
     (ap (λ (e : Effect). is_everything (removed_of_effect e)) is) in
-    let s = signature_of (theories_in_force cs) all in
+    let s = signature_of (theories_in_force profile cs) all in
     subst (λ (l : List Brought). AreAs g (l ++ b ∷ [])) (sym gone)
     (inr (ap (entries_of_effect s c.number) is, ap (abbreviations_of_effect s) is), tt)
 
 -- a command without a fault keeps them so
-pub alike_step : (cs : List Numbered) (c : Numbered) → flaw_of_effect cs c.number c.command ≡ None
-    → AreNamesAlike cs → AreNamesAlike (cs ++ c ∷ [])
-alike_step cs c none h =
-    let b = brought_by cs (history cs) c in
-    subst (λ (g : Bool). AreAs g (in_force names_stand (history (cs ++ c ∷ [])))) (sym (global-push cs c))
+pub alike_step : (profile : Profile) (cs : List Numbered) (c : Numbered)
+    → flaw_of_effect profile cs c.number c.command ≡ None
+    → AreNamesAlike profile cs → AreNamesAlike profile (cs ++ c ∷ [])
+alike_step profile cs c none h =
+    let b = brought_by profile cs (history profile cs) c in
+    subst (λ (g : Bool). AreAs g (in_force names_stand (history profile (cs ++ c ∷ [])))) (sym (global-push cs c))
     (subst (AreAs (global_after (global_in_force cs) c.command))
-    (sym (ap (in_force names_stand) (history-push cs c) ∙ in_force-push name_stands_after (history cs) b))
-    (alike_by cs c h (regards cs c.number c.command (effect_of c.command) refl none)))
+    (sym (ap (in_force names_stand) (history-push profile cs c)
+    ∙ in_force-push name_stands_after (history profile cs) b))
+    (alike_by profile cs c h (regards profile cs c.number c.command (effect_of c.command) refl none)))
 
 -- the names that go with some levels are all, where they are global
 pub global_to_level : (k : ℕ) (bs : List Brought) → AreAs true bs

@@ -9,6 +9,7 @@ use Rattle.std.proofs.lemmas.Grind.{flat_map-append}
 use Rattle.smt_trees.specs.Sexp.{Sexp, Sexps}
 use Rattle.smt_theory.specs.Operators.{is_plain_operator}
 use Rattle.smt_theory.specs.Theories.{theories_named}
+use Rattle.smt_theory.specs.declared.profile.Profile.{Profile}
 use Rattle.smt_theory.specs.Words.{look_up, result_and_then}
 use Rattle.smt_theory.specs.declared.sort.Sort.{Sort}
 use Rattle.smt_theory.specs.declared.theories.Theories.{Theories}
@@ -129,9 +130,9 @@ one_more_sorted bs b false all h = subst Sorted (sym (append-nil bs)) all
 abbrev Ordered : List Numbered → List Brought → Type 0
 Ordered before brought = Sorted (local_names (in_force names_stand brought))
 
-ordered_step : Kept Ordered
-ordered_step before brought c h =
-    let b = brought_by before brought c in
+ordered_step : (profile : Profile) → Kept profile Ordered
+ordered_step profile before brought c h =
+    let b = brought_by profile before brought c in
     let N = in_force names_stand brought in
     let some = still name_stands_after b N in
     subst (λ (l : List Brought). Sorted (local_names l)) (sym (in_force-push name_stands_after brought b))
@@ -141,8 +142,9 @@ ordered_step before brought c h =
     (filter_sorted (λ (a : Brought). name_stands_after a b) (local_names N) h))
     (still_local b N)))
 
-local_sorted : (cs : List Numbered) → Sorted (local_names (in_force names_stand (history cs)))
-local_sorted cs = kept_by_all Ordered tt ordered_step cs
+local_sorted : (profile : Profile) (cs : List Numbered)
+    → Sorted (local_names (in_force names_stand (history profile cs)))
+local_sorted profile cs = kept_by_all profile Ordered tt (ordered_step profile) cs
 
 above : (m k : ℕ) → nat_le m k ≡ false → k + 1 ≤ m
 above m k h = grind (arith)
@@ -209,16 +211,17 @@ local_levels k (b ∷ bs) = one_level k b bs (local_levels k bs) b.global refl
 abbrev IsFirst : List Entry → List Entry → Type 0
 IsFirst first all = (rest : List Entry) × (all ≡ first ++ rest)
 
-first_entries : (global : Bool) (k : ℕ) (cs : List Numbered) → AreAs global (in_force names_stand (history cs))
-    → IsFirst (entries_of (names_to_level k (in_force names_stand (history cs))))
-    (entries_of (in_force names_stand (history cs)))
-first_entries true k cs h =
-    let N = in_force names_stand (history cs) in
+first_entries : (profile : Profile) (global : Bool) (k : ℕ) (cs : List Numbered)
+    → AreAs global (in_force names_stand (history profile cs))
+    → IsFirst (entries_of (names_to_level k (in_force names_stand (history profile cs))))
+    (entries_of (in_force names_stand (history profile cs)))
+first_entries profile true k cs h =
+    let N = in_force names_stand (history profile cs) in
     ([], sym (append-nil (entries_of (names_to_level k N)) ∙ (global_to_level k N h).0))
-first_entries false k cs h =
-    let N = in_force names_stand (history cs) in
+first_entries profile false k cs h =
+    let N = in_force names_stand (history profile cs) in
     let L = local_names N in
-    let first = beginning k L (local_sorted cs) in
+    let first = beginning k L (local_sorted profile cs) in
     let some : AreAs false (names_to_level k N) = filter_alike (λ (b : Brought). nat_le (names_level b) k) false N h in
     let kept : entries_of (names_to_level k N) ≡ entries_of (to_level k L) =
     sym (all_local (names_to_level k N) some)
@@ -329,7 +332,7 @@ reset_assertions_alone : (command : Command) → effect_of command ≡ Removing 
     → command ≡ ResetAssertions
 reset_assertions_alone command h = grind (arith)
 
-module _ (law : NamesAreIntroduced) where
+module _ (profile : Profile) (law : NamesAreIntroduced) where
   declares : (s : Signature) (n : ℕ) (x : List ℕ) (parameters : Sexps) (sort : Sexp)
       → flaw_of (declared_in s n x parameters sort) ≡ None
       → BringsWell s (one_or_none (declared_in s n x parameters sort))
@@ -363,12 +366,12 @@ module _ (law : NamesAreIntroduced) where
       let made = ok_or_fault (asserted_in (names_of s) term) h in
       subst (BringsWell s) (sym (ap all_or_none made.1)) (law.labels s term made.0 made.1)
 
-  adds : (cs : List Numbered) (c : Numbered) → Keeps c.command → IsWell (signature_in_force cs)
-      → BringsWell (signature_in_force cs) (entries_by (signature_in_force cs) c.number c.command)
-      → IsWell (signature_in_force (cs ++ c ∷ []))
+  adds : (cs : List Numbered) (c : Numbered) → Keeps profile c.command → IsWell (signature_in_force profile cs)
+      → BringsWell (signature_in_force profile cs) (entries_by (signature_in_force profile cs) c.number c.command)
+      → IsWell (signature_in_force profile (cs ++ c ∷ []))
   adds cs c keeps all brought =
-      let s = signature_in_force cs in
-      subst IsWell (sym (signature-add cs c keeps))
+      let s = signature_in_force profile cs in
+      subst IsWell (sym (signature-add profile cs c keeps))
       (more_names s.theories [] s.entries (entries_by s c.number c.command) all brought)
 
   unfixed : (set late : Bool) (theories : Option Theories) → flaw_of_logic set late theories ≡ None
@@ -381,39 +384,41 @@ module _ (law : NamesAreIntroduced) where
   no_entries : (s : Signature) → s.entries ≡ [] → IsWell s
   no_entries s none = subst (λ (es : List Entry). AreIntroduced s.theories [] es) (sym none) tt
 
-  sets_logic : (cs : List Numbered) (n : ℕ) (x : List ℕ) → flaw_of_effect cs n (SetLogic x) ≡ None
-      → IsWell (signature_in_force (cs ++ record { number = n; command = SetLogic x } ∷ []))
+  sets_logic : (cs : List Numbered) (n : ℕ) (x : List ℕ) → flaw_of_effect profile cs n (SetLogic x) ≡ None
+      → IsWell (signature_in_force profile (cs ++ record { number = n; command = SetLogic x } ∷ []))
   sets_logic cs n x h =
       let c : Numbered = record { number = n; command = SetLogic x } in
-      let b = brought_by cs (history cs) c in
-      let N = in_force names_stand (history cs) in
-      let empty = unfixed_is_empty cs (unfixed (is_logic_set cs) (is_too_late cs) (theories_named x) h) in
-      no_entries (signature_in_force (cs ++ c ∷ []))
-      (ap entries_of (names_grow cs c refl (omega arith)) ∙ entries-push N b ∙ append-nil (entries_of N)
+      let b = brought_by profile cs (history profile cs) c in
+      let N = in_force names_stand (history profile cs) in
+      let empty = unfixed_is_empty profile cs
+      (unfixed (is_logic_set cs) (is_too_late cs) (theories_named profile x) h) in
+      no_entries (signature_in_force profile (cs ++ c ∷ []))
+      (ap entries_of (names_grow profile cs c refl (omega arith)) ∙ entries-push N b ∙ append-nil (entries_of N)
       ∙ empty.0.entries)
 
   -- some of the first names
   first_well : (cs : List Numbered) (c : Numbered) (first : List Entry)
-      → theories_after (theories_in_force cs) c.command ≡ theories_in_force cs
-      → (signature_in_force (cs ++ c ∷ [])).entries ≡ first → IsFirst first (signature_in_force cs).entries
-      → IsWell (signature_in_force cs) → IsWell (signature_in_force (cs ++ c ∷ []))
+      → theories_after profile (theories_in_force profile cs) c.command ≡ theories_in_force profile cs
+      → (signature_in_force profile (cs ++ c ∷ [])).entries ≡ first
+      → IsFirst first (signature_in_force profile cs).entries
+      → IsWell (signature_in_force profile cs) → IsWell (signature_in_force profile (cs ++ c ∷ []))
   first_well cs c first theories now rest all =
-      subst (λ (t : Theories). AreIntroduced t [] (signature_in_force (cs ++ c ∷ [])).entries)
-      (sym (theories-push cs c ∙ theories))
-      (subst (λ (es : List Entry). AreIntroduced (theories_in_force cs) [] es) (sym now)
-      (fewer_names (theories_in_force cs) [] first rest.0
-      (subst (λ (es : List Entry). AreIntroduced (theories_in_force cs) [] es) rest.1 all)))
+      subst (λ (t : Theories). AreIntroduced t [] (signature_in_force profile (cs ++ c ∷ [])).entries)
+      (sym (theories-push profile cs c ∙ theories))
+      (subst (λ (es : List Entry). AreIntroduced (theories_in_force profile cs) [] es) (sym now)
+      (fewer_names (theories_in_force profile cs) [] first rest.0
+      (subst (λ (es : List Entry). AreIntroduced (theories_in_force profile cs) [] es) rest.1 all)))
 
-  pops : (cs : List Numbered) (n m : ℕ) → AreNamesAlike cs → IsWell (signature_in_force cs)
-      → IsWell (signature_in_force (cs ++ record { number = n; command = Pop m } ∷ []))
+  pops : (cs : List Numbered) (n m : ℕ) → AreNamesAlike profile cs → IsWell (signature_in_force profile cs)
+      → IsWell (signature_in_force profile (cs ++ record { number = n; command = Pop m } ∷ []))
   pops cs n m alike all =
       let c : Numbered = record { number = n; command = Pop m } in
-      let b = brought_by cs (history cs) c in
-      let some = names_to_level b.level (in_force names_stand (history cs)) in
+      let b = brought_by profile cs (history profile cs) c in
+      let some = names_to_level b.level (in_force names_stand (history profile cs)) in
       first_well cs c (entries_of some) refl
-      (ap entries_of (in_force-left name_stands_after names_level names_rule cs c refl)
+      (ap entries_of (in_force-left profile name_stands_after names_level names_rule cs c refl)
       ∙ (none_more some b true refl refl).0)
-      (first_entries (global_in_force cs) b.level cs alike) all
+      (first_entries profile (global_in_force cs) b.level cs alike) all
 
   -- the names that stay are all or none
   left_first : (global : Bool) (s : Signature) (theories : Theories)
@@ -421,26 +426,26 @@ module _ (law : NamesAreIntroduced) where
   left_first true s theories = ([], sym (append-nil s.entries))
   left_first false s theories = (s.entries, refl)
 
-  resets_assertions : (cs : List Numbered) (n : ℕ) → AreNamesAlike cs → IsWell (signature_in_force cs)
-      → IsWell (signature_in_force (cs ++ record { number = n; command = ResetAssertions } ∷ []))
+  resets_assertions : (cs : List Numbered) (n : ℕ) → AreNamesAlike profile cs → IsWell (signature_in_force profile cs)
+      → IsWell (signature_in_force profile (cs ++ record { number = n; command = ResetAssertions } ∷ []))
   resets_assertions cs n alike all =
       let c : Numbered = record { number = n; command = ResetAssertions } in
-      let left = cond (global_in_force cs) (signature_in_force cs) (no_names (theories_in_force cs)) in
+      let left = cond (global_in_force cs) (signature_in_force profile cs) (no_names (theories_in_force profile cs)) in
       first_well cs c left.entries refl
-      (ap (λ (s : Signature). s.entries) (names_kept (global_in_force cs) cs n alike))
-      (left_first (global_in_force cs) (signature_in_force cs) (theories_in_force cs)) all
+      (ap (λ (s : Signature). s.entries) (names_kept profile (global_in_force cs) cs n alike))
+      (left_first (global_in_force cs) (signature_in_force profile cs) (theories_in_force profile cs)) all
 
   behind_reset : (cs : List Numbered) (c : Numbered) → is_everything (removed_by c.command) ≡ true
-      → ((s : Signature) (n : ℕ) → entries_by s n c.command ≡ []) → IsWell (signature_in_force (cs ++ c ∷ []))
+      → ((s : Signature) (n : ℕ) → entries_by s n c.command ≡ []) → IsWell (signature_in_force profile (cs ++ c ∷ []))
   behind_reset cs c all none =
-      let b = brought_by cs (history cs) c in
-      let N = in_force names_stand (history cs) in
-      no_entries (signature_in_force (cs ++ c ∷ []))
-      (ap (λ (h : List Brought). entries_of (in_force names_stand h)) (history-push cs c)
-      ∙ ap entries_of (in_force-push name_stands_after (history cs) b)
+      let b = brought_by profile cs (history profile cs) c in
+      let N = in_force names_stand (history profile cs) in
+      no_entries (signature_in_force profile (cs ++ c ∷ []))
+      (ap (λ (h : List Brought). entries_of (in_force names_stand h)) (history-push profile cs c)
+      ∙ ap entries_of (in_force-push name_stands_after (history profile cs) b)
       ∙ entries-push (still name_stands_after b N) b
       ∙ ap (λ (l : List Brought). entries_of l ++ b.entries)
-      (none_still name_stands_after names_level names_rule b N all) ∙ none (signature_in_force cs) c.number)
+      (none_still name_stands_after names_level names_rule b N all) ∙ none (signature_in_force profile cs) c.number)
 
   -- one more command, by what it does
   brings : (s : Signature) (n : ℕ) (item : Addition) → flaw_of_addition s n item ≡ None
@@ -452,48 +457,49 @@ module _ (law : NamesAreIntroduced) where
 
   abbrev IsWellBehind : List Numbered → ℕ → Command → Type 0
   IsWellBehind cs n command =
-      IsWell (signature_in_force (cs ++ record { number = n; command = command } ∷ []))
+      IsWell (signature_in_force profile (cs ++ record { number = n; command = command } ∷ []))
 
   -- a command that brings no name
-  adds_none : (cs : List Numbered) (n : ℕ) (command : Command) → Keeps command
-      → entries_by (signature_in_force cs) n command ≡ [] → IsWell (signature_in_force cs)
+  adds_none : (cs : List Numbered) (n : ℕ) (command : Command) → Keeps profile command
+      → entries_by (signature_in_force profile cs) n command ≡ [] → IsWell (signature_in_force profile cs)
       → IsWellBehind cs n command
   adds_none cs n command keeps none all =
       adds cs (record { number = n; command = command }) keeps all
-      (subst (BringsWell (signature_in_force cs)) (sym none) tt)
+      (subst (BringsWell (signature_in_force profile cs)) (sym none) tt)
 
   step : (cs : List Numbered) (n : ℕ) (command : Command) (e : Effect) → effect_of command ≡ e
-      → AreNamesAlike cs → IsWell (signature_in_force cs)
-      → flaw_by cs n e ≡ None → IsWellBehind cs n command
+      → AreNamesAlike profile cs → IsWell (signature_in_force profile cs)
+      → flaw_by profile cs n e ≡ None → IsWellBehind cs n command
   step cs n command (SetsLogic x) is alike all h =
       subst (IsWellBehind cs n) (sym (logic_alone command x is)) (sets_logic cs n x h)
   step cs n command (Brings item) is alike all h =
-      let s = signature_in_force cs in
-      adds cs (record { number = n; command = command }) (adds_keeps command (addition_adds command item is)) all
+      let s = signature_in_force profile cs in
+      adds cs (record { number = n; command = command })
+      (adds_keeps profile command (addition_adds profile command item is)) all
       (subst (BringsWell s) (sym (ap (entries_of_effect s n) is)) (brings s n item h))
   step cs n command (Pushes m) is alike all h =
       adds_none cs n command (record {
         no_reset = ap (λ (e : Effect). resets (removed_of_effect e)) is;
         level = λ d. (let e = ap (depth_by d) is in omega arith);
-        theories = λ t. ap (theories_by t) is;
-      }) (ap (entries_of_effect (signature_in_force cs) n) is) all
+        theories = λ t. ap (theories_by profile t) is;
+      }) (ap (entries_of_effect (signature_in_force profile cs) n) is) all
   step cs n command (Pops m) is alike all h =
       subst (IsWellBehind cs n) (sym (pop_alone command m is)) (pops cs n m alike all)
   step cs n command (Assumes literals) is alike all h =
       adds_none cs n command (record {
         no_reset = ap (λ (e : Effect). resets (removed_of_effect e)) is;
         level = λ d. (let e = ap (depth_by d) is in omega arith);
-        theories = λ t. ap (theories_by t) is;
-      }) (ap (entries_of_effect (signature_in_force cs) n) is) all
+        theories = λ t. ap (theories_by profile t) is;
+      }) (ap (entries_of_effect (signature_in_force profile cs) n) is) all
   step cs n command (SetsGlobal on) is alike all h =
       adds_none cs n command (record {
         no_reset = ap (λ (e : Effect). resets (removed_of_effect e)) is;
         level = λ d. (let e = ap (depth_by d) is in omega arith);
-        theories = λ t. ap (theories_by t) is;
-      }) (ap (entries_of_effect (signature_in_force cs) n) is) all
+        theories = λ t. ap (theories_by profile t) is;
+      }) (ap (entries_of_effect (signature_in_force profile cs) n) is) all
   step cs n command (Removing Nothing) is alike all h =
-      adds_none cs n command (adds_keeps command (no_effect_is_idle command is).adds)
-      (ap (entries_of_effect (signature_in_force cs) n) is) all
+      adds_none cs n command (adds_keeps profile command (no_effect_is_idle profile command is).adds)
+      (ap (entries_of_effect (signature_in_force profile cs) n) is) all
   step cs n command (Removing AllButOptions) is alike all h =
       subst (IsWellBehind cs n) (sym (reset_assertions_alone command is)) (resets_assertions cs n alike all)
   step cs n command (Removing Everything) is alike all h =
@@ -501,25 +507,26 @@ module _ (law : NamesAreIntroduced) where
       (ap (λ (e : Effect). is_everything (removed_of_effect e)) is)
       (λ s k. ap (entries_of_effect s k) is)
 
-  from : (before cs : List Numbered) → AreNamesAlike before → IsWell (signature_in_force before)
-      → HaveNoFlaw before cs → IsWell (signature_in_force (before ++ cs))
-  from before [] alike all h = subst (λ (cs : List Numbered). IsWell (signature_in_force cs))
+  from : (before cs : List Numbered) → AreNamesAlike profile before → IsWell (signature_in_force profile before)
+      → HaveNoFlaw profile before cs → IsWell (signature_in_force profile (before ++ cs))
+  from before [] alike all h = subst (λ (cs : List Numbered). IsWell (signature_in_force profile cs))
       (sym (append-nil before)) all
   from before (c ∷ cs) alike all h =
-      subst (λ (ds : List Numbered). IsWell (signature_in_force ds)) (append_assoc before (c ∷ []) cs)
-      (from (before ++ c ∷ []) cs (alike_step before c h.0 alike)
+      subst (λ (ds : List Numbered). IsWell (signature_in_force profile ds)) (append_assoc before (c ∷ []) cs)
+      (from (before ++ c ∷ []) cs (alike_step profile before c h.0 alike)
       (step before c.number c.command (effect_of c.command) refl alike all h.0) h.1)
 
-  pub names_introduced : (cs : List Numbered) → HaveNoFlaw [] cs → IsWell (signature_in_force cs)
+  pub names_introduced : (cs : List Numbered) → HaveNoFlaw profile [] cs → IsWell (signature_in_force profile cs)
   names_introduced cs h = from [] cs tt tt h
 
 -- ---- global names and others never stand together
 
-alike_from : (before cs : List Numbered) → AreNamesAlike before → HaveNoFlaw before cs → AreNamesAlike (before ++ cs)
-alike_from before [] alike h = subst AreNamesAlike (sym (append-nil before)) alike
-alike_from before (c ∷ cs) alike h =
-    subst AreNamesAlike (append_assoc before (c ∷ []) cs)
-    (alike_from (before ++ c ∷ []) cs (alike_step before c h.0 alike) h.1)
+alike_from : (profile : Profile) (before cs : List Numbered) → AreNamesAlike profile before
+    → HaveNoFlaw profile before cs → AreNamesAlike profile (before ++ cs)
+alike_from profile before [] alike h = subst (AreNamesAlike profile) (sym (append-nil before)) alike
+alike_from profile before (c ∷ cs) alike h =
+    subst (AreNamesAlike profile) (append_assoc before (c ∷ []) cs)
+    (alike_from profile (before ++ c ∷ []) cs (alike_step profile before c h.0 alike) h.1)
 
-pub names_alike : (cs : List Numbered) → HaveNoFlaw [] cs → AreNamesAlike cs
-names_alike cs h = alike_from [] cs tt h
+pub names_alike : (profile : Profile) (cs : List Numbered) → HaveNoFlaw profile [] cs → AreNamesAlike profile cs
+names_alike profile cs h = alike_from profile [] cs tt h

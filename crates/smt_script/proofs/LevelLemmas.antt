@@ -6,6 +6,7 @@ use Rattle.std.specs.List.{All}
 use Rattle.std.proofs.lemmas.List.{append-nil, length-append, length-take}
 use Rattle.std.proofs.lemmas.List.Elements.{All-cons, All-nil}
 use Rattle.smt_theory.specs.declared.sort.Sort.{Sort}
+use Rattle.smt_theory.specs.Theories.{all_theories}
 use Rattle.smt_terms.specs.Contents.{Contents, IsBelow, IsWithin, contents_of, first_of}
 use Rattle.smt_terms.specs.Library as library
 use Rattle.smt_terms.specs.Library.{Holds}
@@ -13,11 +14,11 @@ use Rattle.smt_terms.specs.Signature.{Entry, Signature, no_names}
 use Rattle.smt_terms.specs.declared.library.marks.Mark.{Mark}
 use Rattle.smt_script.specs.Command.{Command, Push, Pop, Reset, ResetAssertions}
 use Rattle.smt_script.specs.Stack as spec
-use Rattle.smt_script.specs.Stack.{Brought, Numbered, abbreviations_by, abbreviations_of, all_theories}
+use Rattle.smt_script.specs.Stack.{Brought, Numbered, abbreviations_by, abbreviations_of}
 use Rattle.smt_script.specs.Stack.{assertions_by, assertions_in_force, assertions_of, brought_by, depth_after}
 use Rattle.smt_script.specs.Stack.{assertions_stand, depth_in_force, entries_by, entries_of, flaw_of_effect}
-use Rattle.smt_script.specs.Stack.{global_after, history, in_force, is_everything, is_exit, is_reset, limit}
-use Rattle.smt_script.specs.Stack.{name_stands_after, names_stand, print_success_after, print_success_in_force}
+use Rattle.smt_script.specs.Stack.{global_after, history, in_force, is_everything, is_exit, is_reset, max_levels}
+use Rattle.smt_script.specs.Stack.{name_stands_after, names_stand, print_success_after}
 use Rattle.smt_script.specs.Stack.{resets, signature_in_force, signature_of, stands_after, theories_after}
 use Rattle.smt_script.specs.Stack.{theories_in_force}
 use Rattle.smt_script.specs.StackView.{AreAs, AreAssertions, HasInForce, IsAs, IsLevel, IsOuter, assertions_to_level}
@@ -29,8 +30,10 @@ use Rattle.smt_script.specs.Internal.Effect.{NotesAll, logic_after, with_notes}
 use Rattle.smt_faults.specs.declared.command_flaw.CommandFlaw.TheVariants.{TooDeep, NoLevel}
 use Rattle.smt_script.specs.declared.stack.Assertion.{Assertion}
 use Rattle.smt_script.specs.declared.stack.LogicState.{LogicState}
+use Rattle.smt_script.specs.declared.stack.Start.{Start}
 use Rattle.smt_script.specs.declared.stack.levels.Level.{Level}
 use Rattle.smt_script.specs.declared.stack.Stack.{Stack}
+use Rattle.smt_script.specs.StackView.{profile_of}
 use Rattle.smt_script.proofs.EffectLemmas.{Keeps, assertions-add, assertions_left, extends_itself, no_names_left}
 use Rattle.smt_script.proofs.EffectLemmas.{none_more}
 use Rattle.smt_script.proofs.EffectLemmas.{nothing_brought, same_signature, signature-add, within}
@@ -40,6 +43,7 @@ use Rattle.smt_script.proofs.HistoryLemmas.{level_of, levels_bound, levels_to-pu
 use Rattle.smt_script.proofs.HistoryLemmas.{no_assertions_still, none_still, print-push, still, theories-push}
 use Rattle.smt_script.proofs.HistoryLemmas.{to_fewer, to_level-push}
 use Rattle.smt_script.proofs.StandingLemmas.{depth-push}
+use Rattle.smt_theory.specs.declared.profile.Profile.{Profile}
 
 -- ---- lists
 
@@ -92,8 +96,8 @@ one_behind (y ∷ xs) n l (suc k) x h = further (one_behind xs n l k x h)
 
 -- ---- push
 
-push_keeps : (m : ℕ) → Keeps (Push m)
-push_keeps m = record { no_reset = refl; level = λ d. omega arith; theories = λ t. refl }
+push_keeps : (profile : Profile) (m : ℕ) → Keeps profile (Push m)
+push_keeps profile m = record { no_reset = refl; level = λ d. omega arith; theories = λ t. refl }
 
 -- a level that notes all leaves all
 left_all : (global : Bool) (l : Level) (c : Contents) → first_of l.mark c ≡ c → contents_left global l.mark c ≡ c
@@ -112,48 +116,48 @@ terms_within law c (b ∷ bs) (a ∷ as') n most h =
 
 note_is_level : TermsHaveNodes → (s : Stack) (l : Level) (cs : List Numbered) (k : ℕ) → HasInForce s cs → NotesAll s l
     → depth_in_force cs ≤ k
-    → IsLevel s.global (contents_of s.library) s.assertions.items l (signature_to_level k cs)
-    (assertions_to_level k cs)
+    → IsLevel s.global (contents_of s.library) s.assertions.items l (signature_to_level (profile_of s) k cs)
+    (assertions_to_level (profile_of s) k cs)
 note_is_level law s l cs k h notes le =
     let c = contents_of s.library in
-    let N = in_force names_stand (history cs) in
-    let A = in_force assertions_stand (history cs) in
-    let names : signature_to_level k cs ≡ signature_in_force cs =
-    ap (signature_of (theories_in_force cs))
+    let N = in_force names_stand (history (profile_of s) cs) in
+    let A = in_force assertions_stand (history (profile_of s) cs) in
+    let names : signature_to_level (profile_of s) k cs ≡ signature_in_force (profile_of s) cs =
+    ap (signature_of (theories_in_force (profile_of s) cs))
     (all_to_level name_stands_after names_level names_rule k (depth_in_force cs) N le
-    (levels_bound name_stands_after names_level names_rule cs)) in
-    let asserted : assertions_to_level k cs ≡ assertions_in_force cs =
+    (levels_bound (profile_of s) name_stands_after names_level names_rule cs)) in
+    let asserted : assertions_to_level (profile_of s) k cs ≡ assertions_in_force (profile_of s) cs =
     ap assertions_of
     (all_to_level assertion_stands_after level_of assertions_rule k (depth_in_force cs) A le
-    (levels_bound assertion_stands_after level_of assertions_rule cs)) in
+    (levels_bound (profile_of s) assertion_stands_after level_of assertions_rule cs)) in
     let all = left_all s.global l c notes.all in
     record {
       within = notes.within;
       count = (let e = notes.assertions in omega arith);
-      holds = subst (λ (x : Contents). Holds x (signature_to_level k cs)) (sym all)
+      holds = subst (λ (x : Contents). Holds x (signature_to_level (profile_of s) k cs)) (sym all)
           (subst (Holds c) (sym names) h.library);
       assertions_are =
           subst (λ (x : Contents). AreAssertions x (take l.assertions s.assertions.items)
-          (assertions_to_level k cs)) (sym all)
+          (assertions_to_level (profile_of s) k cs)) (sym all)
           (subst (AreAssertions c (take l.assertions s.assertions.items)) (sym asserted)
-          (subst (λ (xs : List Assertion). AreAssertions c xs (assertions_in_force cs))
+          (subst (λ (xs : List Assertion). AreAssertions c xs (assertions_in_force (profile_of s) cs))
           (sym (ap (λ (n : ℕ). take n s.assertions.items) notes.assertions ∙ take_all s.assertions.items))
           h.assertions));
       terms = subst (All (λ a. a.term < l.mark.nodes))
           (sym (ap (λ (n : ℕ). take n s.assertions.items) notes.assertions ∙ take_all s.assertions.items))
-          (terms_within law c (assertions_in_force cs) s.assertions.items l.mark.nodes
+          (terms_within law c (assertions_in_force (profile_of s) cs) s.assertions.items l.mark.nodes
           (let e = ap (λ (x : Contents). length x.rows) notes.all in let m =
           length-take l.mark.nodes c.rows in omega arith) h.assertions);
     }
 
 push_level : TermsHaveNodes → (s : Stack) (l : Level) (cs : List Numbered) (k : ℕ) (x : Level) → HasInForce s cs → NotesAll s l
     → Behind s.levels l k x
-    → IsLevel s.global (contents_of s.library) s.assertions.items x (signature_to_level k cs)
-    (assertions_to_level k cs)
+    → IsLevel s.global (contents_of s.library) s.assertions.items x (signature_to_level (profile_of s) k cs)
+    (assertions_to_level (profile_of s) k cs)
 push_level law s l cs k x h notes (Before at) = h.levels k x at
 push_level law s l cs k x h notes (Copy is le) =
     subst (λ (y : Level). IsLevel s.global (contents_of s.library) s.assertions.items y
-    (signature_to_level k cs) (assertions_to_level k cs)) (sym is)
+    (signature_to_level (profile_of s) k cs) (assertions_to_level (profile_of s) k cs)) (sym is)
     (note_is_level law s l cs k h notes (let e = h.depth in omega arith))
 
 push_ordered : (s : Stack) (l : Level) (cs : List Numbered) (j k : ℕ) (x y : Level) → HasInForce s cs
@@ -175,15 +179,15 @@ push_ordered s l cs j k x y h notes le (Copy same near) (Copy is far) =
     (record { mark = notes.last l.mark notes.within; assertions = omega arith }))
 
 pub push_effect : TermsHaveNodes → (old : Stack) (v : List Level) (l : Level) (m : ℕ) → NotesAll old l
-    → v ≡ old.levels ++ copies m l → length old.levels + m ≤ limit
+    → v ≡ old.levels ++ copies m l → length old.levels + m ≤ max_levels
     → (n : ℕ) → HasEffect old (record old { levels = v }) n (Push m)
 push_effect law old v l m notes pushed fits n = record {
   faultless = λ cs h.
-      let few : nat_lt limit (depth_in_force cs + m) ≡ false = (let e = h.depth in grind (arith)) in
+      let few : nat_lt max_levels (depth_in_force cs + m) ≡ false = (let e = h.depth in grind (arith)) in
       rw few refl;
   stands = λ cs h alike.
       let c : Numbered = record { number = n; command = Push m } in
-      let b = brought_by cs (history cs) c in
+      let b = brought_by (profile_of old) cs (history (profile_of old) cs) c in
       let P : List spec.Assertion → Type 0 =
       λ bs. AreAssertions (contents_of old.library) old.assertions.items bs in
       let deep : length v ≡ depth_in_force cs + m =
@@ -191,9 +195,10 @@ push_effect law old v l m notes pushed fits n = record {
       ∙ ap (λ (x : ℕ). length old.levels + x) (copies_length m l) ∙ ap (λ (x : ℕ). x + m) h.depth in
       record {
         library = subst (λ (s : Signature). library.StandsFor old.library s)
-            (sym (signature-add cs c (push_keeps m)))
-            (nothing_brought old.library (signature_in_force cs) n (Push m) refl refl h.library);
-        assertions = subst P (sym (assertions-add cs c (push_keeps m) ∙ append-nil (assertions_in_force cs)))
+            (sym (signature-add (profile_of old) cs c (push_keeps (profile_of old) m)))
+            (nothing_brought old.library (signature_in_force (profile_of old) cs) n (Push m) refl refl h.library);
+        assertions = subst P (sym (assertions-add (profile_of old) cs c (push_keeps (profile_of old) m)
+            ∙ append-nil (assertions_in_force (profile_of old) cs)))
             h.assertions;
         depth = deep ∙ sym (depth-push cs c);
         levels = λ k x at.
@@ -201,9 +206,11 @@ push_effect law old v l m notes pushed fits n = record {
             (ap (λ (xs : List Level). slice_get xs k) (sym pushed) ∙ at) in
             let inside : k + 1 ≤ b.level = (let i = within v k x at in omega arith) in
             subst (λ (y : Signature). IsLevel old.global (contents_of old.library) old.assertions.items x y
-            (assertions_to_level k (cs ++ c ∷ []))) (sym (no_names_left k cs c (push_keeps m) refl refl))
-            (subst (IsLevel old.global (contents_of old.library) old.assertions.items x (signature_to_level k cs))
-            (sym (assertions_left k cs c (push_keeps m) inside))
+            (assertions_to_level (profile_of old) k (cs ++ c ∷ [])))
+            (sym (no_names_left (profile_of old) k cs c (push_keeps (profile_of old) m) refl refl))
+            (subst (IsLevel old.global (contents_of old.library) old.assertions.items x
+            (signature_to_level (profile_of old) k cs))
+            (sym (assertions_left (profile_of old) k cs c (push_keeps (profile_of old) m) inside))
             (push_level law old l cs k x h notes behind));
         ordered = λ j k x y le at there.
             push_ordered old l cs j k x y h notes le
@@ -213,18 +220,18 @@ push_effect law old v l m notes pushed fits n = record {
             (ap (λ (xs : List Level). slice_get xs k) (sym pushed) ∙ there));
         logic = ap (λ (x : LogicState). logic_after x (Push m)) h.logic ∙ sym (logic-push cs c);
         global = h.global ∙ sym (global-push cs c);
-        print_success = h.print_success ∙ sym (print-push old.initial_print_success cs c);
+        print_success = h.print_success ∙ sym (print-push old.start.print_success cs c);
         exited = ap (λ (x : Bool). x || false) h.exited ∙ sym (exited-push cs c);
       };
   start = refl;
 }
 
-pub push_refused : (s : Stack) (m : ℕ) → (length s.levels + m ≤ limit → ⊥) → (cs : List Numbered)
-    → HasInForce s cs → (n : ℕ) → flaw_of_effect cs n (Push m) ≡ Some TooDeep
+pub push_refused : (s : Stack) (m : ℕ) → (length s.levels + m ≤ max_levels → ⊥) → (cs : List Numbered)
+    → HasInForce s cs → (n : ℕ) → flaw_of_effect (profile_of s) cs n (Push m) ≡ Some TooDeep
 push_refused s m over cs h n =
     rw (too_many (depth_in_force cs + m) (λ le. over (let e = h.depth in omega arith))) refl
   where
-    too_many : (d : ℕ) → (d ≤ limit → ⊥) → nat_lt limit d ≡ true
+    too_many : (d : ℕ) → (d ≤ max_levels → ⊥) → nat_lt max_levels d ≡ true
     too_many d no_room = grind (arith)
 
 -- ---- pop
@@ -249,8 +256,8 @@ within_left law false mark later c h inner outer = law.within mark later c h out
 
 cut_level : CutsAreKept → (old new : Stack) (d : ℕ) (cs : List Numbered) → HasInForce old cs
     → (cut : IsCut old new d) → (k : ℕ) (x : Level) → slice_get new.levels k ≡ Some x
-    → IsLevel old.global (contents_of new.library) new.assertions.items x (signature_to_level k cs)
-    (assertions_to_level k cs)
+    → IsLevel old.global (contents_of new.library) new.assertions.items x (signature_to_level (profile_of old) k cs)
+    (assertions_to_level (profile_of old) k cs)
 cut_level law old new d cs h cut k x at =
     let there = taken d old.levels k x (ap (λ (xs : List Level). slice_get xs k) (sym cut.levels) ∙ at)
     in
@@ -259,8 +266,8 @@ cut_level law old new d cs h cut k x at =
     let whole = h.levels d cut.level cut.at in
     let c = contents_of old.library in
     let g = old.global in
-    let s = signature_to_level k cs in
-    let B = assertions_to_level k cs in
+    let s = signature_to_level (profile_of old) k cs in
+    let B = assertions_to_level (profile_of old) k cs in
     let same = left_of_left law g x.mark cut.level.mark c outer.mark in
     subst (λ (y : Contents). IsLevel g y new.assertions.items x s B) (sym cut.library)
     (subst (λ (xs : List Assertion). IsLevel g (contents_left g cut.level.mark c) xs x s B)
@@ -280,46 +287,48 @@ cut_level law old new d cs h cut k x at =
     }))
 
 -- the names that levels leave which are no more than a command leaves
-names_popped : (k : ℕ) (cs : List Numbered) (c : Numbered) → is_reset c.command ≡ false
-    → theories_after (theories_in_force cs) c.command ≡ theories_in_force cs
-    → entries_by (signature_in_force cs) c.number c.command ≡ []
-    → abbreviations_by (signature_in_force cs) c.command ≡ []
-    → k ≤ depth_after (depth_in_force cs) c.command → signature_to_level k (cs ++ c ∷ []) ≡ signature_to_level k cs
-names_popped k cs c keeps theories entries abbreviations le =
-    let b = brought_by cs (history cs) c in
-    let N = in_force names_stand (history cs) in
+names_popped : (profile : Profile) (k : ℕ) (cs : List Numbered) (c : Numbered) → is_reset c.command ≡ false
+    → theories_after profile (theories_in_force profile cs) c.command ≡ theories_in_force profile cs
+    → entries_by (signature_in_force profile cs) c.number c.command ≡ []
+    → abbreviations_by (signature_in_force profile cs) c.command ≡ []
+    → k ≤ depth_after (depth_in_force cs) c.command → signature_to_level profile k (cs ++ c ∷ [])
+    ≡ signature_to_level profile k cs
+names_popped profile k cs c keeps theories entries abbreviations le =
+    let b = brought_by profile cs (history profile cs) c in
+    let N = in_force names_stand (history profile cs) in
     let some = names_to_level b.level N in
     let fewer = to_fewer names_level k b.level N le in
-    let same = ap (names_to_level k) (in_force-left name_stands_after names_level names_rule cs c keeps)
+    let same = ap (names_to_level k) (in_force-left profile name_stands_after names_level names_rule cs c keeps)
     ∙ levels_to-push names_level k some b in
     let none = none_more (names_to_level k some) b (nat_le (names_level b) k) entries abbreviations in
-    same_signature (theories_in_force (cs ++ c ∷ [])) (theories_in_force cs)
-    (names_to_level k (in_force names_stand (history (cs ++ c ∷ [])))) (names_to_level k N)
-    (theories-push cs c ∙ theories)
+    same_signature (theories_in_force profile (cs ++ c ∷ [])) (theories_in_force profile cs)
+    (names_to_level k (in_force names_stand (history profile (cs ++ c ∷ [])))) (names_to_level k N)
+    (theories-push profile cs c ∙ theories)
     (ap abbreviations_of same ∙ none.1 ∙ ap abbreviations_of fewer) (ap entries_of same ∙ none.0 ∙ ap entries_of fewer)
 
 -- what is left of all names is what the levels left that a command left
-all_popped : (cs : List Numbered) (c : Numbered) → is_reset c.command ≡ false
-    → theories_after (theories_in_force cs) c.command ≡ theories_in_force cs
-    → entries_by (signature_in_force cs) c.number c.command ≡ []
-    → abbreviations_by (signature_in_force cs) c.command ≡ []
-    → signature_in_force (cs ++ c ∷ []) ≡ signature_to_level (depth_after (depth_in_force cs) c.command) cs
-all_popped cs c keeps theories entries abbreviations =
-    let b = brought_by cs (history cs) c in
-    let N = in_force names_stand (history cs) in
-    let same = in_force-left name_stands_after names_level names_rule cs c keeps in
+all_popped : (profile : Profile) (cs : List Numbered) (c : Numbered) → is_reset c.command ≡ false
+    → theories_after profile (theories_in_force profile cs) c.command ≡ theories_in_force profile cs
+    → entries_by (signature_in_force profile cs) c.number c.command ≡ []
+    → abbreviations_by (signature_in_force profile cs) c.command ≡ []
+    → signature_in_force profile (cs ++ c ∷ [])
+    ≡ signature_to_level profile (depth_after (depth_in_force cs) c.command) cs
+all_popped profile cs c keeps theories entries abbreviations =
+    let b = brought_by profile cs (history profile cs) c in
+    let N = in_force names_stand (history profile cs) in
+    let same = in_force-left profile name_stands_after names_level names_rule cs c keeps in
     let none = none_more (names_to_level b.level N) b true entries abbreviations in
-    same_signature (theories_in_force (cs ++ c ∷ [])) (theories_in_force cs)
-    (in_force names_stand (history (cs ++ c ∷ []))) (names_to_level b.level N)
-    (theories-push cs c ∙ theories) (ap abbreviations_of same ∙ none.1) (ap entries_of same ∙ none.0)
+    same_signature (theories_in_force profile (cs ++ c ∷ [])) (theories_in_force profile cs)
+    (in_force names_stand (history profile (cs ++ c ∷ []))) (names_to_level b.level N)
+    (theories-push profile cs c ∙ theories) (ap abbreviations_of same ∙ none.1) (ap entries_of same ∙ none.0)
 
-assertions_popped : (k : ℕ) (cs : List Numbered) (c : Numbered) → is_reset c.command ≡ false
+assertions_popped : (profile : Profile) (k : ℕ) (cs : List Numbered) (c : Numbered) → is_reset c.command ≡ false
     → k + 1 ≤ depth_after (depth_in_force cs) c.command
-    → assertions_to_level k (cs ++ c ∷ []) ≡ assertions_to_level k cs
-assertions_popped k cs c keeps inside =
-    let b = brought_by cs (history cs) c in
-    let A = in_force assertions_stand (history cs) in
-    ap assertions_of (ap (to_level k) (in_force-left assertion_stands_after level_of assertions_rule cs c keeps)
+    → assertions_to_level profile k (cs ++ c ∷ []) ≡ assertions_to_level profile k cs
+assertions_popped profile k cs c keeps inside =
+    let b = brought_by profile cs (history profile cs) c in
+    let A = in_force assertions_stand (history profile cs) in
+    ap assertions_of (ap (to_level k) (in_force-left profile assertion_stands_after level_of assertions_rule cs c keeps)
     ∙ to_level-push level_of k (to_level b.level A) b inside
     ∙ to_fewer level_of k b.level A (omega arith))
 
@@ -329,28 +338,31 @@ pop_effect law old new m d cut sum notes n = record {
   faultless = λ cs h. rw (enough cs h) refl;
   stands = λ cs h alike.
       let c : Numbered = record { number = n; command = Pop m } in
-      let b = brought_by cs (history cs) c in
+      let b = brought_by (profile_of old) cs (history (profile_of old) cs) c in
       let all = cs ++ c ∷ [] in
-      let A = in_force assertions_stand (history cs) in
+      let A = in_force assertions_stand (history (profile_of old) cs) in
       let deep : depth_in_force cs - m ≡ d = (let e = h.depth in omega arith) in
       let whole = h.levels d cut.level cut.at in
-      let signature : signature_in_force all ≡ signature_to_level d cs =
-      all_popped cs c refl refl refl refl ∙ ap (λ (k : ℕ). signature_to_level k cs) deep in
-      let asserted : assertions_in_force all ≡ assertions_to_level d cs =
-      ap assertions_of (in_force-left assertion_stands_after level_of assertions_rule cs c refl)
+      let signature : signature_in_force (profile_of old) all ≡ signature_to_level (profile_of old) d cs =
+      all_popped (profile_of old) cs c refl refl refl refl
+      ∙ ap (λ (k : ℕ). signature_to_level (profile_of old) k cs) deep in
+      let asserted : assertions_in_force (profile_of old) all ≡ assertions_to_level (profile_of old) d cs =
+      ap assertions_of (in_force-left (profile_of old) assertion_stands_after level_of assertions_rule cs c refl)
       ∙ assertions-push (to_level b.level A) b ∙ append-nil (assertions_of (to_level b.level A))
-      ∙ ap (λ (k : ℕ). assertions_to_level k cs) deep in
+      ∙ ap (λ (k : ℕ). assertions_to_level (profile_of old) k cs) deep in
       let g = old.global in
-      record {
+      subst (λ (x : Start). HasInForce (with_notes (Pop m) (record new { start = x })) all) (sym notes.start)
+      (record {
         library = subst (λ (s : Signature). library.StandsFor new.library s) (sym signature)
-            (subst (λ (x : Contents). Holds x (signature_to_level d cs)) (sym cut.library) whole.holds);
+            (subst (λ (x : Contents). Holds x (signature_to_level (profile_of old) d cs))
+            (sym cut.library) whole.holds);
         assertions =
             subst (λ (bs : List spec.Assertion). AreAssertions (contents_of new.library)
             new.assertions.items bs) (sym asserted)
-            (subst (λ (x : Contents). AreAssertions x new.assertions.items (assertions_to_level d cs))
+            (subst (λ (x : Contents). AreAssertions x new.assertions.items (assertions_to_level (profile_of old) d cs))
             (sym cut.library)
             (subst (λ (xs : List Assertion). AreAssertions
-            (contents_left g cut.level.mark (contents_of old.library)) xs (assertions_to_level d cs))
+            (contents_left g cut.level.mark (contents_of old.library)) xs (assertions_to_level (profile_of old) d cs))
             (sym cut.assertions) whole.assertions_are));
         depth = ap length cut.levels
             ∙ take_length d old.levels
@@ -361,11 +373,13 @@ pop_effect law old new m d cut sum notes n = record {
             (ap (λ (xs : List Level). slice_get xs k) (sym cut.levels) ∙ at) in
             let inside : k + 1 ≤ b.level = (let i = there.1 in let e = deep in omega arith) in
             subst (λ (g : Bool). IsLevel g (contents_of new.library) new.assertions.items x
-            (signature_to_level k all) (assertions_to_level k all)) (sym notes.global)
+            (signature_to_level (profile_of old) k all) (assertions_to_level (profile_of old) k all)) (sym notes.global)
             (subst (λ (y : Signature). IsLevel g (contents_of new.library) new.assertions.items x y
-            (assertions_to_level k all)) (sym (names_popped k cs c refl refl refl refl (omega arith)))
-            (subst (IsLevel g (contents_of new.library) new.assertions.items x (signature_to_level k cs))
-            (sym (assertions_popped k cs c refl inside)) (cut_level law old new d cs h cut k x at)));
+            (assertions_to_level (profile_of old) k all))
+            (sym (names_popped (profile_of old) k cs c refl refl refl refl (omega arith)))
+            (subst (IsLevel g (contents_of new.library) new.assertions.items x
+            (signature_to_level (profile_of old) k cs))
+            (sym (assertions_popped (profile_of old) k cs c refl inside)) (cut_level law old new d cs h cut k x at)));
         ordered = λ j k x y le at there.
             h.ordered j k x y le (taken d old.levels j x
             (ap (λ (xs : List Level). slice_get xs j) (sym cut.levels) ∙ at)).0
@@ -373,19 +387,17 @@ pop_effect law old new m d cut sum notes n = record {
             (ap (λ (xs : List Level). slice_get xs k) (sym cut.levels) ∙ there)).0;
         logic = ap (λ (x : LogicState). logic_after x (Pop m)) (notes.logic ∙ h.logic) ∙ sym (logic-push cs c);
         global = notes.global ∙ h.global ∙ sym (global-push cs c);
-        print_success = notes.print_success ∙ h.print_success
-            ∙ ap (λ (x : Bool). print_success_in_force x cs) (sym notes.start)
-            ∙ sym (print-push new.initial_print_success cs c);
+        print_success = notes.print_success ∙ h.print_success ∙ sym (print-push old.start.print_success cs c);
         exited = ap (λ (x : Bool). x || false) (notes.exited ∙ h.exited) ∙ sym (exited-push cs c);
-      };
+      });
   start = notes.start;
 }
   where
     enough : (cs : List Numbered) → HasInForce old cs → nat_lt (depth_in_force cs) m ≡ false
     enough cs h = let e = h.depth in grind (arith)
 
-pop_keeps : Keeps (Pop 0)
-pop_keeps = record { no_reset = refl; level = λ d. omega arith; theories = λ t. refl }
+pop_keeps : (profile : Profile) → Keeps profile (Pop 0)
+pop_keeps profile = record { no_reset = refl; level = λ d. omega arith; theories = λ t. refl }
 
 -- no level is removed
 pub pop_none : (s : Stack) (n : ℕ) → HasEffect s s n (Pop 0)
@@ -397,23 +409,26 @@ pop_none s n = record {
       let same : depth_in_force cs - 0 ≡ depth_in_force cs = omega arith in
       record {
         library = subst (λ (x : Signature). library.StandsFor s.library x)
-            (sym (signature-add cs c pop_keeps))
-            (nothing_brought s.library (signature_in_force cs) n (Pop 0) refl refl h.library);
+            (sym (signature-add (profile_of s) cs c (pop_keeps (profile_of s))))
+            (nothing_brought s.library (signature_in_force (profile_of s) cs) n (Pop 0) refl refl h.library);
         assertions = subst (λ (bs : List spec.Assertion). AreAssertions (contents_of s.library)
-            s.assertions.items bs) (sym (assertions-add cs c pop_keeps ∙ append-nil (assertions_in_force cs)))
+            s.assertions.items bs) (sym (assertions-add (profile_of s) cs c (pop_keeps (profile_of s))
+            ∙ append-nil (assertions_in_force (profile_of s) cs)))
             h.assertions;
         depth = h.depth ∙ sym same ∙ sym (depth-push cs c);
         levels = λ k x at.
             let inside : k + 1 ≤ depth_in_force cs - 0 =
             (let i = within s.levels k x at in let e = h.depth in omega arith) in
             subst (λ (y : Signature). IsLevel s.global (contents_of s.library) s.assertions.items x y
-            (assertions_to_level k all)) (sym (no_names_left k cs c pop_keeps refl refl))
-            (subst (IsLevel s.global (contents_of s.library) s.assertions.items x (signature_to_level k cs))
-            (sym (assertions_left k cs c pop_keeps inside)) (h.levels k x at));
+            (assertions_to_level (profile_of s) k all))
+            (sym (no_names_left (profile_of s) k cs c (pop_keeps (profile_of s)) refl refl))
+            (subst (IsLevel s.global (contents_of s.library) s.assertions.items x
+            (signature_to_level (profile_of s) k cs))
+            (sym (assertions_left (profile_of s) k cs c (pop_keeps (profile_of s)) inside)) (h.levels k x at));
         ordered = h.ordered;
         logic = ap (λ (x : LogicState). logic_after x (Pop 0)) h.logic ∙ sym (logic-push cs c);
         global = h.global ∙ sym (global-push cs c);
-        print_success = h.print_success ∙ sym (print-push s.initial_print_success cs c);
+        print_success = h.print_success ∙ sym (print-push s.start.print_success cs c);
         exited = ap (λ (x : Bool). x || false) h.exited ∙ sym (exited-push cs c);
       };
   start = refl;
@@ -423,7 +438,7 @@ pop_none s n = record {
     none_over d = grind (arith)
 
 pub pop_refused : (s : Stack) (m : ℕ) → (m ≤ length s.levels → ⊥) → (cs : List Numbered)
-    → HasInForce s cs → (n : ℕ) → flaw_of_effect cs n (Pop m) ≡ Some NoLevel
+    → HasInForce s cs → (n : ℕ) → flaw_of_effect (profile_of s) cs n (Pop m) ≡ Some NoLevel
 pop_refused s m over cs h n =
     rw (too_many (depth_in_force cs) (λ le. over (let e = h.depth in omega arith))) refl
   where
@@ -437,20 +452,23 @@ nothing_at k x at = absurd (cc)
 
 -- what is in force where no level and no assertion is left
 without_assertions : (old new : Stack) (cs : List Numbered) (n : ℕ) (command : Command) → HasInForce old cs
-    → library.StandsFor new.library (signature_in_force (cs ++ record { number = n; command = command } ∷ []))
+    → library.StandsFor new.library
+    (signature_in_force (profile_of old) (cs ++ record { number = n; command = command } ∷ []))
     → is_reset command ≡ true → ((d : ℕ) → depth_after d command ≡ 0) → ((n : ℕ) → assertions_by n command ≡ [])
     → new.assertions.items ≡ [] → new.levels ≡ [] → HasNotesOf old new
     → HasInForce (with_notes command new) (cs ++ record { number = n; command = command } ∷ [])
 without_assertions old new cs n command h names resets no_depth brings none no_levels notes =
     let c : Numbered = record { number = n; command = command } in
-    let b = brought_by cs (history cs) c in
-    let A = in_force assertions_stand (history cs) in
-    let now : in_force assertions_stand (history (cs ++ c ∷ [])) ≡ b ∷ [] =
-    ap (in_force assertions_stand) (history-push cs c) ∙ in_force-push assertion_stands_after (history cs) b
+    let b = brought_by (profile_of old) cs (history (profile_of old) cs) c in
+    let A = in_force assertions_stand (history (profile_of old) cs) in
+    let now : in_force assertions_stand (history (profile_of old) (cs ++ c ∷ [])) ≡ b ∷ [] =
+    ap (in_force assertions_stand) (history-push (profile_of old) cs c)
+    ∙ in_force-push assertion_stands_after (history (profile_of old) cs) b
     ∙ ap (λ (l : List Brought). l ++ b ∷ []) (no_assertions_still b A resets) in
-    let asserted : assertions_in_force (cs ++ c ∷ []) ≡ [] =
+    let asserted : assertions_in_force (profile_of old) (cs ++ c ∷ []) ≡ [] =
     ap assertions_of now ∙ assertions-push [] b ∙ brings n in
-    record {
+    subst (λ (x : Start). HasInForce (with_notes command (record new { start = x })) (cs ++ c ∷ [])) (sym notes.start)
+    (record {
       library = names;
       assertions = subst (λ (bs : List spec.Assertion). AreAssertions (contents_of new.library)
           new.assertions.items bs) (sym asserted)
@@ -463,33 +481,33 @@ without_assertions old new cs n command h names resets no_depth brings none no_l
       logic = ap (λ (x : LogicState). logic_after x command) (notes.logic ∙ h.logic) ∙ sym (logic-push cs c);
       global = ap (λ (g : Bool). global_after g command) (notes.global ∙ h.global) ∙ sym (global-push cs c);
       print_success =
-          ap (λ (x : Bool). print_success_after new.initial_print_success x command)
+          ap (λ (x : Bool). print_success_after old.start.print_success x command)
           (notes.print_success ∙ h.print_success)
-          ∙ ap (λ (x : Bool). print_success_after new.initial_print_success (print_success_in_force x cs) command)
-          (sym notes.start)
-          ∙ sym (print-push new.initial_print_success cs c);
+          ∙ sym (print-push old.start.print_success cs c);
       exited = ap (λ (x : Bool). x || is_exit command) (notes.exited ∙ h.exited) ∙ sym (exited-push cs c);
-    }
+    })
 
 -- no names are in force behind a reset
-reset_names : (cs : List Numbered) (n : ℕ)
-    → signature_in_force (cs ++ record { number = n; command = Reset } ∷ []) ≡ no_names all_theories
-reset_names cs n =
+reset_names : (profile : Profile) (cs : List Numbered) (n : ℕ)
+    → signature_in_force profile (cs ++ record { number = n; command = Reset } ∷ []) ≡ no_names (all_theories profile)
+reset_names profile cs n =
     let c : Numbered = record { number = n; command = Reset } in
-    let b = brought_by cs (history cs) c in
-    let now : in_force names_stand (history (cs ++ c ∷ [])) ≡ b ∷ [] =
-    ap (in_force names_stand) (history-push cs c) ∙ in_force-push name_stands_after (history cs) b
+    let b = brought_by profile cs (history profile cs) c in
+    let now : in_force names_stand (history profile (cs ++ c ∷ [])) ≡ b ∷ [] =
+    ap (in_force names_stand) (history-push profile cs c) ∙ in_force-push name_stands_after (history profile cs) b
     ∙ ap (λ (l : List Brought). l ++ b ∷ [])
-    (none_still name_stands_after names_level names_rule b (in_force names_stand (history cs)) refl) in
-    same_signature (theories_in_force (cs ++ c ∷ [])) all_theories (in_force names_stand (history (cs ++ c ∷ []))) []
-    (theories-push cs c) (ap abbreviations_of now) (ap entries_of now)
+    (none_still name_stands_after names_level names_rule b (in_force names_stand (history profile cs)) refl) in
+    same_signature (theories_in_force profile (cs ++ c ∷ [])) (all_theories profile)
+    (in_force names_stand (history profile (cs ++ c ∷ []))) []
+    (theories-push profile cs c) (ap abbreviations_of now) (ap entries_of now)
 
-pub reset_effect : (old new : Stack) → IsEmpty new all_theories → HasNotesOf old new → (n : ℕ)
+pub reset_effect : (old new : Stack) → IsEmpty new (all_theories (profile_of old)) → HasNotesOf old new → (n : ℕ)
     → HasEffect old new n Reset
 reset_effect old new empty notes n = record {
   faultless = λ cs h. refl;
   stands = λ cs h alike. without_assertions old new cs n Reset h
-      (subst (λ (s : Signature). library.StandsFor new.library s) (sym (reset_names cs n)) empty.library)
+      (subst (λ (s : Signature). library.StandsFor new.library s)
+      (sym (reset_names (profile_of old) cs n)) empty.library)
       refl (λ d. refl) (λ k. refl) empty.assertions empty.levels notes;
   start = notes.start;
 }
@@ -556,38 +574,40 @@ others_go b (x ∷ xs) all h = one h.0 (others_go b xs all h.1)
     one (inr none) r = either (name_stands_after x b) none.0 none.1 r
 
 -- the names in force behind `reset-assertions`
-pub names_kept : (global : Bool) (cs : List Numbered) (n : ℕ) → AreAs global (in_force names_stand (history cs))
-    → signature_in_force (cs ++ record { number = n; command = ResetAssertions } ∷ [])
-    ≡ cond global (signature_in_force cs) (no_names (theories_in_force cs))
-names_kept global cs n alike = by global alike
+pub names_kept : (profile : Profile) (global : Bool) (cs : List Numbered) (n : ℕ)
+    → AreAs global (in_force names_stand (history profile cs))
+    → signature_in_force profile (cs ++ record { number = n; command = ResetAssertions } ∷ [])
+    ≡ cond global (signature_in_force profile cs) (no_names (theories_in_force profile cs))
+names_kept profile global cs n alike = by global alike
   where
     c : Numbered
     c = record { number = n; command = ResetAssertions }
 
     b : Brought
-    b = brought_by cs (history cs) c
+    b = brought_by profile cs (history profile cs) c
 
     N : List Brought
-    N = in_force names_stand (history cs)
+    N = in_force names_stand (history profile cs)
 
-    now : in_force names_stand (history (cs ++ c ∷ [])) ≡ still name_stands_after b N ++ b ∷ []
-    now = ap (in_force names_stand) (history-push cs c) ∙ in_force-push name_stands_after (history cs) b
+    now : in_force names_stand (history profile (cs ++ c ∷ [])) ≡ still name_stands_after b N ++ b ∷ []
+    now = ap (in_force names_stand) (history-push profile cs c) ∙ in_force-push name_stands_after (history profile cs) b
 
     none : (entries_of (still name_stands_after b N ++ b ∷ []) ≡ entries_of (still name_stands_after b N))
         × (abbreviations_of (still name_stands_after b N ++ b ∷ []) ≡ abbreviations_of (still name_stands_after b N))
     none = none_more (still name_stands_after b N) b true refl refl
 
     by : (g : Bool) → AreAs g N
-        → signature_in_force (cs ++ c ∷ []) ≡ cond g (signature_in_force cs) (no_names (theories_in_force cs))
+        → signature_in_force profile (cs ++ c ∷ [])
+        ≡ cond g (signature_in_force profile cs) (no_names (theories_in_force profile cs))
     by true h =
         let stay = globals_stay b N refl h in
-        same_signature (theories_in_force (cs ++ c ∷ [])) (theories_in_force cs)
-        (in_force names_stand (history (cs ++ c ∷ []))) N (theories-push cs c)
+        same_signature (theories_in_force profile (cs ++ c ∷ [])) (theories_in_force profile cs)
+        (in_force names_stand (history profile (cs ++ c ∷ []))) N (theories-push profile cs c)
         (ap abbreviations_of now ∙ none.1 ∙ stay.1) (ap entries_of now ∙ none.0 ∙ stay.0)
     by false h =
         let go = others_go b N refl h in
-        same_signature (theories_in_force (cs ++ c ∷ [])) (theories_in_force cs)
-        (in_force names_stand (history (cs ++ c ∷ []))) [] (theories-push cs c)
+        same_signature (theories_in_force profile (cs ++ c ∷ [])) (theories_in_force profile cs)
+        (in_force names_stand (history profile (cs ++ c ∷ []))) [] (theories-push profile cs c)
         (ap abbreviations_of now ∙ none.1 ∙ go.1) (ap entries_of now ∙ none.0 ∙ go.0)
 
 pub reset_assertions_effect : (old new : Stack) → HasNoAssertions old new → HasNotesOf old new
@@ -596,9 +616,9 @@ reset_assertions_effect old new left notes n = record {
   faultless = λ cs h. refl;
   stands = λ cs h alike. without_assertions old new cs n ResetAssertions h
       (subst (λ (s : Signature). library.StandsFor new.library s)
-      (sym (names_kept old.global cs n
-      (subst (λ (g : Bool). AreAs g (in_force names_stand (history cs))) (sym h.global) alike)))
-      (left.library (signature_in_force cs) h.library))
+      (sym (names_kept (profile_of old) old.global cs n
+      (subst (λ (g : Bool). AreAs g (in_force names_stand (history (profile_of old) cs))) (sym h.global) alike)))
+      (left.library (signature_in_force (profile_of old) cs) h.library))
       refl (λ d. refl) (λ k. refl) left.assertions left.levels notes;
   start = notes.start;
 }

@@ -10,3 +10,4 @@ pub mod AppliedLemmas
 pub mod LevelLemmas
 pub mod RunLemmas
 pub mod IntroducedLemmas
+pub mod ProfileLemmas

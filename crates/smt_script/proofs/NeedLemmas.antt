@@ -12,13 +12,14 @@ use Rattle.smt_terms.specs.declared.library.marks.Mark.{Mark}
 use Rattle.smt_script.specs.Command.{Pop, Pops}
 use Rattle.smt_script.specs.Stack as spec
 use Rattle.smt_script.specs.Stack.{Numbered, assertions_in_force, signature_in_force}
-use Rattle.smt_script.specs.Stack.{is_exit, print_success_in_force}
+use Rattle.smt_script.specs.Stack.{is_exit}
 use Rattle.smt_script.specs.StackView.{AreAssertions, HasInForce, HoldsAfter, IsLevel, IsPopped, assertions_to_level}
-use Rattle.smt_script.specs.StackView.{contents_left, contents_needed, signature_to_level}
+use Rattle.smt_script.specs.StackView.{contents_left, contents_needed, profile_of, signature_to_level}
 use Rattle.smt_script.specs.Internal.Effect.{HasEffect, HasNotesOf, IsCut, NeededIsEnough, NeedsLeft, logic_after}
 use Rattle.smt_script.specs.Internal.Effect.{with_notes}
 use Rattle.smt_script.specs.declared.stack.Assertion.{Assertion}
 use Rattle.smt_script.specs.declared.stack.LogicState.{LogicState}
+use Rattle.smt_script.specs.declared.stack.Start.{Start}
 use Rattle.smt_script.specs.declared.stack.levels.Level.{Level}
 use Rattle.smt_script.specs.declared.stack.Stack.{Stack}
 
@@ -26,30 +27,35 @@ use Rattle.smt_script.specs.declared.stack.Stack.{Stack}
 pub same_force : (old new : Stack) (cs : List Numbered) → contents_of new.library ≡ contents_of old.library
     → new.assertions.items ≡ old.assertions.items → new.levels ≡ old.levels → HasNotesOf old new
     → HasInForce old cs → HasInForce new cs
-same_force old new cs contents assertions levels notes h = record {
-  library = subst (λ (c : Contents). Holds c (signature_in_force cs)) (sym contents) h.library;
-  assertions =
-      subst (λ (c : Contents). AreAssertions c new.assertions.items (assertions_in_force cs)) (sym contents)
-      (subst (λ (as' : List Assertion). AreAssertions (contents_of old.library) as' (assertions_in_force cs))
-      (sym assertions) h.assertions);
-  depth = ap length levels ∙ h.depth;
-  levels = λ k x at.
-      subst (λ (g : Bool). IsLevel g (contents_of new.library) new.assertions.items x (signature_to_level k cs)
-      (assertions_to_level k cs)) (sym notes.global)
-      (subst (λ (c : Contents). IsLevel old.global c new.assertions.items x (signature_to_level k cs)
-      (assertions_to_level k cs)) (sym contents)
-      (subst (λ (as' : List Assertion). IsLevel old.global (contents_of old.library) as' x (signature_to_level k cs)
-      (assertions_to_level k cs)) (sym assertions)
-      (h.levels k x (ap (λ (xs : List Level). slice_get xs k) (sym levels) ∙ at))));
-  ordered = λ j k x y le at there.
-      h.ordered j k x y le (ap (λ (xs : List Level). slice_get xs j) (sym levels) ∙ at)
-      (ap (λ (xs : List Level). slice_get xs k) (sym levels) ∙ there);
-  logic = notes.logic ∙ h.logic;
-  global = notes.global ∙ h.global;
-  print_success = notes.print_success ∙ h.print_success
-      ∙ ap (λ (b : Bool). print_success_in_force b cs) (sym notes.start);
-  exited = notes.exited ∙ h.exited;
-}
+same_force old new cs contents assertions levels notes h =
+    subst (λ (x : Start). HasInForce (record new { start = x }) cs) (sym notes.start) (record {
+      library = subst (λ (c : Contents). Holds c (signature_in_force (profile_of old) cs)) (sym contents) h.library;
+      assertions =
+          subst (λ (c : Contents). AreAssertions c new.assertions.items (assertions_in_force (profile_of old) cs))
+          (sym contents)
+          (subst (λ (as' : List Assertion).
+          AreAssertions (contents_of old.library) as' (assertions_in_force (profile_of old) cs))
+          (sym assertions) h.assertions);
+      depth = ap length levels ∙ h.depth;
+      levels = λ k x at.
+          subst (λ (g : Bool). IsLevel g (contents_of new.library) new.assertions.items x
+          (signature_to_level (profile_of old) k cs)
+          (assertions_to_level (profile_of old) k cs)) (sym notes.global)
+          (subst (λ (c : Contents). IsLevel old.global c new.assertions.items x
+          (signature_to_level (profile_of old) k cs)
+          (assertions_to_level (profile_of old) k cs)) (sym contents)
+          (subst (λ (as' : List Assertion).
+          IsLevel old.global (contents_of old.library) as' x (signature_to_level (profile_of old) k cs)
+          (assertions_to_level (profile_of old) k cs)) (sym assertions)
+          (h.levels k x (ap (λ (xs : List Level). slice_get xs k) (sym levels) ∙ at))));
+      ordered = λ j k x y le at there.
+          h.ordered j k x y le (ap (λ (xs : List Level). slice_get xs j) (sym levels) ∙ at)
+          (ap (λ (xs : List Level). slice_get xs k) (sym levels) ∙ there);
+      logic = notes.logic ∙ h.logic;
+      global = notes.global ∙ h.global;
+      print_success = notes.print_success ∙ h.print_success;
+      exited = notes.exited ∙ h.exited;
+    })
 
 -- assertions among the first nodes are those of the nodes that are needed
 are_needed : NeededIsEnough → (count : ℕ) (c : Contents) (bs : List spec.Assertion) (as' : List Assertion)
@@ -112,20 +118,25 @@ needs_force law old new count cs left below few h = by old.global refl left.libr
           exited = left.notes.exited;
           last = left.notes.last;
         }) (record {
-          library = subst (λ (d : Contents). Holds d (signature_in_force cs)) (sym same)
-              (law.names count c (signature_in_force cs) h.library);
-          assertions = subst (λ (d : Contents). AreAssertions d old.assertions.items (assertions_in_force cs)) (sym same)
-              (are_needed law count c (assertions_in_force cs) old.assertions.items below h.assertions);
+          library = subst (λ (d : Contents). Holds d (signature_in_force (profile_of old) cs)) (sym same)
+              (law.names count c (signature_in_force (profile_of old) cs) h.library);
+          assertions = subst (λ (d : Contents).
+              AreAssertions d old.assertions.items (assertions_in_force (profile_of old) cs)) (sym same)
+              (are_needed law count c (assertions_in_force
+              (profile_of old) cs) old.assertions.items below h.assertions);
           depth = h.depth;
           levels = λ k x at.
-              subst (λ (d : Contents). IsLevel old.global d old.assertions.items x (signature_to_level k cs)
-              (assertions_to_level k cs)) (sym same)
-              (subst (λ (g : Bool). IsLevel g (needed_of count c) old.assertions.items x (signature_to_level k cs)
-              (assertions_to_level k cs)) (sym is)
-              (needed_level law count c old.assertions.items x (signature_to_level k cs) (assertions_to_level k cs)
+              subst (λ (d : Contents). IsLevel old.global d old.assertions.items x
+              (signature_to_level (profile_of old) k cs)
+              (assertions_to_level (profile_of old) k cs)) (sym same)
+              (subst (λ (g : Bool). IsLevel g (needed_of count c) old.assertions.items x
+              (signature_to_level (profile_of old) k cs)
+              (assertions_to_level (profile_of old) k cs)) (sym is)
+              (needed_level law count c old.assertions.items x (signature_to_level (profile_of old) k cs)
+              (assertions_to_level (profile_of old) k cs)
               (few k x at)
-              (subst (λ (g : Bool). IsLevel g c old.assertions.items x (signature_to_level k cs)
-              (assertions_to_level k cs)) is (h.levels k x at))));
+              (subst (λ (g : Bool). IsLevel g c old.assertions.items x (signature_to_level (profile_of old) k cs)
+              (assertions_to_level (profile_of old) k cs)) is (h.levels k x at))));
           ordered = h.ordered;
           logic = h.logic;
           global = h.global;

@@ -6,13 +6,15 @@ use Rattle.std.specs.List.{list_any}
 use Rattle.std.proofs.Math.Bool.{or-false}
 use Rattle.std.proofs.lemmas.List.{append-nil}
 use Rattle.std.proofs.lemmas.List.Sums.{fold-append}
-use Rattle.smt_theory.specs.Theories.{theories_named}
+use Rattle.std.specs.Prelude.{Option, is_some}
+use Rattle.smt_theory.specs.Theories.{all_theories, theories_named}
+use Rattle.smt_theory.specs.declared.profile.Profile.{Profile}
 use Rattle.smt_theory.specs.declared.theories.Theories.{Theories}
 use Rattle.smt_faults.specs.declared.command_flaw.CommandFlaw.TheVariants.{NoLevel}
 use Rattle.smt_script.specs.Command.{Command, Effect, SetLogic, SetPrintSuccess, Exit, SetsLogic, Brings}
 use Rattle.smt_script.specs.Command.{Assumes, Pushes, Pops, Removing, Nothing, AllButOptions, Everything, effect_of}
 use Rattle.smt_script.specs.Command.{SetsGlobal, SetGlobalDeclarations}
-use Rattle.smt_script.specs.Stack.{HaveNoFlaw, Numbered, all_theories, depth_after, depth_by, depth_in_force}
+use Rattle.smt_script.specs.Stack.{HaveNoFlaw, Numbered, depth_after, depth_by, depth_in_force}
 use Rattle.smt_script.specs.Stack.{flaw_by, has_exited, is_exit, is_late_after, is_logic_set, is_reset}
 use Rattle.smt_script.specs.Stack.{is_set_after, is_too_late, makes_late, print_success_after}
 use Rattle.smt_script.specs.Stack.{print_success_in_force, removed_of_effect, resets, theories_after}
@@ -97,28 +99,37 @@ any_does step test ends does v (c ∷ cs) goes =
 
 -- ---- theories
 
-theories_anew : (t : Theories) (command : Command) → is_whole_reset command ≡ true
-    → theories_after t command ≡ all_theories
-theories_anew t command h = grind (arith)
+theories_anew : (profile : Profile) (t : Theories) (command : Command) → is_whole_reset command ≡ true
+    → theories_after profile t command ≡ all_theories profile
+theories_anew profile t (SetLogic name) h = cc
+theories_anew profile t command h = grind (arith)
 
-theories_kept : (t : Theories) (command : Command) → sets_theories command ≡ false
-    → is_whole_reset command ≡ false → theories_after t command ≡ t
-theories_kept t command h k = grind (arith)
+kept_or : (t : Theories) (o : Option Theories) → is_some o ≡ false → theories_or t o ≡ t
+kept_or t None h = refl
+kept_or t (Some u) h = cc
 
-pub theories_of_the_last : (commands since : List Numbered) (name : List ℕ) (theories : Theories)
+theories_kept : (profile : Profile) (t : Theories) (command : Command) → sets_theories profile command ≡ false
+    → is_whole_reset command ≡ false → theories_after profile t command ≡ t
+theories_kept profile t (SetLogic name) h k = kept_or t (theories_named profile name) h
+theories_kept profile t command h k = grind (arith)
+
+pub theories_of_the_last : (profile : Profile) (commands since : List Numbered) (name : List ℕ) (theories : Theories)
     → AreSince is_whole_reset commands since
-    → IsLast sets_theories since (SetLogic name) → theories_named name ≡ Some theories
-    → theories_in_force commands ≡ theories
-theories_of_the_last commands since name theories s l is =
-    since_alone theories_after is_whole_reset all_theories theories_anew commands since s
-    ∙ set_last theories_after sets_theories is_whole_reset theories_kept all_theories theories since
+    → IsLast (sets_theories profile) since (SetLogic name) → theories_named profile name ≡ Some theories
+    → theories_in_force profile commands ≡ theories
+theories_of_the_last profile commands since name theories s l is =
+    since_alone (theories_after profile) is_whole_reset (all_theories profile) (theories_anew profile) commands since s
+    ∙ set_last (theories_after profile) (sets_theories profile) is_whole_reset (theories_kept profile)
+    (all_theories profile) theories since
     (SetLogic name) (λ v. ap (theories_or v) is) l (never_since is_whole_reset commands since s)
 
-pub theories_of_the_start : (commands since : List Numbered) → AreSince is_whole_reset commands since
-    → Never sets_theories since → theories_in_force commands ≡ all_theories
-theories_of_the_start commands since s none =
-    since_alone theories_after is_whole_reset all_theories theories_anew commands since s
-    ∙ unset theories_after sets_theories is_whole_reset theories_kept all_theories since none
+pub theories_of_the_start : (profile : Profile) (commands since : List Numbered)
+    → AreSince is_whole_reset commands since
+    → Never (sets_theories profile) since → theories_in_force profile commands ≡ all_theories profile
+theories_of_the_start profile commands since s none =
+    since_alone (theories_after profile) is_whole_reset (all_theories profile) (theories_anew profile) commands since s
+    ∙ unset (theories_after profile) (sets_theories profile) is_whole_reset (theories_kept profile)
+    (all_theories profile) since none
     (never_since is_whole_reset commands since s)
 
 -- ---- `success`
@@ -202,41 +213,41 @@ late_since commands since s =
 
 -- ---- levels
 
-levels_by : (before : List Numbered) (n : ℕ) (e : Effect) → flaw_by before n e ≡ None
+levels_by : (profile : Profile) (before : List Numbered) (n : ℕ) (e : Effect) → flaw_by profile before n e ≡ None
     → resets (removed_of_effect e) ≡ false
     → depth_by (depth_in_force before) e + levels_popped e ≡ depth_in_force before + levels_pushed e
-levels_by before n (Pops m) h k = popped_all (depth_in_force before) (nat_lt (depth_in_force before) m) refl h
+levels_by profile before n (Pops m) h k = popped_all (depth_in_force before) (nat_lt (depth_in_force before) m) refl h
   where
     popped_all : (d : ℕ) → (b : Bool) → nat_lt d m ≡ b → cond b (Some NoLevel) None ≡ None → d - m + m ≡ d + 0
     popped_all d true e i = absurd (cc)
     popped_all d false e i = grind (arith)
-levels_by before n (Pushes m) h k = omega arith
-levels_by before n (SetsLogic x) h k = refl
-levels_by before n (Brings item) h k = refl
-levels_by before n (Assumes literals) h k = refl
-levels_by before n (Removing Nothing) h k = refl
-levels_by before n (SetsGlobal on) h k = refl
-levels_by before n (Removing AllButOptions) h k = absurd (cc)
-levels_by before n (Removing Everything) h k = absurd (cc)
+levels_by profile before n (Pushes m) h k = omega arith
+levels_by profile before n (SetsLogic x) h k = refl
+levels_by profile before n (Brings item) h k = refl
+levels_by profile before n (Assumes literals) h k = refl
+levels_by profile before n (Removing Nothing) h k = refl
+levels_by profile before n (SetsGlobal on) h k = refl
+levels_by profile before n (Removing AllButOptions) h k = absurd (cc)
+levels_by profile before n (Removing Everything) h k = absurd (cc)
 
-summed_from : (before cs : List Numbered) → HaveNoFlaw before cs → Never is_reset cs
+summed_from : (profile : Profile) (before cs : List Numbered) → HaveNoFlaw profile before cs → Never is_reset cs
     → depth_in_force (before ++ cs) + popped cs ≡ depth_in_force before + pushed cs
-summed_from before [] h none = ap (λ (l : List Numbered). depth_in_force l + 0) (append-nil before)
-summed_from before (c ∷ cs) h none =
+summed_from profile before [] h none = ap (λ (l : List Numbered). depth_in_force l + 0) (append-nil before)
+summed_from profile before (c ∷ cs) h none =
     let b = none_of_either (is_reset c.command) (list_any (λ d. is_reset d.command) cs) none in
-    let rest = summed_from (before ++ c ∷ []) cs h.1 b.1 in
-    let here = levels_by before c.number (effect_of c.command) h.0 b.0 in
+    let rest = summed_from profile (before ++ c ∷ []) cs h.1 b.1 in
+    let here = levels_by profile before c.number (effect_of c.command) h.0 b.0 in
     let push = depth-push before c in
     let same : depth_in_force ((before ++ c ∷ []) ++ cs) ≡ depth_in_force (before ++ c ∷ cs) =
     ap depth_in_force (append_assoc before (c ∷ []) cs) in
     omega arith
 
-faultless_behind : (before earlier : List Numbered) (c : Numbered) (later : List Numbered)
-    → HaveNoFlaw before (earlier ++ c ∷ later) → HaveNoFlaw (before ++ (earlier ++ c ∷ [])) later
-faultless_behind before [] c later h = h.1
-faultless_behind before (e ∷ earlier) c later h =
-    subst (λ (l : List Numbered). HaveNoFlaw l later) (append_assoc before (e ∷ []) (earlier ++ c ∷ []))
-    (faultless_behind (before ++ e ∷ []) earlier c later h.1)
+faultless_behind : (profile : Profile) (before earlier : List Numbered) (c : Numbered) (later : List Numbered)
+    → HaveNoFlaw profile before (earlier ++ c ∷ later) → HaveNoFlaw profile (before ++ (earlier ++ c ∷ [])) later
+faultless_behind profile before [] c later h = h.1
+faultless_behind profile before (e ∷ earlier) c later h =
+    subst (λ (l : List Numbered). HaveNoFlaw profile l later) (append_assoc before (e ∷ []) (earlier ++ c ∷ []))
+    (faultless_behind profile (before ++ e ∷ []) earlier c later h.1)
 
 reset_levels : (d : ℕ) (command : Command) → is_reset command ≡ true → depth_after d command ≡ 0
 reset_levels d command h = grind (arith)
@@ -248,14 +259,14 @@ no_levels_behind commands c h = depth-push commands c ∙ reset_levels (depth_in
 zero_more : (n : ℕ) → 0 + n ≡ n
 zero_more n = omega arith
 
-pub levels_since : (commands since : List Numbered) → HaveNoFlaw [] commands
+pub levels_since : (profile : Profile) (commands since : List Numbered) → HaveNoFlaw profile [] commands
     → AreSince is_reset commands since → depth_in_force commands + popped since ≡ pushed since
-levels_since commands since h (Start is none) =
-    let sum = summed_from [] since (subst (HaveNoFlaw []) is h) none in
+levels_since profile commands since h (Start is none) =
+    let sum = summed_from profile [] since (subst (HaveNoFlaw profile []) is h) none in
     ap (λ (l : List Numbered). depth_in_force l + popped since) is ∙ sum ∙ zero_more (pushed since)
-levels_since commands since h (Behind earlier c is ends none) =
-    let sum = summed_from (earlier ++ c ∷ []) since
-    (faultless_behind [] earlier c since (subst (HaveNoFlaw []) is h)) none in
+levels_since profile commands since h (Behind earlier c is ends none) =
+    let sum = summed_from profile (earlier ++ c ∷ []) since
+    (faultless_behind profile [] earlier c since (subst (HaveNoFlaw profile []) is h)) none in
     let same : commands ≡ (earlier ++ c ∷ []) ++ since = is ∙ sym (append_assoc earlier (c ∷ []) since) in
     let zero = no_levels_behind earlier c ends in
     ap (λ (l : List Numbered). depth_in_force l + popped since) same ∙ sum

@@ -12,34 +12,36 @@ use Rattle.smt_script.specs.Command as items
 use Rattle.smt_script.specs.Stack.{Brought, KeepLevels, Numbered, assertions_by, assertions_of_effect}
 use Rattle.smt_script.specs.Stack.{brought_by, brought_from, depth_after, depth_in_force, is_reset}
 use Rattle.smt_script.specs.Stack.{is_everything, removes_everything, stands_after}
+use Rattle.smt_theory.specs.declared.profile.Profile.{Profile}
 
 -- what commands bring, behind those before them
-abbrev pub steps : List Numbered → List Brought → List Numbered → List Brought
-steps before brought [] = []
-steps before brought (c ∷ cs) =
-    brought_by before brought c ∷ steps (before ++ c ∷ []) (brought ++ brought_by before brought c ∷ []) cs
+abbrev pub steps : (profile : Profile) → List Numbered → List Brought → List Numbered → List Brought
+steps profile before brought [] = []
+steps profile before brought (c ∷ cs) =
+    brought_by profile before brought c ∷ steps profile (before ++ c ∷ [])
+    (brought ++ brought_by profile before brought c ∷ []) cs
 
-pub steps-from : (before : List Numbered) (brought : List Brought) (cs : List Numbered)
-    → brought_from before brought cs ≡ brought ++ steps before brought cs
-steps-from before brought [] = sym (append-nil brought)
-steps-from before brought (c ∷ cs) =
-    let b = brought_by before brought c in
-    steps-from (before ++ c ∷ []) (brought ++ b ∷ []) cs
-    ∙ append_assoc brought (b ∷ []) (steps (before ++ c ∷ []) (brought ++ b ∷ []) cs)
+pub steps-from : (profile : Profile) (before : List Numbered) (brought : List Brought) (cs : List Numbered)
+    → brought_from profile before brought cs ≡ brought ++ steps profile before brought cs
+steps-from profile before brought [] = sym (append-nil brought)
+steps-from profile before brought (c ∷ cs) =
+    let b = brought_by profile before brought c in
+    steps-from profile (before ++ c ∷ []) (brought ++ b ∷ []) cs
+    ∙ append_assoc brought (b ∷ []) (steps profile (before ++ c ∷ []) (brought ++ b ∷ []) cs)
 
-pub steps-append : (before : List Numbered) (brought : List Brought) (xs ys : List Numbered)
-    → steps before brought (xs ++ ys)
-    ≡ steps before brought xs ++ steps (before ++ xs) (brought ++ steps before brought xs) ys
-steps-append before brought [] ys =
-    ap (λ (b : List Numbered). steps b brought ys) (sym (append-nil before))
-    ∙ ap (λ (b : List Brought). steps (before ++ []) b ys) (sym (append-nil brought))
-steps-append before brought (x ∷ xs) ys =
-    let b = brought_by before brought x in
-    let rest = steps (before ++ x ∷ []) (brought ++ b ∷ []) xs in
-    ap (λ (l : List Brought). b ∷ l) (steps-append (before ++ x ∷ []) (brought ++ b ∷ []) xs ys)
-    ∙ ap (λ (p : List Numbered). b ∷ (rest ++ steps p ((brought ++ b ∷ []) ++ rest) ys))
+pub steps-append : (profile : Profile) (before : List Numbered) (brought : List Brought) (xs ys : List Numbered)
+    → steps profile before brought (xs ++ ys)
+    ≡ steps profile before brought xs ++ steps profile (before ++ xs) (brought ++ steps profile before brought xs) ys
+steps-append profile before brought [] ys =
+    ap (λ (b : List Numbered). steps profile b brought ys) (sym (append-nil before))
+    ∙ ap (λ (b : List Brought). steps profile (before ++ []) b ys) (sym (append-nil brought))
+steps-append profile before brought (x ∷ xs) ys =
+    let b = brought_by profile before brought x in
+    let rest = steps profile (before ++ x ∷ []) (brought ++ b ∷ []) xs in
+    ap (λ (l : List Brought). b ∷ l) (steps-append profile (before ++ x ∷ []) (brought ++ b ∷ []) xs ys)
+    ∙ ap (λ (p : List Numbered). b ∷ (rest ++ steps profile p ((brought ++ b ∷ []) ++ rest) ys))
     (append_assoc before (x ∷ []) xs)
-    ∙ ap (λ (p : List Brought). b ∷ (rest ++ steps (before ++ x ∷ xs) p ys))
+    ∙ ap (λ (p : List Brought). b ∷ (rest ++ steps profile (before ++ x ∷ xs) p ys))
     (append_assoc brought (b ∷ []) rest)
 
 pub depth-push : (cs : List Numbered) (c : Numbered)
@@ -70,12 +72,12 @@ not_true true h = cc
 not_true false h = refl
 
 -- a level stands behind commands none of which resets and that keep as many levels
-pub all_stand : (level : ℕ) (before : List Numbered) (brought : List Brought) (cs : List Numbered)
+pub all_stand : (profile : Profile) (level : ℕ) (before : List Numbered) (brought : List Brought) (cs : List Numbered)
     → list_any (λ d. is_reset d.command) cs ≡ false → KeepLevels level before cs
-    → list_all (stands_after level) (steps before brought cs) ≡ true
-all_stand level before brought [] none keep = refl
-all_stand level before brought (c ∷ cs) none keep =
-    let b = brought_by before brought c in
+    → list_all (stands_after level) (steps profile before brought cs) ≡ true
+all_stand profile level before brought [] none keep = refl
+all_stand profile level before brought (c ∷ cs) none keep =
+    let b = brought_by profile before brought c in
     let split = or_false (is_reset c.command) (list_any (λ d. is_reset d.command) cs) none in
     let fits : nat_le level (depth_after (depth_in_force before) c.command) ≡ true =
     le_true level (depth_after (depth_in_force before) c.command)
@@ -83,7 +85,7 @@ all_stand level before brought (c ∷ cs) none keep =
     let here : stands_after level b ≡ true =
     both (is_reset c.command) (nat_le level (depth_after (depth_in_force before) c.command))
     split.0 fits in
-    let there = all_stand level (before ++ c ∷ []) (brought ++ b ∷ []) cs split.1 keep.1 in
+    let there = all_stand profile level (before ++ c ∷ []) (brought ++ b ∷ []) cs split.1 keep.1 in
     rw (here, there) refl
 
 -- and where it stands, none resets and they keep as many levels
@@ -91,16 +93,16 @@ pub record Keeps (level : ℕ) (before cs : List Numbered) : Type 0 where
   pub no_reset : list_any (λ (d : Numbered). is_reset d.command) cs ≡ false
   pub levels : KeepLevels level before cs
 
-pub keeps : (level : ℕ) (before : List Numbered) (brought : List Brought) (cs : List Numbered)
-    → list_all (stands_after level) (steps before brought cs) ≡ true → Keeps level before cs
-keeps level before brought [] h = record { no_reset = refl; levels = tt }
-keeps level before brought (c ∷ cs) h =
-    let b = brought_by before brought c in
+pub keeps : (profile : Profile) (level : ℕ) (before : List Numbered) (brought : List Brought) (cs : List Numbered)
+    → list_all (stands_after level) (steps profile before brought cs) ≡ true → Keeps level before cs
+keeps profile level before brought [] h = record { no_reset = refl; levels = tt }
+keeps profile level before brought (c ∷ cs) h =
+    let b = brought_by profile before brought c in
     let split = and_true (stands_after level b)
-    (list_all (stands_after level) (steps (before ++ c ∷ []) (brought ++ b ∷ []) cs)) h in
+    (list_all (stands_after level) (steps profile (before ++ c ∷ []) (brought ++ b ∷ []) cs)) h in
     let here = and_true (not (is_reset c.command))
     (nat_le level (depth_after (depth_in_force before) c.command)) split.0 in
-    let rest = keeps level (before ++ c ∷ []) (brought ++ b ∷ []) cs split.1 in
+    let rest = keeps profile level (before ++ c ∷ []) (brought ++ b ∷ []) cs split.1 in
     let first : is_reset c.command ≡ false = not_true (is_reset c.command) here.0 in
     record {
       no_reset = rw (first, rest.no_reset) refl;
@@ -112,29 +114,30 @@ keeps level before brought (c ∷ cs) h =
     }
 
 -- nothing is removed by commands none of which removes everything
-pub all_leave : (before : List Numbered) (brought : List Brought) (cs : List Numbered)
+pub all_leave : (profile : Profile) (before : List Numbered) (brought : List Brought) (cs : List Numbered)
     → list_any (λ d. removes_everything d.command) cs ≡ false
-    → list_all (λ (l : Brought). not (is_everything l.removes)) (steps before brought cs) ≡ true
-all_leave before brought [] none = refl
-all_leave before brought (c ∷ cs) none =
-    let b = brought_by before brought c in
+    → list_all (λ (l : Brought). not (is_everything l.removes)) (steps profile before brought cs) ≡ true
+all_leave profile before brought [] none = refl
+all_leave profile before brought (c ∷ cs) none =
+    let b = brought_by profile before brought c in
     let split = or_false (removes_everything c.command) (list_any (λ d. removes_everything d.command) cs) none in
     let here : not (removes_everything c.command) ≡ true = ap not split.0 in
-    let there = all_leave (before ++ c ∷ []) (brought ++ b ∷ []) cs split.1 in
+    let there = all_leave profile (before ++ c ∷ []) (brought ++ b ∷ []) cs split.1 in
     rw (here, there) refl
 
 -- and where nothing is, none does
-pub leaves : (before : List Numbered) (brought : List Brought) (cs : List Numbered)
-    → list_all (λ (l : Brought). not (is_everything l.removes)) (steps before brought cs) ≡ true
+pub leaves : (profile : Profile) (before : List Numbered) (brought : List Brought) (cs : List Numbered)
+    → list_all (λ (l : Brought). not (is_everything l.removes)) (steps profile before brought cs) ≡ true
     → list_any (λ d. removes_everything d.command) cs ≡ false
-leaves before brought [] h = refl
-leaves before brought (c ∷ cs) h =
-    let b = brought_by before brought c in
+leaves profile before brought [] h = refl
+leaves profile before brought (c ∷ cs) h =
+    let b = brought_by profile before brought c in
     let split = and_true (not (removes_everything c.command))
-    (list_all (λ (l : Brought). not (is_everything l.removes)) (steps (before ++ c ∷ []) (brought ++ b ∷ []) cs))
+    (list_all (λ (l : Brought). not (is_everything l.removes))
+    (steps profile (before ++ c ∷ []) (brought ++ b ∷ []) cs))
     h in
     let first : removes_everything c.command ≡ false = not_true (removes_everything c.command) split.0 in
-    let rest = leaves (before ++ c ∷ []) (brought ++ b ∷ []) cs split.1 in
+    let rest = leaves profile (before ++ c ∷ []) (brought ++ b ∷ []) cs split.1 in
     rw (first, rest) refl
 
 -- ---- which commands bring an assertion

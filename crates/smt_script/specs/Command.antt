@@ -1,16 +1,18 @@
 -- SMT-LIB 2.6, section 4.2: the trees that are commands. Which commands are supported is this project's
--- choice.
-use Rattle.std.specs.Prelude.{ℕ, List, Bool, true, false, Option, Some, None, is_some, option_map}
+-- choice. In the profile Wide some forms of SMT-LIB 2.7 and of solvers are commands besides.
+use Rattle.std.specs.Prelude.{ℕ, List, [], Bool, true, false, Option, Some, None, is_some, option_map}
 use Rattle.std.specs.Prelude.{option_and_then, Result, Err, ok_or, bytes_eq, codes, if◌then◌else◌}
-use Rattle.smt_trees.specs.Sexp.{Sexp, Sexps, Atom, Reserved, Items, Nil, Cons, Symbol}
+use Rattle.smt_trees.specs.Sexp.{Sexp, Sexps, Atom, Reserved, Items, Nil, Cons, Symbol, is_symbol}
 use Rattle.smt_trees.specs.declared.reserved.Word.{Word}
 use Rattle.smt_trees.specs.declared.reserved.Word.TheVariants as words
+use Rattle.smt_theory.specs.declared.profile.Profile.{Profile}
+use Rattle.smt_theory.specs.declared.profile.Profile.TheVariants.{Base, Wide}
 use Rattle.smt_script.specs.declared.command.Kind.{Kind}
 use Rattle.smt_script.specs.declared.command.Kind.TheVariants as kinds
 use Rattle.smt_script.specs.Parts.{is_none, keyword_and_value, list_and_tree, name_and_abbreviated}
-use Rattle.smt_script.specs.Parts.{name_and_definition, name_and_rank, name_and_sort, one_keyword, one_list}
-use Rattle.smt_script.specs.Parts.{one_list_of_literals}
-use Rattle.smt_script.specs.Parts.{one_numeral, one_symbol, one_text, one_tree, truth_of_value}
+use Rattle.smt_script.specs.Parts.{name_and_definition, name_and_rank, name_and_sort, name_and_two, one_keyword}
+use Rattle.smt_script.specs.Parts.{any_list, one_list, one_list_of_literals}
+use Rattle.smt_script.specs.Parts.{numeral_or_one, one_numeral, one_symbol, one_text, one_tree, truth_of_value}
 use Rattle.smt_faults.specs.declared.command_flaw.CommandFlaw.{CommandFlaw}
 use Rattle.smt_faults.specs.declared.command_flaw.CommandFlaw.TheVariants.{Form, Unsupported}
 
@@ -68,35 +70,45 @@ option_setting p =
 abbrev pub alone : Command → Sexps → Option Command
 alone command parts = if is_none parts then Some command else None
 
+-- how many levels a `push` or a `pop` with these parts names: in Wide one where there are none
+abbrev pub levels_of : Profile → Sexps → Option ℕ
+levels_of Base parts = one_numeral parts
+levels_of Wide parts = numeral_or_one parts
+
+-- what a `check-sat-assuming` with these parts assumes: literals, and in Wide any terms
+abbrev pub assumed_of : Profile → Sexps → Option Sexps
+assumed_of Base parts = one_list_of_literals parts
+assumed_of Wide parts = any_list parts
+
 -- the command of this word with these parts behind it
-abbrev pub command_with : Word → Sexps → Option Command
-command_with words.SetLogic parts = option_map SetLogic (one_symbol parts)
-command_with words.SetOption parts = option_and_then option_setting (keyword_and_value parts)
-command_with words.SetInfo parts = option_map (λ p. SetInfo p.0 p.1) (keyword_and_value parts)
-command_with words.DeclareConst parts = option_map (λ p. DeclareConst p.0 p.1) (name_and_sort parts)
-command_with words.DeclareFun parts = option_map (λ p. DeclareFun p.0 p.1.0 p.1.1) (name_and_rank parts)
-command_with words.DefineFun parts =
+abbrev pub command_with : Profile → Word → Sexps → Option Command
+command_with profile words.SetLogic parts = option_map SetLogic (one_symbol parts)
+command_with profile words.SetOption parts = option_and_then option_setting (keyword_and_value parts)
+command_with profile words.SetInfo parts = option_map (λ p. SetInfo p.0 p.1) (keyword_and_value parts)
+command_with profile words.DeclareConst parts = option_map (λ p. DeclareConst p.0 p.1) (name_and_sort parts)
+command_with profile words.DeclareFun parts = option_map (λ p. DeclareFun p.0 p.1.0 p.1.1) (name_and_rank parts)
+command_with profile words.DefineFun parts =
     option_map (λ p. DefineFun p.0 p.1.0 p.1.1.0 p.1.1.1) (name_and_definition parts)
-command_with words.DefineSort parts = option_map (λ p. DefineSort p.0 p.1) (name_and_abbreviated parts)
-command_with words.Assert parts = option_map Assert (one_tree parts)
-command_with words.Push parts = option_map Push (one_numeral parts)
-command_with words.Pop parts = option_map Pop (one_numeral parts)
-command_with words.Reset parts = alone Reset parts
-command_with words.ResetAssertions parts = alone ResetAssertions parts
-command_with words.Exit parts = alone Exit parts
-command_with words.CheckSat parts = alone CheckSat parts
-command_with words.CheckSatAssuming parts = option_map CheckSatAssuming (one_list_of_literals parts)
-command_with words.GetModel parts = alone GetModel parts
-command_with words.Echo parts = option_map Echo (one_text parts)
-command_with words.GetValue parts = option_map (λ terms. Get (Values terms)) (one_list parts)
-command_with words.GetInfo parts = option_map (λ k. Get (Info k)) (one_keyword parts)
-command_with words.GetOption parts = option_map (λ k. Get (Setting k)) (one_keyword parts)
-command_with words.GetAssertions parts = alone (Get Assertions) parts
-command_with words.GetAssignment parts = alone (Get Assignment) parts
-command_with words.GetProof parts = alone (Get Proof) parts
-command_with words.GetUnsatCore parts = alone (Get UnsatCore) parts
-command_with words.GetUnsatAssumptions parts = alone (Get UnsatAssumptions) parts
-command_with _ parts = None
+command_with profile words.DefineSort parts = option_map (λ p. DefineSort p.0 p.1) (name_and_abbreviated parts)
+command_with profile words.Assert parts = option_map Assert (one_tree parts)
+command_with profile words.Push parts = option_map Push (levels_of profile parts)
+command_with profile words.Pop parts = option_map Pop (levels_of profile parts)
+command_with profile words.Reset parts = alone Reset parts
+command_with profile words.ResetAssertions parts = alone ResetAssertions parts
+command_with profile words.Exit parts = alone Exit parts
+command_with profile words.CheckSat parts = alone CheckSat parts
+command_with profile words.CheckSatAssuming parts = option_map CheckSatAssuming (assumed_of profile parts)
+command_with profile words.GetModel parts = alone GetModel parts
+command_with profile words.Echo parts = option_map Echo (one_text parts)
+command_with profile words.GetValue parts = option_map (λ terms. Get (Values terms)) (one_list parts)
+command_with profile words.GetInfo parts = option_map (λ k. Get (Info k)) (one_keyword parts)
+command_with profile words.GetOption parts = option_map (λ k. Get (Setting k)) (one_keyword parts)
+command_with profile words.GetAssertions parts = alone (Get Assertions) parts
+command_with profile words.GetAssignment parts = alone (Get Assignment) parts
+command_with profile words.GetProof parts = alone (Get Proof) parts
+command_with profile words.GetUnsatCore parts = alone (Get UnsatCore) parts
+command_with profile words.GetUnsatAssumptions parts = alone (Get UnsatAssumptions) parts
+command_with profile _ parts = None
 
 -- whether these parts of a `define-sort` are in form, its parameters being any trees
 abbrev pub is_abbreviation : Sexps → Bool
@@ -114,10 +126,25 @@ refusal words.DefineFunsRec parts = Unsupported
 refusal words.DefineSort parts = if is_abbreviation parts then Unsupported else Form
 refusal _ parts = Form
 
+-- the definition of a constant with these parts: that of a function without parameters
+abbrev pub constant_defined : Sexps → Option Command
+constant_defined parts = option_map (λ p. DefineFun p.0 [] p.1.0 p.1.1) (name_and_two parts)
+
+-- whether a list that begins with this tree defines a constant: in Wide by a name that is no reserved word
+abbrev pub is_constant_definition : Profile → Sexp → Bool
+is_constant_definition Base head = false
+is_constant_definition Wide head = is_symbol (codes "define-const") head
+
+-- the command of a list that begins with a tree that is no reserved word
+abbrev pub command_named : Profile → Sexp → Sexps → Option Command
+command_named profile head parts = if is_constant_definition profile head then constant_defined parts else None
+
 -- the command that a tree is, or why it is refused
-abbrev pub command_of : Sexp → Result Command CommandFlaw
-command_of (Items (Cons (Reserved word) parts)) = ok_or (command_with word parts) (refusal word parts)
-command_of _ = Err Form
+abbrev pub command_of : Profile → Sexp → Result Command CommandFlaw
+command_of profile (Items (Cons (Reserved word) parts)) =
+    ok_or (command_with profile word parts) (refusal word parts)
+command_of profile (Items (Cons (Atom kind x) parts)) = ok_or (command_named profile (Atom kind x) parts) Form
+command_of profile _ = Err Form
 
 -- ---- what commands are
 

@@ -1,5 +1,5 @@
 -- What a contract sees of a command.
-use Rattle.std.specs.Prelude.{option_map}
+use Rattle.std.specs.Prelude.{ℕ, List, [], Option, None, Some, option_map}
 use Rattle.std.specs.Str.Parse.{digits_value}
 use Rattle.smt_trees.specs.Tree.{sexp_of}
 use Rattle.smt_forms.specs.Bindings.{named_trees}
@@ -7,9 +7,9 @@ use Rattle.smt_script.specs.Command as spec
 use Rattle.smt_script.specs.declared.command.Command.{Command}
 use Rattle.smt_script.specs.declared.command.Command.TheVariants.{SetLogic, SetPrintSuccess}
 use Rattle.smt_script.specs.declared.command.Command.TheVariants.{SetGlobalDeclarations, SetOption, SetInfo}
-use Rattle.smt_script.specs.declared.command.Command.TheVariants.{DeclareConst, DeclareFun, DefineFun}
-use Rattle.smt_script.specs.declared.command.Command.TheVariants.{DefineSort, Assert, Push, Pop, Reset}
-use Rattle.smt_script.specs.declared.command.Command.TheVariants.{ResetAssertions, Exit, CheckSat, GetModel}
+use Rattle.smt_script.specs.declared.command.Command.TheVariants.{DeclareConst, DeclareFun, DefineConst}
+use Rattle.smt_script.specs.declared.command.Command.TheVariants.{DefineFun, DefineSort, Assert, Push, Pop}
+use Rattle.smt_script.specs.declared.command.Command.TheVariants.{Reset, ResetAssertions, Exit, CheckSat, GetModel}
 use Rattle.smt_script.specs.declared.command.Command.TheVariants.{CheckSatAssuming}
 use Rattle.smt_script.specs.declared.command.Command.TheVariants.{Echo, Get}
 use Rattle.smt_script.specs.declared.command.Query.{Query}
@@ -26,6 +26,11 @@ query_view Proof = spec.Proof
 query_view UnsatCore = spec.UnsatCore
 query_view UnsatAssumptions = spec.UnsatAssumptions
 
+-- the number of levels that digits are; without any it is one
+abbrev pub levels_in : Option (List ℕ) → ℕ
+levels_in None = 1
+levels_in (Some digits) = digits_value 10 digits
+
 -- the command that a value of the code is
 abbrev pub command_view : Command → spec.Command
 command_view (SetLogic name) = spec.SetLogic name
@@ -37,10 +42,11 @@ command_view (DeclareConst name sort) = spec.DeclareConst name (sexp_of sort)
 command_view (DeclareFun name params sort) = spec.DeclareFun name params (sexp_of sort)
 command_view (DefineFun name params sort body) =
     spec.DefineFun name (named_trees params) (sexp_of sort) (sexp_of body)
+command_view (DefineConst name sort body) = spec.DefineFun name [] (sexp_of sort) (sexp_of body)
 command_view (DefineSort name sort) = spec.DefineSort name (sexp_of sort)
 command_view (Assert term) = spec.Assert (sexp_of term)
-command_view (Push levels) = spec.Push (digits_value 10 levels)
-command_view (Pop levels) = spec.Pop (digits_value 10 levels)
+command_view (Push levels) = spec.Push (levels_in levels)
+command_view (Pop levels) = spec.Pop (levels_in levels)
 command_view Reset = spec.Reset
 command_view ResetAssertions = spec.ResetAssertions
 command_view Exit = spec.Exit

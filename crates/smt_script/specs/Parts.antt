@@ -18,6 +18,11 @@ abbrev pub one_numeral : Sexps → Option ℕ
 one_numeral (Cons (Atom Numeral digits) Nil) = Some (digits_value 10 digits)
 one_numeral _ = None
 
+-- the same, or one where nothing stands there
+abbrev pub numeral_or_one : Sexps → Option ℕ
+numeral_or_one Nil = Some 1
+numeral_or_one (Cons tree rest) = one_numeral (Cons tree rest)
+
 abbrev pub one_text : Sexps → Option (List ℕ)
 one_text (Cons (Atom Text bytes) Nil) = Some bytes
 one_text _ = None
@@ -39,6 +44,11 @@ some_trees Nil = None
 abbrev pub one_list : Sexps → Option Sexps
 one_list (Cons (Items trees) Nil) = some_trees trees
 one_list _ = None
+
+-- the trees of one list, which may have none
+abbrev pub any_list : Sexps → Option Sexps
+any_list (Cons (Items trees) Nil) = Some trees
+any_list _ = None
 
 abbrev pub is_negation : Sexps → Bool
 is_negation (Cons head (Cons (Atom Symbol x) Nil)) = is_symbol (codes "not") head
@@ -92,6 +102,11 @@ name_and_rank _ = None
 abbrev pub two_trees : Sexps → Option (Sexp × Sexp)
 two_trees (Cons tree rest) = with_first tree (one_tree rest)
 two_trees _ = None
+
+-- a name, and two more trees
+abbrev pub name_and_two : Sexps → Option (List ℕ × (Sexp × Sexp))
+name_and_two (Cons (Atom Symbol x) rest) = with_first x (two_trees rest)
+name_and_two _ = None
 
 -- parameters with the trees of their sorts, and two more trees
 abbrev pub parameters_and_two : Sexps → Option (List (List ℕ × Sexp) × (Sexp × Sexp))

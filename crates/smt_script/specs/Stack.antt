@@ -1,7 +1,7 @@
 -- SMT-LIB 2.6, sections 4.1.1, 4.1.4 and 4.2: what is in force after commands that took effect, and the fault
 -- of a command's effect. Commands count from 1. Assertions go with the level at which they came; so do
 -- declarations, definitions, labels and abbreviations, unless declarations are global (section 4.1.7): then a
--- `reset` alone removes them. That there are at most 10,000 levels is this project's limit.
+-- `reset` alone removes them. That there are at most 10,000 levels is this project's max_levels.
 use Rattle.std.specs.Prelude.{◌≡◌, ◌≤◌, ℕ, ◌+◌, ◌-◌, List, [], ◌∷◌, ◌++◌, Bool, true, false, not, ◌&&◌, ◌||◌}
 use Rattle.std.specs.Prelude.{Option, Some, None, is_some, Result, Ok, Err, fold, nat_le, nat_lt}
 use Rattle.std.specs.Prelude.{if◌then◌else◌}
@@ -12,7 +12,8 @@ use Rattle.smt_trees.specs.Sexp.{Sexp, Sexps, Nil, Cons}
 use Rattle.smt_theory.specs.Sort.{is_same_sort}
 use Rattle.smt_theory.specs.declared.sort.Sort.TheVariants.{Bool as Boolean}
 use Rattle.smt_terms.specs.Checking.{sort_in}
-use Rattle.smt_theory.specs.Theories.{theories_named}
+use Rattle.smt_theory.specs.Theories.{all_theories, theories_named}
+use Rattle.smt_theory.specs.declared.profile.Profile.{Profile}
 use Rattle.smt_theory.specs.declared.sort.Sort.{Sort}
 use Rattle.smt_theory.specs.declared.theories.Theories.{Theories}
 use Rattle.smt_terms.specs.Assertions.{asserted_in}
@@ -43,10 +44,6 @@ pub record Assertion : Type 0 where
 
 -- ---- theories, levels and `success`
 
--- the theories before a logic is set: all that there are
-abbrev pub all_theories : Theories
-all_theories = record { ints = true; bits = true }
-
 -- those of a logic, or else the ones before it
 abbrev pub theories_or : Theories → Option Theories → Theories
 theories_or theories None = theories
@@ -65,27 +62,29 @@ is_everything AllButOptions = false
 is_everything Everything = true
 
 -- the theories once so much is removed
-abbrev pub theories_left : Theories → Removes → Theories
-theories_left theories Nothing = theories
-theories_left theories AllButOptions = theories
-theories_left theories Everything = all_theories
+abbrev pub theories_left : Profile → Theories → Removes → Theories
+theories_left profile theories Nothing = theories
+theories_left profile theories AllButOptions = theories
+theories_left profile theories Everything = all_theories profile
 
-abbrev pub theories_by : Theories → Effect → Theories
-theories_by theories (SetsLogic name) = theories_or theories (theories_named name)
-theories_by theories (Brings item) = theories
-theories_by theories (Pushes levels) = theories
-theories_by theories (Pops levels) = theories
-theories_by theories (Removing what) = theories_left theories what
-theories_by theories (SetsGlobal on) = theories
-theories_by theories (Assumes literals) = theories
+abbrev pub theories_by : Profile → Theories → Effect → Theories
+theories_by profile theories (SetsLogic name) = theories_or theories (theories_named profile name)
+theories_by profile theories (Brings item) = theories
+theories_by profile theories (Pushes levels) = theories
+theories_by profile theories (Pops levels) = theories
+theories_by profile theories (Removing what) = theories_left profile theories what
+theories_by profile theories (SetsGlobal on) = theories
+theories_by profile theories (Assumes literals) = theories
 
 -- the theories after a command, from those before it
-abbrev pub theories_after : Theories → Command → Theories
-theories_after theories command = theories_by theories (effect_of command)
+abbrev pub theories_after : Profile → Theories → Command → Theories
+theories_after profile theories command = theories_by profile theories (effect_of command)
 
--- the theories in force after commands: those of the last logic that was set since the last reset
-abbrev pub theories_in_force : List Numbered → Theories
-theories_in_force commands = fold (λ theories c. theories_after theories c.command) all_theories commands
+-- the theories in force after commands: those of the last logic that was set since the last reset, or else all
+-- of the profile
+abbrev pub theories_in_force : Profile → List Numbered → Theories
+theories_in_force profile commands =
+    fold (λ theories c. theories_after profile theories c.command) (all_theories profile) commands
 
 abbrev pub depth_by : ℕ → Effect → ℕ
 depth_by depth (SetsLogic name) = depth
@@ -293,9 +292,9 @@ abbrev pub removes_everything : Command → Bool
 removes_everything command = is_everything (removed_by command)
 
 -- what a command brings, behind the commands before it and what they brought
-abbrev pub brought_by : List Numbered → List Brought → Numbered → Brought
-brought_by before brought c =
-    let s = signature_of (theories_in_force before) (in_force names_stand brought) in
+abbrev pub brought_by : Profile → List Numbered → List Brought → Numbered → Brought
+brought_by profile before brought c =
+    let s = signature_of (theories_in_force profile before) (in_force names_stand brought) in
     record {
       level = depth_after (depth_in_force before) c.command;
       global = global_in_force before;
@@ -306,25 +305,25 @@ brought_by before brought c =
     }
 
 -- what commands brought, one by one, behind the commands before them and what those brought
-abbrev pub brought_from : List Numbered → List Brought → List Numbered → List Brought
-brought_from before brought [] = brought
-brought_from before brought (c ∷ commands) =
-    brought_from (before ++ c ∷ []) (brought ++ brought_by before brought c ∷ []) commands
+abbrev pub brought_from : Profile → List Numbered → List Brought → List Numbered → List Brought
+brought_from profile before brought [] = brought
+brought_from profile before brought (c ∷ commands) =
+    brought_from profile (before ++ c ∷ []) (brought ++ brought_by profile before brought c ∷ []) commands
 
 -- all that commands ever brought, one by one
-abbrev pub history : List Numbered → List Brought
-history commands = brought_from [] [] commands
+abbrev pub history : Profile → List Numbered → List Brought
+history profile commands = brought_from profile [] [] commands
 
 -- ---- what is in force
 
 -- the theories, abbreviations and names in force after commands that took effect
-abbrev pub signature_in_force : List Numbered → Signature
-signature_in_force commands =
-    signature_of (theories_in_force commands) (in_force names_stand (history commands))
+abbrev pub signature_in_force : Profile → List Numbered → Signature
+signature_in_force profile commands =
+    signature_of (theories_in_force profile commands) (in_force names_stand (history profile commands))
 
 -- the assertions in force after commands that took effect, in their order
-abbrev pub assertions_in_force : List Numbered → List Assertion
-assertions_in_force commands = assertions_of (in_force assertions_stand (history commands))
+abbrev pub assertions_in_force : Profile → List Numbered → List Assertion
+assertions_in_force profile commands = assertions_of (in_force assertions_stand (history profile commands))
 
 abbrev pub trees_of : Sexps → List Sexp
 trees_of Nil = []
@@ -437,8 +436,8 @@ abbrev pub flaw_of_global : (late global on : Bool) → Option CommandFlaw
 flaw_of_global late global on = if late && not (beq global on) then Some Logic else None
 
 -- the greatest number of levels
-abbrev pub limit : ℕ
-limit = 10000
+abbrev pub max_levels : ℕ
+max_levels = 10000
 
 -- the fault of an item that command n brings to a signature
 abbrev pub flaw_of_addition : Signature → ℕ → Addition → Option CommandFlaw
@@ -458,23 +457,23 @@ flaw_of_literals names Nil = None
 flaw_of_literals names (Cons literal rest) =
     option_or (flaw_of_formula (sort_in names [] literal)) (flaw_of_literals names rest)
 
-abbrev pub flaw_by : List Numbered → ℕ → Effect → Option CommandFlaw
-flaw_by before n (SetsLogic name) =
-    flaw_of_logic (is_logic_set before) (is_too_late before) (theories_named name)
-flaw_by before n (Brings item) = flaw_of_addition (signature_in_force before) n item
-flaw_by before n (Pushes levels) =
-    if nat_lt limit (depth_in_force before + levels) then Some TooDeep else None
-flaw_by before n (Pops levels) = if nat_lt (depth_in_force before) levels then Some NoLevel else None
-flaw_by before n (Removing what) = None
-flaw_by before n (SetsGlobal on) = flaw_of_global (is_too_late before) (global_in_force before) on
-flaw_by before n (Assumes literals) = flaw_of_literals (names_of (signature_in_force before)) literals
+abbrev pub flaw_by : Profile → List Numbered → ℕ → Effect → Option CommandFlaw
+flaw_by profile before n (SetsLogic name) =
+    flaw_of_logic (is_logic_set before) (is_too_late before) (theories_named profile name)
+flaw_by profile before n (Brings item) = flaw_of_addition (signature_in_force profile before) n item
+flaw_by profile before n (Pushes levels) =
+    if nat_lt max_levels (depth_in_force before + levels) then Some TooDeep else None
+flaw_by profile before n (Pops levels) = if nat_lt (depth_in_force before) levels then Some NoLevel else None
+flaw_by profile before n (Removing what) = None
+flaw_by profile before n (SetsGlobal on) = flaw_of_global (is_too_late before) (global_in_force before) on
+flaw_by profile before n (Assumes literals) = flaw_of_literals (names_of (signature_in_force profile before)) literals
 
 -- the fault of the effect of command n after the commands that took effect before it
-abbrev pub flaw_of_effect : List Numbered → ℕ → Command → Option CommandFlaw
-flaw_of_effect before n command = flaw_by before n (effect_of command)
+abbrev pub flaw_of_effect : Profile → List Numbered → ℕ → Command → Option CommandFlaw
+flaw_of_effect profile before n command = flaw_by profile before n (effect_of command)
 
 -- no command's effect has a fault, behind those that come before
-abbrev pub HaveNoFlaw : List Numbered → List Numbered → Type 0
-HaveNoFlaw before [] = Unit {0}
-HaveNoFlaw before (c ∷ commands) =
-    (flaw_of_effect before c.number c.command ≡ None) × HaveNoFlaw (before ++ c ∷ []) commands
+abbrev pub HaveNoFlaw : Profile → List Numbered → List Numbered → Type 0
+HaveNoFlaw profile before [] = Unit {0}
+HaveNoFlaw profile before (c ∷ commands) =
+    (flaw_of_effect profile before c.number c.command ≡ None) × HaveNoFlaw profile (before ++ c ∷ []) commands

@@ -3,6 +3,7 @@ use Rattle.std.specs.Prelude.{◌≡◌, ◌≤◌, ◌<◌, ◌-◌, ◌⊎◌,
 use Rattle.std.specs.Prelude.{length, nat_le, if◌then◌else◌, slice_get, take}
 use Rattle.std.specs.List.{All, filter}
 use Rattle.smt_trees.specs.Sexp.{Sexp}
+use Rattle.smt_theory.specs.declared.profile.Profile.{Profile}
 use Rattle.smt_terms.specs.Contents.{Contents, Extends, IsBelow, IsWithin, contents_of, first_of, needed_of}
 use Rattle.smt_terms.specs.Denotes.{Denotes, Table}
 use Rattle.smt_terms.specs.Library as library
@@ -20,6 +21,7 @@ use Rattle.smt_script.specs.Stack.{assertions_stand, print_success_in_force, sig
 use Rattle.smt_script.specs.Stack.{theories_in_force}
 use Rattle.smt_script.specs.declared.stack.Assertion.{Assertion}
 use Rattle.smt_script.specs.declared.stack.LogicState.{LogicState}
+use Rattle.smt_script.specs.declared.stack.Start.{Start}
 use Rattle.smt_script.specs.declared.stack.levels.Level.{Level}
 use Rattle.smt_script.specs.declared.stack.Stack.{Stack}
 
@@ -31,9 +33,12 @@ library_of stack = stack.library
 abbrev pub last_of : Stack → ℕ
 last_of stack = stack.last
 
--- whether `success` is printed at the start
-abbrev pub initial_print_success_of : Stack → Bool
-initial_print_success_of stack = stack.initial_print_success
+-- what holds from the start on
+abbrev pub start_of : Stack → Start
+start_of stack = stack.start
+
+abbrev pub profile_of : Stack → Profile
+profile_of stack = stack.start.profile
 
 -- one by one they are of the same command, and the second's term stands under the first's number
 abbrev pub AreAssertions : Contents → List Assertion → List spec.Assertion → Type 0
@@ -55,13 +60,15 @@ abbrev pub names_to_level : ℕ → List Brought → List Brought
 names_to_level k brought = filter (λ b. nat_le (names_level b) k) brought
 
 -- the names in force that stay if so many levels do
-abbrev pub signature_to_level : ℕ → List Numbered → Signature
-signature_to_level k commands =
-    signature_of (theories_in_force commands) (names_to_level k (in_force names_stand (history commands)))
+abbrev pub signature_to_level : Profile → ℕ → List Numbered → Signature
+signature_to_level profile k commands =
+    signature_of (theories_in_force profile commands)
+    (names_to_level k (in_force names_stand (history profile commands)))
 
 -- the assertions in force that stay if so many levels do
-abbrev pub assertions_to_level : ℕ → List Numbered → List spec.Assertion
-assertions_to_level k commands = assertions_of (to_level k (in_force assertions_stand (history commands)))
+abbrev pub assertions_to_level : Profile → ℕ → List Numbered → List spec.Assertion
+assertions_to_level profile k commands =
+    assertions_of (to_level k (in_force assertions_stand (history profile commands)))
 
 -- what a level leaves of terms and names: the first so many as it notes, or all, if declarations are global
 abbrev pub contents_left : (global : Bool) → Mark → Contents → Contents
@@ -128,18 +135,18 @@ AreTerms table _ _ = ⊥
 -- the stack holds exactly what is in force after these commands; and each of its levels notes what of it came
 -- outside that level
 pub record HasInForce (stack : Stack) (commands : List Numbered) : Type 0 where
-  pub library : library.StandsFor (library_of stack) (signature_in_force commands)
+  pub library : library.StandsFor (library_of stack) (signature_in_force (profile_of stack) commands)
   pub assertions : AreAssertions (contents_of (library_of stack)) stack.assertions.items
-      (assertions_in_force commands)
+      (assertions_in_force (profile_of stack) commands)
   pub depth : length stack.levels ≡ depth_in_force commands
   pub levels : (k : ℕ) (level : Level) → slice_get stack.levels k ≡ Some level
       → IsLevel stack.global (contents_of (library_of stack)) stack.assertions.items level
-      (signature_to_level k commands) (assertions_to_level k commands)
+      (signature_to_level (profile_of stack) k commands) (assertions_to_level (profile_of stack) k commands)
   pub ordered : (j k : ℕ) (level inner : Level) → j ≤ k → slice_get stack.levels j ≡ Some level
       → slice_get stack.levels k ≡ Some inner → IsOuter level inner
   pub logic : stack.logic ≡ logic_state commands
   pub global : stack.global ≡ global_in_force commands
-  pub print_success : stack.print_success ≡ print_success_in_force stack.initial_print_success commands
+  pub print_success : stack.print_success ≡ print_success_in_force stack.start.print_success commands
   pub exited : stack.exited ≡ has_exited commands
 
 -- what was brought has no names and no abbreviations, or was brought where declarations were as global as
@@ -152,12 +159,13 @@ AreAs global [] = Unit {0}
 AreAs global (b ∷ brought) = IsAs global b × AreAs global brought
 
 -- global names and others never stand together
-abbrev pub AreNamesAlike : List Numbered → Type 0
-AreNamesAlike commands = AreAs (global_in_force commands) (in_force names_stand (history commands))
+abbrev pub AreNamesAlike : Profile → List Numbered → Type 0
+AreNamesAlike profile commands =
+    AreAs (global_in_force commands) (in_force names_stand (history profile commands))
 
 -- so it does, and it holds the assumptions of the last check, if nothing in force has changed since
 pub record StandsFor (stack : Stack) (commands : List Numbered) : Type 0 where
   pub force : HasInForce stack commands
-  pub alike : AreNamesAlike commands
+  pub alike : AreNamesAlike (profile_of stack) commands
   pub assumptions : AreTerms (terms_of (library_of stack)) stack.assumptions.items
       (assumptions_in_force commands)

@@ -2,6 +2,7 @@
 use Rattle.std.specs.Prelude.{◌≡◌, ◌⊎◌, ℕ, ◌+◌, List, [], ◌∷◌, ◌++◌, Bool, true, false, is_some}
 use Rattle.std.specs.List.{list_any}
 use Rattle.smt_theory.specs.Theories.{theories_named}
+use Rattle.smt_theory.specs.declared.profile.Profile.{Profile}
 use Rattle.smt_theory.specs.declared.sort.Sort.{Sort}
 use Rattle.smt_terms.specs.Signature.{Entry}
 use Rattle.smt_script.specs.Command.{Command, Effect, SetsLogic, SetsGlobal, Pushes, Pops, effect_of, kind_of}
@@ -19,11 +20,11 @@ numbered n command = record { number = n; command = command }
 abbrev pub Brings : Type 0 → Type 0
 Brings A = List Numbered → Numbered → List A
 
-abbrev pub names_of_command : Brings Entry
-names_of_command earlier c = entries_by (signature_in_force earlier) c.number c.command
+abbrev pub names_of_command : Profile → Brings Entry
+names_of_command profile earlier c = entries_by (signature_in_force profile earlier) c.number c.command
 
-abbrev pub abbreviations_of_command : Brings (List ℕ × Sort)
-abbreviations_of_command earlier c = abbreviations_by (signature_in_force earlier) c.command
+abbrev pub abbreviations_of_command : Profile → Brings (List ℕ × Sort)
+abbreviations_of_command profile earlier c = abbreviations_by (signature_in_force profile earlier) c.command
 
 abbrev pub assertions_of_command : Brings Assertion
 assertions_of_command earlier c = assertions_by c.number c.command
@@ -90,13 +91,13 @@ is_logic_kind _ = false
 abbrev pub sets_logic : Command → Bool
 sets_logic command = is_logic_kind (kind_of command)
 
-abbrev pub names_theories : Effect → Bool
-names_theories (SetsLogic name) = is_some (theories_named name)
-names_theories _ = false
+abbrev pub names_theories : Profile → Effect → Bool
+names_theories profile (SetsLogic name) = is_some (theories_named profile name)
+names_theories profile _ = false
 
 -- it sets a logic that is taken
-abbrev pub sets_theories : Command → Bool
-sets_theories command = names_theories (effect_of command)
+abbrev pub sets_theories : Profile → Command → Bool
+sets_theories profile command = names_theories profile (effect_of command)
 
 abbrev pub is_print_success_kind : Kind → Bool
 is_print_success_kind (kinds.PrintSuccess on) = true

@@ -52,6 +52,13 @@ pub enum Command {
         sort: Tree,
         body: Tree,
     },
+    /// `(define-const name sort body)`, in the wide profile alone: a `define-fun` without parameters
+    /// (SMT-LIB 2.7).
+    DefineConst {
+        name: Bytes,
+        sort: Tree,
+        body: Tree,
+    },
     /// `(define-sort name () sort)` (section 4.2.3).
     DefineSort {
         name: Bytes,
@@ -61,13 +68,14 @@ pub enum Command {
     Assert {
         term: Tree,
     },
-    /// `(push levels)` (section 4.2.2): the decimal digits of the number of levels, of any length.
+    /// `(push levels)` (section 4.2.2): the decimal digits of the number of levels, of any length. None are
+    /// those of `(push)`, in the wide profile alone: one level.
     Push {
-        levels: Bytes,
+        levels: Option<Bytes>,
     },
-    /// `(pop levels)` (section 4.2.2): the decimal digits of the number of levels, of any length.
+    /// `(pop levels)` (section 4.2.2), likewise.
     Pop {
-        levels: Bytes,
+        levels: Option<Bytes>,
     },
     /// `(reset)` (section 4.2.1).
     Reset,
@@ -78,7 +86,7 @@ pub enum Command {
     /// `(check-sat)` (section 4.2.5).
     CheckSat,
     /// `(check-sat-assuming (literal ..))` (section 4.2.5): each literal is a symbol, or a list of the symbol
-    /// `not` and a symbol.
+    /// `not` and a symbol; in the wide profile it is any tree.
     CheckSatAssuming {
         literals: Trees,
     },
@@ -105,7 +113,8 @@ impl Command {
             Command::SetGlobalDeclarations { .. } => Kind::Setting,
             Command::SetOption { .. } | Command::SetInfo { .. } => Kind::Setting,
             Command::DeclareConst { .. } | Command::DeclareFun { .. } => Kind::Change,
-            Command::DefineFun { .. } | Command::DefineSort { .. } => Kind::Change,
+            Command::DefineFun { .. } | Command::DefineConst { .. } => Kind::Change,
+            Command::DefineSort { .. } => Kind::Change,
             Command::Assert { .. } | Command::ResetAssertions => Kind::Change,
             Command::Push { .. } | Command::Pop { .. } => Kind::Change,
             Command::Reset => Kind::Reset,

@@ -2,9 +2,11 @@
 //! is said elsewhere.
 
 ghost use Rattle.std.specs.Prelude.{◌≡◌, Some, Ok, Err, MatchResult, option_map, bytes_eq, if◌then◌else◌};
+ghost use Rattle.smt_theory.specs.declared.profile.Profile.TheVariants.{Base};
+ghost use Rattle.smt_trees.specs.Sexp.{Cons, Sexp, Sexps};
 ghost use Rattle.smt_trees.specs.Tree.{sexp_of, sexps_of};
 ghost use Rattle.smt_script.specs.Command as commands;
-ghost use Rattle.smt_script.specs.CommandView.{command_view, query_view};
+ghost use Rattle.smt_script.specs.CommandView.{command_view, levels_in, query_view};
 ghost use Rattle.smt_script.specs.Internal.PartsView.{parts_view};
 
 mod parts;
@@ -13,37 +15,74 @@ mod shapes;
 use crate::command::{Command, Query};
 use crate::forms::parts::Parts;
 use crate::forms::shapes::{
-    is_abbreviation, is_global_declarations, keyword_and_value, name_and_abbreviated,
-    name_and_definition, name_and_rank, name_and_sort, one_keyword, one_list, one_list_of_literals,
-    one_numeral, one_symbol, one_text, one_tree, truth_of_value,
+    any_list, is_abbreviation, is_global_declarations, keyword_and_value, name_and_abbreviated,
+    name_and_definition, name_and_rank, name_and_sort, name_and_two, numeral_or_none, one_keyword,
+    one_list, one_list_of_literals, one_numeral, one_symbol, one_text, one_tree, truth_of_value,
 };
 use smt_faults::CommandFlaw;
-use smt_trees::{Bytes, Tree, Word, split_first};
+use smt_theory::Profile;
+use smt_trees::{Bytes, Tree, Trees, Word, split_first};
 
-/// The command that a tree is (SMT-LIB 2.6, section 4.2). A tree that is none is refused: as `Unsupported`
-/// where it is a list that begins with the name of a command that is not supported, whatever follows, or a
-/// `define-sort` with parameters; else for its `Form`.
-pub fn read_command(tree: Tree) -> Result<Command, CommandFlaw>
-    ensures { MatchResult result (λ command. commands.command_of (sexp_of tree) ≡ Ok (command_view command))
-        (λ flaw. commands.command_of (sexp_of tree) ≡ Err flaw) }
+/// The command that a tree is in a profile (SMT-LIB 2.6, section 4.2). A tree that is none is refused: as
+/// `Unsupported` where it is a list that begins with the name of a command that is not supported, whatever
+/// follows, or a `define-sort` with parameters; else for its `Form`.
+pub fn read_command(profile: Profile, tree: Tree) -> Result<Command, CommandFlaw>
+    ensures { MatchResult result
+        (λ command. commands.command_of profile (sexp_of tree) ≡ Ok (command_view command))
+        (λ flaw. commands.command_of profile (sexp_of tree) ≡ Err flaw) }
 {
     let Tree::List(parts) = tree else {
         return Err(CommandFlaw::Form);
     };
-    let Some((Tree::Reserved(word), rest)) = split_first(parts.as_slice()) else {
+    let Some((head, rest)) = split_first(parts.as_slice()) else {
         return Err(CommandFlaw::Form);
+    };
+    let Tree::Reserved(word) = head else {
+        return named_command(profile, parts);
     };
     let word = *word;
     let refusal = refusal(word, rest);
-    match command_with(word, Parts::behind_first(parts)) {
+    match command_with(profile, word, Parts::behind_first(parts)) {
         Some(command) => Ok(command),
         None => Err(refusal),
     }
 }
 
+// The command of a list that begins with a tree that is no reserved word.
+fn named_command(profile: Profile, parts: Trees) -> Result<Command, CommandFlaw>
+    ensures { (head : Sexp) (rest : Sexps) → parts ≡ Cons head rest
+        → MatchResult result (λ command. commands.command_named profile head rest ≡ Some (command_view command))
+        (λ flaw. (commands.command_named profile head rest ≡ None) × (flaw ≡ CommandFlaw.Form)) }
+{
+    match split_first(parts.as_slice()) {
+        Some((head, _)) if is_constant_definition(profile, head) => {}
+        _ => return Err(CommandFlaw::Form),
+    }
+    match constant_defined(Parts::behind_first(parts)) {
+        Some(command) => Ok(command),
+        None => Err(CommandFlaw::Form),
+    }
+}
+
+fn is_constant_definition(profile: Profile, head: &Tree) -> bool
+    ensures { result ≡ commands.is_constant_definition profile (sexp_of head.now) }
+{
+    match profile {
+        Profile::Base => false,
+        Profile::Wide => head.is_symbol(b"define-const"),
+    }
+}
+
+fn constant_defined(parts: Parts) -> Option<Command>
+    ensures { option_map command_view result ≡ commands.constant_defined (parts_view parts) }
+{
+    let (name, sort, body) = name_and_two(parts)?;
+    Some(Command::DefineConst { name, sort, body })
+}
+
 // The command of this word with these parts behind it.
-fn command_with(word: Word, parts: Parts) -> Option<Command>
-    ensures { option_map command_view result ≡ commands.command_with word (parts_view parts) }
+fn command_with(profile: Profile, word: Word, parts: Parts) -> Option<Command>
+    ensures { option_map command_view result ≡ commands.command_with profile word (parts_view parts) }
 {
     match word {
         Word::SetLogic => Some(Command::SetLogic {
@@ -59,10 +98,10 @@ fn command_with(word: Word, parts: Parts) -> Option<Command>
             term: one_tree(parts)?,
         }),
         Word::Push => Some(Command::Push {
-            levels: one_numeral(parts)?,
+            levels: levels_of(profile, parts)?,
         }),
         Word::Pop => Some(Command::Pop {
-            levels: one_numeral(parts)?,
+            levels: levels_of(profile, parts)?,
         }),
         Word::Echo => Some(Command::Echo {
             text: one_text(parts)?,
@@ -71,7 +110,7 @@ fn command_with(word: Word, parts: Parts) -> Option<Command>
         Word::ResetAssertions => alone(Command::ResetAssertions, parts),
         Word::Exit => alone(Command::Exit, parts),
         Word::CheckSat => alone(Command::CheckSat, parts),
-        Word::CheckSatAssuming => assuming(parts),
+        Word::CheckSatAssuming => assuming(profile, parts),
         Word::GetModel => alone(Command::GetModel, parts),
         Word::GetValue => asked_values(parts),
         Word::GetInfo => asked_info(parts),
@@ -98,7 +137,7 @@ fn alone(command: Command, parts: Parts) -> Option<Command>
 
 // The setting of an option: `:print-success` and `:global-declarations` have to be truth values.
 fn option(parts: Parts) -> Option<Command>
-    ensures { option_map command_view result ≡ commands.command_with Word.SetOption (parts_view parts) }
+    ensures { option_map command_view result ≡ commands.command_with Base Word.SetOption (parts_view parts) }
 {
     let (keyword, value) = keyword_and_value(parts)?;
     if is_print_success(&keyword) {
@@ -119,28 +158,28 @@ fn is_print_success(keyword: &Bytes) -> bool
 }
 
 fn info(parts: Parts) -> Option<Command>
-    ensures { option_map command_view result ≡ commands.command_with Word.SetInfo (parts_view parts) }
+    ensures { option_map command_view result ≡ commands.command_with Base Word.SetInfo (parts_view parts) }
 {
     let (keyword, value) = keyword_and_value(parts)?;
     Some(Command::SetInfo { keyword, value })
 }
 
 fn constant(parts: Parts) -> Option<Command>
-    ensures { option_map command_view result ≡ commands.command_with Word.DeclareConst (parts_view parts) }
+    ensures { option_map command_view result ≡ commands.command_with Base Word.DeclareConst (parts_view parts) }
 {
     let (name, sort) = name_and_sort(parts)?;
     Some(Command::DeclareConst { name, sort })
 }
 
 fn function(parts: Parts) -> Option<Command>
-    ensures { option_map command_view result ≡ commands.command_with Word.DeclareFun (parts_view parts) }
+    ensures { option_map command_view result ≡ commands.command_with Base Word.DeclareFun (parts_view parts) }
 {
     let (name, params, sort) = name_and_rank(parts)?;
     Some(Command::DeclareFun { name, params, sort })
 }
 
 fn definition(parts: Parts) -> Option<Command>
-    ensures { option_map command_view result ≡ commands.command_with Word.DefineFun (parts_view parts) }
+    ensures { option_map command_view result ≡ commands.command_with Base Word.DefineFun (parts_view parts) }
 {
     let (name, params, sort, body) = name_and_definition(parts)?;
     Some(Command::DefineFun {
@@ -152,7 +191,7 @@ fn definition(parts: Parts) -> Option<Command>
 }
 
 fn abbreviation(parts: Parts) -> Option<Command>
-    ensures { option_map command_view result ≡ commands.command_with Word.DefineSort (parts_view parts) }
+    ensures { option_map command_view result ≡ commands.command_with Base Word.DefineSort (parts_view parts) }
 {
     let (name, sort) = name_and_abbreviated(parts)?;
     Some(Command::DefineSort { name, sort })
@@ -166,16 +205,36 @@ fn query(query: Query, parts: Parts) -> Option<Command>
     alone(Command::Get { query }, parts)
 }
 
-fn assuming(parts: Parts) -> Option<Command>
-    ensures { option_map command_view result
-        ≡ commands.command_with Word.CheckSatAssuming (parts_view parts) }
+// How many levels, by their digits; without any it is one, in the wide profile.
+fn levels_of(profile: Profile, parts: Parts) -> Option<Option<Bytes>>
+    ensures { option_map levels_in result ≡ commands.levels_of profile (parts_view parts) }
 {
-    let literals = one_list_of_literals(parts)?;
+    match profile {
+        Profile::Base => Some(Some(one_numeral(parts)?)),
+        Profile::Wide => numeral_or_none(parts),
+    }
+}
+
+fn assuming(profile: Profile, parts: Parts) -> Option<Command>
+    ensures { option_map command_view result
+        ≡ commands.command_with profile Word.CheckSatAssuming (parts_view parts) }
+{
+    let literals = assumed_of(profile, parts)?;
     Some(Command::CheckSatAssuming { literals })
 }
 
+// What is assumed: literals, and in the wide profile any terms.
+fn assumed_of(profile: Profile, parts: Parts) -> Option<Trees>
+    ensures { result ≡ commands.assumed_of profile (parts_view parts) }
+{
+    match profile {
+        Profile::Base => one_list_of_literals(parts),
+        Profile::Wide => any_list(parts),
+    }
+}
+
 fn asked_values(parts: Parts) -> Option<Command>
-    ensures { option_map command_view result ≡ commands.command_with Word.GetValue (parts_view parts) }
+    ensures { option_map command_view result ≡ commands.command_with Base Word.GetValue (parts_view parts) }
 {
     let terms = one_list(parts)?;
     let query = Query::Values { terms };
@@ -183,7 +242,7 @@ fn asked_values(parts: Parts) -> Option<Command>
 }
 
 fn asked_setting(parts: Parts) -> Option<Command>
-    ensures { option_map command_view result ≡ commands.command_with Word.GetOption (parts_view parts) }
+    ensures { option_map command_view result ≡ commands.command_with Base Word.GetOption (parts_view parts) }
 {
     let keyword = one_keyword(parts)?;
     let query = Query::Setting { keyword };
@@ -191,7 +250,7 @@ fn asked_setting(parts: Parts) -> Option<Command>
 }
 
 fn asked_info(parts: Parts) -> Option<Command>
-    ensures { option_map command_view result ≡ commands.command_with Word.GetInfo (parts_view parts) }
+    ensures { option_map command_view result ≡ commands.command_with Base Word.GetInfo (parts_view parts) }
 {
     let keyword = one_keyword(parts)?;
     let query = Query::Info { keyword };

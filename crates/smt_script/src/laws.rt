@@ -5,7 +5,8 @@ pub mod commands;
 ghost use Rattle.std.specs.Prelude.{◌≡◌, ◌+◌, ◌-◌, ℕ, List, [], ◌∷◌, ◌++◌, Bool, true, false, Ok, Some};
 ghost use Rattle.std.specs.List.{list_any};
 ghost use Rattle.smt_trees.specs.Sexp.{Sexp, Sexps, Nil};
-ghost use Rattle.smt_theory.specs.Theories.{theories_named};
+ghost use Rattle.smt_theory.specs.Theories.{all_theories, theories_named};
+ghost use Rattle.smt_theory.specs.declared.profile.Profile.{Profile};
 ghost use Rattle.smt_theory.specs.declared.sort.Sort.{Sort};
 ghost use Rattle.smt_theory.specs.declared.theories.Theories.{Theories};
 ghost use Rattle.smt_terms.specs.Assertions.{asserted_in};
@@ -16,7 +17,7 @@ ghost use Rattle.smt_terms.specs.WellSorted.{AreIntroduced};
 ghost use Rattle.smt_script.specs.Command.{Command, SetGlobalDeclarations, SetLogic, SetPrintSuccess};
 ghost use Rattle.smt_script.specs.Command.{DeclareConst, DeclareFun};
 ghost use Rattle.smt_script.specs.Command.{DefineFun, DefineSort, Assert, Push, Pop, Exit};
-ghost use Rattle.smt_script.specs.Stack.{Assertion, HaveNoFlaw, NamesStand, Numbered, Stands, all_theories};
+ghost use Rattle.smt_script.specs.Stack.{Assertion, HaveNoFlaw, NamesStand, Numbered, Stands};
 ghost use Rattle.smt_script.specs.Stack.{global_in_force};
 ghost use Rattle.smt_script.specs.StackView.{AreNamesAlike};
 ghost use Rattle.smt_script.specs.Stack.{assertions_in_force, depth_in_force, flaw_of_effect, has_exited};
@@ -33,8 +34,9 @@ use smt_terms::laws::{definitions_are_well_sorted, labels_are_introduced};
 /// each definition and label among them is well sorted over the earlier ones (SMT-LIB 2.6, sections 3.6.5 and
 /// 4.2.3).
 pub fn names_in_force_are_introduced()
-    ensures { (commands : List Numbered) → HaveNoFlaw [] commands
-        → AreIntroduced (signature_in_force commands).theories [] (signature_in_force commands).entries }
+    ensures { (profile : Profile) (commands : List Numbered) → HaveNoFlaw profile [] commands
+        → AreIntroduced (signature_in_force profile commands).theories []
+        (signature_in_force profile commands).entries }
 {
     definitions_are_well_sorted();
     labels_are_introduced();
@@ -43,71 +45,79 @@ pub fn names_in_force_are_introduced()
 /// A declaration or a definition brings its one name, an assertion its labels, and `define-sort` its one
 /// abbreviation (SMT-LIB 2.6, sections 4.2.3 and 4.2.4).
 pub fn commands_bring_names()
-    ensures constants { (earlier : List Numbered) (n : ℕ) (x : List ℕ) (sort : Sexp) (e : Entry)
-        → declared_in (signature_in_force earlier) n x Nil sort ≡ Ok e
-        → names_of_command earlier (numbered n (DeclareConst x sort)) ≡ e ∷ [] }
-    ensures functions { (earlier : List Numbered) (n : ℕ) (x : List ℕ) (ps : Sexps) (sort : Sexp) (e : Entry)
-        → declared_in (signature_in_force earlier) n x ps sort ≡ Ok e
-        → names_of_command earlier (numbered n (DeclareFun x ps sort)) ≡ e ∷ [] }
-    ensures definitions { (earlier : List Numbered) (n : ℕ) (x : List ℕ) (ps : List (List ℕ × Sexp))
-        → (sort body : Sexp) (e : Entry) → defined_in (signature_in_force earlier) x ps sort body ≡ Ok e
-        → names_of_command earlier (numbered n (DefineFun x ps sort body)) ≡ e ∷ [] }
-    ensures labels { (earlier : List Numbered) (n : ℕ) (term : Sexp) (es : List Entry)
-        → asserted_in (names_of (signature_in_force earlier)) term ≡ Ok es
-        → names_of_command earlier (numbered n (Assert term)) ≡ es }
-    ensures abbreviations { (earlier : List Numbered) (n : ℕ) (x : List ℕ) (tree : Sexp) (sort : Sort)
-        → abbreviated_in (sort_names_of (signature_in_force earlier)) x tree ≡ Ok sort
-        → abbreviations_of_command earlier (numbered n (DefineSort x tree)) ≡ (x, sort) ∷ [] }
+    ensures constants { (profile : Profile) (earlier : List Numbered) (n : ℕ) (x : List ℕ) (sort : Sexp)
+        → (e : Entry)
+        → declared_in (signature_in_force profile earlier) n x Nil sort ≡ Ok e
+        → names_of_command profile earlier (numbered n (DeclareConst x sort)) ≡ e ∷ [] }
+    ensures functions { (profile : Profile) (earlier : List Numbered) (n : ℕ) (x : List ℕ) (ps : Sexps)
+        → (sort : Sexp) (e : Entry)
+        → declared_in (signature_in_force profile earlier) n x ps sort ≡ Ok e
+        → names_of_command profile earlier (numbered n (DeclareFun x ps sort)) ≡ e ∷ [] }
+    ensures definitions { (profile : Profile) (earlier : List Numbered) (n : ℕ) (x : List ℕ)
+        → (ps : List (List ℕ × Sexp)) (sort body : Sexp) (e : Entry)
+        → defined_in (signature_in_force profile earlier) x ps sort body ≡ Ok e
+        → names_of_command profile earlier (numbered n (DefineFun x ps sort body)) ≡ e ∷ [] }
+    ensures labels { (profile : Profile) (earlier : List Numbered) (n : ℕ) (term : Sexp) (es : List Entry)
+        → asserted_in (names_of (signature_in_force profile earlier)) term ≡ Ok es
+        → names_of_command profile earlier (numbered n (Assert term)) ≡ es }
+    ensures abbreviations { (profile : Profile) (earlier : List Numbered) (n : ℕ) (x : List ℕ) (tree : Sexp)
+        → (sort : Sort)
+        → abbreviated_in (sort_names_of (signature_in_force profile earlier)) x tree ≡ Ok sort
+        → abbreviations_of_command profile earlier (numbered n (DefineSort x tree)) ≡ (x, sort) ∷ [] }
 {}
 
 /// The names in force are those of the commands that stand, in the order of the commands: of those that were
 /// followed by no `reset` and, where declarations were not global, by no `reset-assertions`, and by no fewer
 /// levels (SMT-LIB 2.6, sections 4.1.4 and 4.1.7).
 pub fn names_in_force_stand()
-    ensures stands { (commands earlier : List Numbered) (c : Numbered) → NamesStand commands earlier c
-        → AreAmong (names_of_command earlier c) (signature_in_force commands).entries }
-    ensures found { (commands : List Numbered) (e : Entry) → IsAmong e (signature_in_force commands).entries
-        → IsBrought NamesStand names_of_command commands e }
-    ensures ordered { (commands : List Numbered)
-        → AreBrought NamesStand names_of_command commands [] commands (signature_in_force commands).entries }
+    ensures stands { (profile : Profile) (commands earlier : List Numbered) (c : Numbered)
+        → NamesStand commands earlier c
+        → AreAmong (names_of_command profile earlier c) (signature_in_force profile commands).entries }
+    ensures found { (profile : Profile) (commands : List Numbered) (e : Entry)
+        → IsAmong e (signature_in_force profile commands).entries
+        → IsBrought NamesStand (names_of_command profile) commands e }
+    ensures ordered { (profile : Profile) (commands : List Numbered)
+        → AreBrought NamesStand (names_of_command profile) commands [] commands
+        (signature_in_force profile commands).entries }
 {}
 
 /// So are the abbreviations in force.
 pub fn abbreviations_in_force_stand()
-    ensures stands { (commands earlier : List Numbered) (c : Numbered) → NamesStand commands earlier c
-        → AreAmong (abbreviations_of_command earlier c) (signature_in_force commands).abbreviations }
-    ensures found { (commands : List Numbered) (a : List ℕ × Sort)
-        → IsAmong a (signature_in_force commands).abbreviations
-        → IsBrought NamesStand abbreviations_of_command commands a }
-    ensures ordered { (commands : List Numbered)
-        → AreBrought NamesStand abbreviations_of_command commands [] commands
-        (signature_in_force commands).abbreviations }
+    ensures stands { (profile : Profile) (commands earlier : List Numbered) (c : Numbered)
+        → NamesStand commands earlier c
+        → AreAmong (abbreviations_of_command profile earlier c) (signature_in_force profile commands).abbreviations }
+    ensures found { (profile : Profile) (commands : List Numbered) (a : List ℕ × Sort)
+        → IsAmong a (signature_in_force profile commands).abbreviations
+        → IsBrought NamesStand (abbreviations_of_command profile) commands a }
+    ensures ordered { (profile : Profile) (commands : List Numbered)
+        → AreBrought NamesStand (abbreviations_of_command profile) commands [] commands
+        (signature_in_force profile commands).abbreviations }
 {}
 
 /// The assertions in force are those that were followed by no reset, and by no fewer levels, whether
 /// declarations are global or not (SMT-LIB 2.6, section 4.1.4).
 pub fn assertions_in_force_stand()
-    ensures stands { (commands earlier : List Numbered) (c : Numbered) (term : Sexp)
+    ensures stands { (profile : Profile) (commands earlier : List Numbered) (c : Numbered) (term : Sexp)
         → Stands commands earlier c → c.command ≡ Assert term
-        → IsAmong (record { command = c.number; term = term }) (assertions_in_force commands) }
-    ensures found { (commands : List Numbered) (first last : List Assertion) (a : Assertion)
-        → assertions_in_force commands ≡ first ++ a ∷ last
+        → IsAmong (record { command = c.number; term = term }) (assertions_in_force profile commands) }
+    ensures found { (profile : Profile) (commands : List Numbered) (first last : List Assertion) (a : Assertion)
+        → assertions_in_force profile commands ≡ first ++ a ∷ last
         → (earlier : List Numbered) × (c : Numbered)
         × Stands commands earlier c × (c.command ≡ Assert a.term) × (c.number ≡ a.command) }
-    ensures ordered { (commands : List Numbered)
-        → AreBrought Stands assertions_of_command commands [] commands (assertions_in_force commands) }
+    ensures ordered { (profile : Profile) (commands : List Numbered)
+        → AreBrought Stands assertions_of_command commands [] commands (assertions_in_force profile commands) }
 {}
 
 /// The theories in force are those of the last logic that was set since the last `reset`, or else all
 /// (SMT-LIB 2.6, section 4.2.1).
 pub fn theories_in_force_are_the_last()
-    ensures set { (commands since : List Numbered) (name : List ℕ) (theories : Theories)
-        → AreSince is_whole_reset commands since → IsLast sets_theories since (SetLogic name)
-        → theories_named name ≡ Some theories → theories_in_force commands ≡ theories }
-    ensures start { (commands since : List Numbered) → AreSince is_whole_reset commands since
-        → Never sets_theories since → theories_in_force commands ≡ all_theories }
-    ensures signature { (commands : List Numbered)
-        → (signature_in_force commands).theories ≡ theories_in_force commands }
+    ensures set { (profile : Profile) (commands since : List Numbered) (name : List ℕ) (theories : Theories)
+        → AreSince is_whole_reset commands since → IsLast (sets_theories profile) since (SetLogic name)
+        → theories_named profile name ≡ Some theories → theories_in_force profile commands ≡ theories }
+    ensures start { (profile : Profile) (commands since : List Numbered) → AreSince is_whole_reset commands since
+        → Never (sets_theories profile) since → theories_in_force profile commands ≡ all_theories profile }
+    ensures signature { (profile : Profile) (commands : List Numbered)
+        → (signature_in_force profile commands).theories ≡ theories_in_force profile commands }
 {}
 
 /// Whether `success` is printed was said by the last command since the last `reset` that sets it, or else at
@@ -132,7 +142,8 @@ pub fn global_declarations_are_the_last()
 /// that brought some came while declarations were as global as they are at the end (SMT-LIB 2.6, section
 /// 4.1.7).
 pub fn declarations_are_alike()
-    ensures { (commands : List Numbered) → HaveNoFlaw [] commands → AreNamesAlike commands }
+    ensures { (profile : Profile) (commands : List Numbered) → HaveNoFlaw profile [] commands
+        → AreNamesAlike profile commands }
 {}
 
 /// A logic is set, and it is too late to set one, where a command since the last `reset` made it so. Until it
@@ -142,12 +153,12 @@ pub fn logics_are_set_first()
         → is_logic_set commands ≡ list_any (λ c. sets_logic c.command) since }
     ensures late { (commands since : List Numbered) → AreSince is_whole_reset commands since
         → is_too_late commands ≡ list_any (λ c. makes_late c.command) since }
-    ensures names { (commands : List Numbered) → is_too_late commands ≡ false
-        → (signature_in_force commands).entries ≡ [] }
-    ensures abbreviations { (commands : List Numbered) → is_too_late commands ≡ false
-        → (signature_in_force commands).abbreviations ≡ [] }
-    ensures assertions { (commands : List Numbered) → is_too_late commands ≡ false
-        → assertions_in_force commands ≡ [] }
+    ensures names { (profile : Profile) (commands : List Numbered) → is_too_late commands ≡ false
+        → (signature_in_force profile commands).entries ≡ [] }
+    ensures abbreviations { (profile : Profile) (commands : List Numbered) → is_too_late commands ≡ false
+        → (signature_in_force profile commands).abbreviations ≡ [] }
+    ensures assertions { (profile : Profile) (commands : List Numbered) → is_too_late commands ≡ false
+        → assertions_in_force profile commands ≡ [] }
     ensures levels { (commands : List Numbered) → is_too_late commands ≡ false
         → depth_in_force commands ≡ 0 }
 {}
@@ -162,7 +173,7 @@ pub fn depth_counts_levels()
         → depth_in_force (commands ++ numbered n (Pop levels) ∷ []) ≡ depth_in_force commands - levels }
     ensures reset { (commands : List Numbered) (c : Numbered) → is_reset c.command ≡ true
         → depth_in_force (commands ++ c ∷ []) ≡ 0 }
-    ensures sum { (commands since : List Numbered) → HaveNoFlaw [] commands
+    ensures sum { (profile : Profile) (commands since : List Numbered) → HaveNoFlaw profile [] commands
         → AreSince is_reset commands since
         → depth_in_force commands + popped since ≡ pushed since }
 {}

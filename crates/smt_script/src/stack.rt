@@ -11,10 +11,8 @@ ghost use Rattle.smt_script.specs.CommandView.{command_view};
 ghost use Rattle.smt_script.specs.Stack.{Numbered, assertions_in_force, assumptions_in_force, depth_in_force};
 ghost use Rattle.smt_script.specs.Stack.{ends_assumptions, flaw_of_effect};
 ghost use Rattle.smt_script.specs.Stack.{has_exited, print_success_in_force, signature_in_force};
-ghost use Rattle.smt_script.specs.Stack as stack;
 ghost use Rattle.smt_script.specs.StackView.{AreAssertions, AreTerms, HoldsAfter, StandsFor, last_of};
-ghost use Rattle.smt_script.specs.StackView.{library_of};
-ghost use Rattle.smt_script.specs.StackView.{initial_print_success_of};
+ghost use Rattle.smt_script.specs.StackView.{library_of, profile_of, start_of};
 ghost use Rattle.smt_faults.specs.Outcome.{TellsCommand};
 
 mod effects;
@@ -26,7 +24,7 @@ pub use level_runs::Levels;
 pub use levels::Level;
 use smt_faults::CommandFault;
 use smt_terms::{Library, TermId};
-use smt_theory::Theories;
+use smt_theory::{Profile, all_theories};
 use std::alloc::Global;
 
 /// An assertion: the number of the command that made it, from 1, and that of its term in the stack's library.
@@ -55,6 +53,15 @@ impl LogicState {
     }
 }
 
+/// What holds before the first command, and is no part of a script.
+#[derive(Clone, Copy)]
+pub struct Start {
+    /// Whether `success` is printed, until a command says otherwise.
+    pub print_success: bool,
+    /// The profile, which no command changes.
+    pub profile: Profile,
+}
+
 /// What is in force after commands that took effect: theories, names, assertions and assertion levels
 /// (SMT-LIB 2.6, sections 4.1.1, 4.1.4 and 4.2.2).
 #[derive(Drop)]
@@ -69,35 +76,24 @@ pub struct Stack {
     logic: LogicState,
     /// Whether declarations are global.
     global: bool,
-    /// Whether `success` is printed: now, and at the start.
+    /// Whether `success` is printed now.
     print_success: bool,
-    initial_print_success: bool,
+    start: Start,
     exited: bool,
     /// The number of the last command that was applied, 0 before the first.
     last: u64,
 }
 
-/// The theories before a logic is set: all that there are.
-pub fn all_theories() -> Theories
-    ensures { result ≡ stack.all_theories }
-{
-    Theories {
-        ints: true,
-        bits: true,
-    }
-}
-
 impl Stack {
-    /// A stack before any command: all theories, and nothing in force. `initial_print_success` says whether
-    /// `success` is printed.
-    pub fn new(alloc: Global, initial_print_success: bool) -> Self
+    /// A stack before any command: all theories of the profile, and nothing in force.
+    pub fn new(alloc: Global, start: Start) -> Self
         ensures stands { StandsFor result [] }
         ensures last { last_of result ≡ 0 }
-        ensures start { initial_print_success_of result ≡ initial_print_success }
+        ensures start { start_of result ≡ start }
     {
         Stack {
             alloc,
-            library: Library::new(alloc, all_theories()),
+            library: Library::new(alloc, all_theories(start.profile)),
             assertions: Vec::new(alloc),
             assumptions: Vec::new(alloc),
             levels: Levels::new(alloc),
@@ -106,8 +102,8 @@ impl Stack {
                 late: false,
             },
             global: false,
-            print_success: initial_print_success,
-            initial_print_success,
+            print_success: start.print_success,
+            start,
             exited: false,
             last: 0,
         }
@@ -116,7 +112,7 @@ impl Stack {
     /// The theories, abbreviations and names in force, and the terms of the assertions.
     pub fn library(&self) -> &Library
         ensures stands { (commands : List Numbered) → StandsFor self.now commands
-            → terms.StandsFor result.now (signature_in_force commands) }
+            → terms.StandsFor result.now (signature_in_force (profile_of self.now) commands) }
         ensures view { result.now ≡ library_of self.now }
     {
         &self.library
@@ -125,7 +121,8 @@ impl Stack {
     /// The assertions in force, in order. Their terms are those of `library`.
     pub fn assertions(&self) -> &[Assertion]
         ensures { (commands : List Numbered) → StandsFor self.now commands
-            → AreAssertions (contents_of (library_of self.now)) result.now (assertions_in_force commands) }
+            → AreAssertions (contents_of (library_of self.now)) result.now
+            (assertions_in_force (profile_of self.now) commands) }
     {
         self.assertions.as_slice()
     }
@@ -137,6 +134,13 @@ impl Stack {
             → AreTerms (terms_of (library_of self.now)) result.now (assumptions_in_force commands) }
     {
         self.assumptions.as_slice()
+    }
+
+    /// The profile, which no command changes.
+    pub fn profile(&self) -> Profile
+        ensures { result ≡ profile_of self.now }
+    {
+        self.start.profile
     }
 
     /// How many assertion levels there are beside the first, from 0 to 10,000 (SMT-LIB 2.6, section 4.1.4).
@@ -151,7 +155,7 @@ impl Stack {
     /// section 4.1.7): as the last command said that set it since the last `reset`, or else as at the start.
     pub fn print_success(&self) -> bool
         ensures { (commands : List Numbered) → StandsFor self.now commands
-            → result ≡ print_success_in_force (initial_print_success_of self.now) commands }
+            → result ≡ print_success_in_force (start_of self.now).print_success commands }
     {
         self.print_success
     }
@@ -167,16 +171,16 @@ impl Stack {
     /// grow. Refused are a command whose effect has a fault, and want of memory; then what is in force stays
     /// as it is. The faults of effects are:
     ///
-    /// - `SetLogic`: `Logic` for a name that isn't taken, and after a command that set a logic, declared,
-    ///   defined, asserted, changed levels or checked, since the start or the last `Reset` (SMT-LIB 2.6,
-    ///   sections 4.1.1 and 4.2.1).
+    /// - `SetLogic`: `Logic` for a name that the profile doesn't take, and after a command that set a logic,
+    ///   declared, defined, asserted, changed levels or checked, since the start or the last `Reset` (SMT-LIB
+    ///   2.6, sections 4.1.1 and 4.2.1).
     /// - `DeclareConst`, `DeclareFun`: `Term` with `NotFresh` for a name that is in use or is a plain
     ///   operator's, and with the fault of the first tree that names no sort of the theories in force
     ///   (section 4.2.3).
-    /// - `DefineFun`: the same for its name; then, parameter by parameter, `Term` with the fault of the tree
-    ///   of its sort and with `BoundTwice` for a name that an earlier one has; then with the fault of the
-    ///   tree of the result's sort, with the first fault of the body, which sees the parameters and not the
-    ///   name, and with `IllSorted` for a body of another sort (section 4.2.3).
+    /// - `DefineFun`, `DefineConst`: the same for its name; then, parameter by parameter, `Term` with the
+    ///   fault of the tree of its sort and with `BoundTwice` for a name that an earlier one has; then with the
+    ///   fault of the tree of the result's sort, with the first fault of the body, which sees the parameters
+    ///   and not the name, and with `IllSorted` for a body of another sort (section 4.2.3).
     /// - `DefineSort`: `Term` with `NotFresh` for a name that abbreviates a sort, `Bool` and `Int`, and then
     ///   with the fault of a tree that names no sort (section 4.2.3).
     /// - `Assert`: `Term` with the first fault of its term, that of a label among them, and then with
@@ -197,13 +201,14 @@ impl Stack {
         requires { last_of self.old < number }
         ensures faultless { OnOk result
             ((commands : List Numbered) → StandsFor self.old commands
-            → flaw_of_effect commands number (command_view command.now) ≡ None) }
+            → flaw_of_effect (profile_of self.old) commands number (command_view command.now) ≡ None) }
         ensures applied { OnOk result ((commands : List Numbered) → StandsFor self.old commands
             → StandsFor self.new (commands ++ record { number = number; command = command_view command.now }
             ∷ [])) }
         ensures last { OnOk result (last_of self.new ≡ number) }
         ensures refused { IfErr result (λ fault. (commands : List Numbered) → StandsFor self.old commands
-            → TellsCommand (flaw_of_effect commands number (command_view command.now)) fault) }
+            → TellsCommand (flaw_of_effect (profile_of self.old) commands number (command_view command.now))
+            fault) }
         ensures unchanged { OnErr result
             (((commands : List Numbered) → StandsFor self.old commands → StandsFor self.new commands)
             × (last_of self.new ≡ last_of self.old)
@@ -212,7 +217,7 @@ impl Stack {
             (contents_of (library_of self.new))) }
         ensures ended { OnOk result (ends_assumptions (command_view command.now) ≡ true
             → transient_of (library_of self.new) ≡ []) }
-        ensures start { initial_print_success_of self.new ≡ initial_print_success_of self.old }
+        ensures start { start_of self.new ≡ start_of self.old }
     {
         self.try_effect(number, command)?;
         self.note(command);

@@ -38,7 +38,7 @@ use Rattle.smt_terms.proofs.IntroducedLemmas.{is_given}
 use Rattle.smt_terms.proofs.DenotesLemmas.{denotes_kept}
 use Rattle.smt_terms.proofs.ItemLemmas.{names_as}
 use Rattle.smt_terms.proofs.StandsLemmas.{under_longer}
-use Rattle.smt_terms.proofs.WholeLemmas.{given_as}
+use Rattle.smt_terms.proofs.KeptTermLemmas.{given_as}
 
 -- ## Labels that are new
 

@@ -19,7 +19,7 @@ use Rattle.smt_terms.specs.Internal.NodesView.{nodes_given}
 use Rattle.smt_terms.specs.Internal.TableView.{AreNamed, IsReady, places_seen, rows_in, slots_seen, table_in}
 use Rattle.smt_terms.specs.declared.labels.Labels.{Labels}
 use Rattle.smt_terms.specs.declared.library.Library.{Library}
-use Rattle.smt_terms.specs.declared.library.draft.Checked.{Checked}
+use Rattle.smt_terms.specs.declared.library.draft.CheckedTerm.{CheckedTerm}
 use Rattle.smt_terms.specs.declared.library.draft.Draft.{Draft}
 use Rattle.smt_terms.proofs.AroundLemmas.{bound_later, denotes_around}
 use Rattle.smt_terms.proofs.CheckerLemmas.{Scope}
@@ -65,7 +65,7 @@ module _ (d mid inner : Draft) (bindings : Sexps) (bound : Scope) (kept : SeesTh
 
 -- a `let` whose values stand for theirs, and its body for its own
 pub let_stands : (library : Library) (d mid inner last cut new : Draft) (args bindings : Sexps) (body : Sexp)
-    (bound : Scope) (js : List ℕ) (b : Bool) (checked c : Checked) → args ≡ Cons (Items bindings) (Cons body Nil)
+    (bound : Scope) (js : List ℕ) (b : Bool) (checked c : CheckedTerm) → args ≡ Cons (Items bindings) (Cons body Nil)
     → SeesTheSame d mid → d.base ≤ length (seen_by d)
     → seen_by inner ≡ placed_from (length (seen_by mid)) bound ++ seen_by mid → inner.base ≡ mid.base
     → inner.labels ≡ mid.labels → inner.nodes ≡ mid.nodes → names_of bound ≡ map (λ t. t.0) (named_trees bindings)
@@ -143,7 +143,7 @@ labelled_holds (x ∷ xs) bare labelled some h = h
 
 -- one without labels
 pub annotated_stands : (library : Library) (d mid new : Draft) (args attributes : Sexps) (term : Sexp)
-    (checked c : Checked) → args ≡ Cons term attributes → has_labels (labels_among attributes) ≡ false
+    (checked c : CheckedTerm) → args ≡ Cons term attributes → has_labels (labels_among attributes) ≡ false
     → GrowsTo d mid → Stands library d mid term checked → GrowsTo mid new → AddsAround library.nodes mid new checked.node c.node
     → c.is_open ≡ checked.is_open → Stands library d new (Items (Cons (Reserved Bang) args)) c
 annotated_stands library d mid new args attributes term checked c split none first stands second adds opened =
@@ -197,7 +197,7 @@ first_body bodies old new n (x ∷ xs) some more =
 
 -- a term with labels, the first of which names it
 pub labelled_stands : (library : Library) (d inner mid given new : Draft) (term : Sexp) (attributes : Sexps)
-    (place : ℕ) (checked c : Checked) → inner.labels ≡ d.labels → inner.nodes ≡ d.nodes
+    (place : ℕ) (checked c : CheckedTerm) → inner.labels ≡ d.labels → inner.nodes ≡ d.nodes
     → inner.base ≡ length (seen_by inner) → GrowsTo inner mid → Stands library inner mid term checked
     → checked.is_open ≡ false → uses_variable (sorts_seen d) term ≡ false
     → place ≡ length library.bodies.items + length mid.labels.given.items

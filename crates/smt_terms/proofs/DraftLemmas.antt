@@ -28,7 +28,7 @@ use Rattle.smt_terms.specs.Labels as spec
 use Rattle.smt_terms.specs.Signature.{Names, behind}
 use Rattle.smt_terms.specs.declared.labels.Labels.{Labels}
 use Rattle.smt_terms.specs.declared.library.Library.{Library}
-use Rattle.smt_terms.specs.declared.library.draft.Checked.{Checked}
+use Rattle.smt_terms.specs.declared.library.draft.CheckedTerm.{CheckedTerm}
 use Rattle.smt_terms.proofs.BinderLemmas.{bang_in, bang_with_parts}
 use Rattle.smt_terms.proofs.LabelLemmas.{or_none}
 use Rattle.smt_terms.specs.Internal.DraftView.{AreBelow, AreFrom, IsPlaced, Variables, inside, outside}
@@ -581,8 +581,8 @@ annotated_alone names scope args attributes t split is none =
 
 -- ## Outcomes of what is the same
 
-pub carried_sort : (r : Result Checked TermFault) (s t : Result Sort TermFlaw) → t ≡ s
-    → IsOutcome (λ (c : Checked). c.sort) s r → IsOutcome (λ (c : Checked). c.sort) t r
+pub carried_sort : (r : Result CheckedTerm TermFault) (s t : Result Sort TermFlaw) → t ≡ s
+    → IsOutcome (λ (c : CheckedTerm). c.sort) s r → IsOutcome (λ (c : CheckedTerm). c.sort) t r
 carried_sort (Ok c) s t e h = e ∙ h
 carried_sort (Err f) s t e (inl m) = inl m
 carried_sort (Err f) s t e (inr h) = inr (e ∙ h)
@@ -591,8 +591,8 @@ pub tells_same : {A : Type 0} (s t : Result A TermFlaw) (e : TermFault) → t �
 tells_same s t e is (inl m) = inl m
 tells_same s t e is (inr h) = inr (is ∙ h)
 
-pub carried_open : (r : Result Checked TermFault) (b c : Bool) → c ≡ b
-    → IfOk r (λ (k : Checked). k.is_open ≡ b) → IfOk r (λ (k : Checked). k.is_open ≡ c)
+pub carried_open : (r : Result CheckedTerm TermFault) (b c : Bool) → c ≡ b
+    → IfOk r (λ (k : CheckedTerm). k.is_open ≡ b) → IfOk r (λ (k : CheckedTerm). k.is_open ≡ c)
 carried_open (Ok k) b c is h = h ∙ sym is
 carried_open (Err f) b c is h = h
 

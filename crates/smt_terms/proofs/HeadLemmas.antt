@@ -13,6 +13,8 @@ use Rattle.smt_theory.specs.declared.op.Op.{Op}
 use Rattle.smt_theory.specs.declared.op.OpFault.{OpFault}
 use Rattle.smt_theory.specs.declared.op.OpFault.TheVariants.{Unknown}
 use Rattle.smt_theory.specs.declared.sort.Sort.{Sort}
+use Rattle.smt_names.specs.Entries.{entries_of}
+use Rattle.smt_terms.proofs.LibraryLemmas.{found}
 use Rattle.smt_terms.specs.Denotes.{Head, applied_node, named_node}
 use Rattle.smt_terms.specs.Internal.LibraryView.{names_of_library, places_of_library, rank_of}
 use Rattle.smt_terms.specs.Internal.NodesView.{IsNodeOf}
@@ -31,30 +33,16 @@ pub matched_along : (r : Answer) (s t : Result Sort TermFlaw) → s ≡ t
 matched_along (Ok p) s t same h = same ∙ h
 matched_along (Err flaw) s t same h = same ∙ h
 
--- what is seen of an entry that is looked up
-look_up-seen : {A B C : Type 0} (f : A → List ℕ) (g : B → C) (entries : List (A × B)) (x : List ℕ)
-    → look_up (map (λ p. (f p.0, g p.1)) entries) x
-    ≡ option_map g (look_up (map (λ p. (f p.0, p.1)) entries) x)
-look_up-seen f g [] x = refl
-look_up-seen {B = B} {C = C} f g (p ∷ ps) x = by (bytes_eq x (f p.0)) (look_up-seen f g ps x)
-  where
-    by : (b : Bool) → look_up (map (λ q. (f q.0, g q.1)) ps) x
-        ≡ option_map g (look_up (map (λ q. (f q.0, q.1)) ps) x)
-        → cond b (Some (g p.1)) (look_up (map (λ q. (f q.0, g q.1)) ps) x)
-        ≡ option_map g (cond b (Some p.1) (look_up (map (λ q. (f q.0, q.1)) ps) x))
-    by true h = refl
-    by false h = h
-
 -- the head of an entry that is found by its rank and its place
 head_found : (library : Library) (x : List ℕ) (e : Entry)
     → Some (rank_of e) ≡ look_up (names_of_library library).ranks x
     → Some e.place ≡ look_up (places_of_library library) x
     → look_up (heads_of_library library) x ≡ Some (head_of e)
 head_found library x e ranked placed =
-    look_up-seen (λ k. k.items) head_of library.names.entries x
-    ∙ by (look_up (map (λ p. (p.0.items, p.1)) library.names.entries) x)
-    (ranked ∙ look_up-seen (λ k. k.items) rank_of library.names.entries x)
-    (placed ∙ look_up-seen (λ k. k.items) (λ d. d.place) library.names.entries x)
+    sym (found head_of (entries_of library.names) x)
+    ∙ by (look_up (entries_of library.names) x)
+    (ranked ∙ sym (found rank_of (entries_of library.names) x))
+    (placed ∙ sym (found (λ d. d.place) (entries_of library.names) x))
   where
     by : (o : Option Entry) → Some (rank_of e) ≡ option_map rank_of o
         → Some e.place ≡ option_map (λ d. d.place) o → option_map head_of o ≡ Some (head_of e)

@@ -12,13 +12,14 @@ use Rattle.smt_theory.specs.Sort.{is_same_sort}
 use Rattle.smt_theory.specs.Words.{look_up, result_and_then}
 use Rattle.smt_theory.specs.declared.sort.Sort.{Sort}
 use Rattle.smt_theory.specs.declared.theories.Theories.{Theories}
+use Rattle.smt_names.specs.Entries.{entries_of}
 use Rattle.smt_terms.specs.Checking.{unless}
 use Rattle.smt_terms.specs.Definitions.{definition_in, parameters_named}
 use Rattle.smt_terms.specs.Internal.LibraryView.{names_of_library, places_of_library, sort_names}
 use Rattle.smt_terms.specs.Internal.TableView.{head_of}
-use Rattle.smt_forms.specs.ItemForm.{ItemForm, item_form}
+use Rattle.smt_forms.specs.ItemForm.{ItemForm}
 use Rattle.smt_terms.specs.Freshness.{is_defined_before, is_taken, is_taken_undeclared, name_flaw}
-use Rattle.smt_terms.specs.Items.{defined_as, form_in, has_rank_of, item_in, items_before}
+use Rattle.smt_terms.specs.Items.{defined_as, form_in, has_rank_of, items_before}
 use Rattle.smt_terms.specs.Labels.{Refused}
 use Rattle.smt_terms.specs.Library.{HasTheoriesOf, StandsFor, is_declared}
 use Rattle.smt_terms.specs.Signature as signature
@@ -52,12 +53,12 @@ sorts_as library s stands =
 -- a name stands where its entry does
 places_viewed : (es : Pairs Held) → places_in (viewed head_of es) ≡ viewed (λ e. e.place) es
 places_viewed [] = refl
-places_viewed (p ∷ es) = ap (λ (ps : List (List ℕ × Found)). (p.0.items, p.1.place) ∷ ps) (places_viewed es)
+places_viewed (p ∷ es) = ap (λ (ps : List (List ℕ × Found)). (p.0, p.1.place) ∷ ps) (places_viewed es)
 
 pub places_as : (library : Library) (s : Signature) → StandsFor library s
     → places_of_library library ≡ places_from 0 0 s.entries
 places_as library s stands =
-    sym (places_viewed library.names.entries) ∙ ap places_in stands.terms.heads ∙ places-heads 0 0 s.entries
+    sym (places_viewed (entries_of library.names)) ∙ ap places_in stands.terms.heads ∙ places-heads 0 0 s.entries
 
 -- those of what a model's library stands for are the ones that a body sees
 pub names_before : (library script : Library) (s m : Signature) → HasTheoriesOf library script
@@ -120,48 +121,46 @@ abbrev pub item_behind : Signature → List Entry → ItemForm → Result Entry 
 item_behind s es form = result_and_then (parameters_named (sort_names_of s) [] form.parameters)
     (λ ps. result_and_then (sort_named (sort_names_of s) form.sort) (λ sort. defined_as s es form ps sort))
 
-pub item_named : (s : Signature) (es : List Entry) (t : Sexp) (form : ItemForm) → item_form t ≡ Ok form
-    → name_flaw s es form.name ≡ None → item_in s es t ≡ item_behind s es form
-item_named s es t form is free =
-    ap (λ r. result_and_then r (λ f. form_in s es f)) is ∙ ap (λ o. unless o (item_behind s es form)) free
+pub item_named : (s : Signature) (es : List Entry) (form : ItemForm) → name_flaw s es form.name ≡ None
+    → form_in s es form ≡ item_behind s es form
+item_named s es form free = ap (λ o. unless o (item_behind s es form)) free
 
 -- with parameters that have sorts
-pub item_bound : (s : Signature) (es : List Entry) (t : Sexp) (form : ItemForm) (ps : Params)
-    → item_form t ≡ Ok form → name_flaw s es form.name ≡ None
+pub item_bound : (s : Signature) (es : List Entry) (form : ItemForm) (ps : Params)
+    → name_flaw s es form.name ≡ None
     → parameters_named (sort_names_of s) [] form.parameters ≡ Ok ps
-    → item_in s es t ≡ result_and_then (sort_named (sort_names_of s) form.sort)
+    → form_in s es form ≡ result_and_then (sort_named (sort_names_of s) form.sort)
     (λ sort. defined_as s es form ps sort)
-item_bound s es t form ps is free bound =
-    item_named s es t form is free ∙ ap
+item_bound s es form ps free bound =
+    item_named s es form free ∙ ap
     (λ r. result_and_then r (λ qs. result_and_then (sort_named (sort_names_of s) form.sort)
     (λ sort. defined_as s es form qs sort))) bound
 
 -- with a sort, and by whether it keeps the rank of its declaration
-pub item_ranked : (s : Signature) (es : List Entry) (t : Sexp) (form : ItemForm) (ps : Params) (sort : Sort)
-    (b : Bool) → item_form t ≡ Ok form → name_flaw s es form.name ≡ None
+pub item_ranked : (s : Signature) (es : List Entry) (form : ItemForm) (ps : Params) (sort : Sort)
+    (b : Bool) → name_flaw s es form.name ≡ None
     → parameters_named (sort_names_of s) [] form.parameters ≡ Ok ps
     → sort_named (sort_names_of s) form.sort ≡ Ok sort
     → has_rank_of (declared_named s.entries form.name) (map (λ p. p.1) ps) sort ≡ b
-    → item_in s es t ≡ cond (not b) (Err IllSorted)
+    → form_in s es form ≡ cond (not b) (Err IllSorted)
     (definition_in (names_of (items_before s es)) form.name ps sort form.body)
-item_ranked s es t form ps sort b is free bound sorted kept =
-    item_bound s es t form ps is free bound ∙ ap
+item_ranked s es form ps sort b free bound sorted kept =
+    item_bound s es form ps free bound ∙ ap
     (λ r. result_and_then r (λ z. defined_as s es form ps z)) sorted
     ∙ ap (λ c. cond (not c) (Err IllSorted)
     (definition_in (names_of (items_before s es)) form.name ps sort form.body)) kept
 
 -- what an item defines, where its name is fit, its sorts are known and it keeps the rank of its declaration
-pub item_step : (library script : Library) (s m : Signature) (t : Sexp) (form : ItemForm) (ps qs rs : Params)
+pub item_step : (library script : Library) (s m : Signature) (form : ItemForm) (ps qs rs : Params)
     (sort : Sort) (b : Bool) → HasTheoriesOf library script → StandsFor script s → StandsFor library m
-    → item_form t ≡ Ok form
     → name_flaw s m.entries form.name ≡ None
     → parameters_named (sort_names script.sorts) [] form.parameters ≡ Ok ps
     → Ok sort ≡ sort_named (sort_names script.sorts) form.sort
     → b ≡ has_rank_of (declared_named s.entries form.name) (map (λ p. p.1) qs) sort → b ≡ true
-    → qs ≡ ps → rs ≡ ps → item_in s m.entries t ≡ definition_in (names_of m) form.name rs sort form.body
-item_step library script s m t form ps qs rs sort b same stands items is free bound sorted kept true_ first
+    → qs ≡ ps → rs ≡ ps → form_in s m.entries form ≡ definition_in (names_of m) form.name rs sort form.body
+item_step library script s m form ps qs rs sort b same stands items free bound sorted kept true_ first
     second =
-    item_ranked s m.entries t form ps sort true is free
+    item_ranked s m.entries form ps sort true free
     (ap (λ sorts. parameters_named sorts [] form.parameters) (sym (sorts_as script s stands)) ∙ bound)
     (ap (λ sorts. sort_named sorts form.sort) (sym (sorts_as script s stands)) ∙ sym sorted)
     (ap (λ (vs : Params). has_rank_of (declared_named s.entries form.name) (map (λ p. p.1) vs) sort)

@@ -9,7 +9,7 @@ use Rattle.smt_theory.specs.Words.{result_and_then}
 use Rattle.smt_theory.specs.declared.sort.Sort.{Sort}
 use Rattle.smt_terms.specs.Checking.{unless}
 use Rattle.smt_terms.specs.Definitions.{definition, definition_in, parameters_named}
-use Rattle.smt_forms.specs.ItemForm.{ItemForm, item_form}
+use Rattle.smt_forms.specs.ItemForm.{ItemForm}
 use Rattle.smt_terms.specs.Items.{defined_as, form_in, has_rank_of, item_in, items_before}
 use Rattle.smt_terms.specs.Freshness.{is_taken, is_taken_undeclared, name_flaw}
 use Rattle.smt_terms.specs.Signature.{Entry, KeepsRank, Signature, declared_named, entry_named, names_of}
@@ -19,6 +19,7 @@ use Rattle.smt_terms.specs.WellSorted.{AreDifferent, IsWellSorted}
 use Rattle.smt_faults.specs.declared.term_flaw.TermFlaw.{TermFlaw}
 use Rattle.smt_faults.specs.declared.term_flaw.TermFlaw.TheVariants.{BoundTwice, IllSorted, NotFresh}
 use Rattle.smt_terms.proofs.DefinitionSortLemmas.{AreCompared, different, well_sorted}
+use Rattle.smt_terms.proofs.RepeatedLemmas.{taken_by}
 
 -- what an item that is taken defines
 pub record IsItem (script : Signature) (earlier : List Entry) (e : Entry) : Type 0 where
@@ -28,7 +29,7 @@ pub record IsItem (script : Signature) (earlier : List Entry) (e : Entry) : Type
   pub ranked : has_rank_of (declared_named script.entries e.name) e.parameters e.sort ≡ true
 
 -- a name without a fault is new among the items, and fit
-no_fault : (script : Signature) (earlier : List Entry) (x : List ℕ) → name_flaw script earlier x ≡ None
+pub no_fault : (script : Signature) (earlier : List Entry) (x : List ℕ) → name_flaw script earlier x ≡ None
     → (entry_named earlier x ≡ None) × (is_taken_undeclared script x ≡ false)
 no_fault script earlier x h = by (entry_named earlier x) (is_taken_undeclared script x) h
   where
@@ -90,13 +91,10 @@ IsItem-form compared script earlier form e h = by (name_flaw script earlier form
 
 -- so is what an item defines
 pub IsItem-taken : AreCompared → (script : Signature) (earlier : List Entry) (tree : Sexp) (e : Entry)
-    → item_in script earlier tree ≡ Ok e → IsItem script earlier e
-IsItem-taken compared script earlier tree e h = by (item_form tree) h
-  where
-    by : (r : Result ItemForm TermFlaw) → result_and_then r (λ form. form_in script earlier form) ≡ Ok e
-        → IsItem script earlier e
-    by (Err f) h = cc
-    by (Ok form) h = IsItem-form compared script earlier form e h
+    → item_in script earlier tree ≡ Ok (Some e) → IsItem script earlier e
+IsItem-taken compared script earlier tree e h =
+    let t = taken_by script earlier tree e h in
+    IsItem-form compared script earlier t.0 e t.2
 
 -- a rank that is tested is kept
 pub KeepsRank-tested : AreCompared → (o : Option Entry) (d e : Entry) → o ≡ Some d

@@ -18,12 +18,15 @@ pub mod ItemLemmas
 pub mod DefinitionLemmas
 pub mod DefinitionSortLemmas
 pub mod ItemSortLemmas
+pub mod RepeatedLemmas
+pub mod SetAsideLemmas
+pub mod ProfileLemmas
 pub mod WrittenLemmas
 pub mod DraftLemmas
 pub mod DenotesLemmas
 pub mod BodyLemmas
-pub mod WholeLemmas
-pub mod ClosingLemmas
+pub mod KeptTermLemmas
+pub mod WholeTermLemmas
 pub mod HeadLemmas
 pub mod EndLemmas
 pub mod FirstRowLemmas

@@ -26,7 +26,7 @@ use Rattle.smt_terms.specs.declared.library.Found.{Found}
 use Rattle.smt_terms.specs.declared.library.Found.TheVariants as place
 use Rattle.smt_terms.specs.declared.library.Library.{Library}
 use Rattle.smt_terms.specs.declared.library.draft.Bound.{Bound}
-use Rattle.smt_terms.specs.declared.library.draft.Checked.{Checked}
+use Rattle.smt_terms.specs.declared.library.draft.CheckedTerm.{CheckedTerm}
 use Rattle.smt_terms.specs.declared.library.draft.Draft.{Draft}
 use Rattle.smt_terms.proofs.CheckerLemmas.{IsPlainHead, underscore_head}
 use Rattle.smt_terms.proofs.DenotesLemmas.{all_kept}
@@ -59,17 +59,17 @@ pub is_row : (o : Option Row) (r : Row) → o ≡ Some r → IsRow o r.around (S
 is_row o r h = subst (λ (p : Option Row). IsRow p r.around (Some r.node)) (sym h) (refl, refl)
 
 -- the node that is added is found by its number
-pub row_added : (library : Library) (old new : Draft) (n : Node) (c : Checked) → AddsNode library.nodes old new n c
+pub row_added : (library : Library) (old new : Draft) (n : Node) (c : CheckedTerm) → AddsNode library.nodes old new n c
     → IsRow (slice_get (rows_in library new) (length (rows_in library old))) 0 (Some n)
 row_added library old new n c adds =
-    is_row (slice_get (rows_in library new) (length (rows_in library old))) (bare_row n c.sort)
+    is_row (slice_get (rows_in library new) (length (rows_in library old))) (bare_row n)
     (ap (λ (rs : List Row). slice_get rs (length (rows_in library old))) adds.rows
-    ∙ added (rows_in library old) (bare_row n c.sort))
+    ∙ added (rows_in library old) (bare_row n))
 
-pub number_added : (library : Library) (old new : Draft) (n : Node) (c : Checked) → AddsNode library.nodes old new n c
+pub number_added : (library : Library) (old new : Draft) (n : Node) (c : CheckedTerm) → AddsNode library.nodes old new n c
     → c.node < length (rows_in library new)
 number_added library old new n c adds =
-    omega (arith, adds.number, ap length adds.rows, length-append (rows_in library old) (bare_row n c.sort ∷ []))
+    omega (arith, adds.number, ap length adds.rows, length-append (rows_in library old) (bare_row n ∷ []))
 
 -- ## What is named has a body
 
@@ -107,7 +107,7 @@ has_body t (Indexed f is) args n ready h =
 -- ## One node more
 
 -- a node that is added behind others stands for a term where it does so by its number
-pub made_stands : (library : Library) (old mid new : Draft) (term : Sexp) (n : Node) (c : Checked)
+pub made_stands : (library : Library) (old mid new : Draft) (term : Sexp) (n : Node) (c : CheckedTerm)
     → GrowsTo old mid → KeepsNamed library old mid → GrowsTo mid new → AddsNode library.nodes mid new n c
     → (IsReady (table_in library old) → c.is_open ≡ false
     → HasBodyBelow (table_in library mid).bodies (length (rows_in library mid)) (Some n)
@@ -132,7 +132,7 @@ made_stands library old mid new term n c first named second adds made = record {
 -- ## Leaves
 
 -- a literal
-pub literal_stands : (library : Library) (old new : Draft) (term : Sexp) (n : Node) (c : Checked)
+pub literal_stands : (library : Library) (old new : Draft) (term : Sexp) (n : Node) (c : CheckedTerm)
     → GrowsTo old new → AddsNode library.nodes old new n c
     → HasBodyBelow (table_in library old).bodies (length (rows_in library old)) (Some n)
     → ((t : Table) (slots : Slots) (next i : ℕ) → IsNode t 0 i (Some n) → Denotes t slots next 0 i term)
@@ -145,7 +145,7 @@ literal_stands library old new term n c longer adds body made =
     ))
 
 -- a variable
-pub variable_stands : (library : Library) (old new : Draft) (x : List ℕ) (b : Bound) (c : Checked)
+pub variable_stands : (library : Library) (old new : Draft) (x : List ℕ) (b : Bound) (c : CheckedTerm)
     → IsPlaced (seen_by old) old.base → look_up (seen_by old) x ≡ Some b
     → c.is_open ≡ nat_lt b.place old.base → GrowsTo old new
     → AddsNode library.nodes old new (node.Slot (b.place - old.base)) c → Stands library old new (Atom Symbol x) c
@@ -161,7 +161,7 @@ variable_stands library old new x b c placed found is longer adds =
 
 -- an application whose node is as the table of names has it
 applied_stands : (library : Library) (old mid new : Draft) (term : Sexp) (f : Identifier) (sorts : List Sort)
-    (args : List ℕ) (c : Checked) → GrowsTo old mid → KeepsNamed library old mid → GrowsTo mid new
+    (args : List ℕ) (c : CheckedTerm) → GrowsTo old mid → KeepsNamed library old mid → GrowsTo mid new
     → AddsApplied library mid new f sorts args c → length args ≡ length sorts
     → (IsReady (table_in library old) → c.is_open ≡ false
     → IsNode (table_in library new) 0 (length (rows_in library mid)) (node_of (table_in library new) f args)
@@ -186,7 +186,7 @@ applied_stands library old mid new term f sorts args c first named second adds c
         by (Indexed x is) = refl
 
 -- a symbol that is no variable
-pub symbol_stands : (library : Library) (old new : Draft) (x : List ℕ) (c : Checked)
+pub symbol_stands : (library : Library) (old new : Draft) (x : List ℕ) (c : CheckedTerm)
     → look_up (seen_by old) x ≡ None → GrowsTo old new → AddsApplied library old new (Plain x) [] [] c
     → Stands library old new (Atom Symbol x) c
 symbol_stands library old new x c none longer adds =
@@ -197,7 +197,7 @@ symbol_stands library old new x c none longer adds =
 
 -- an identifier with indexes alone
 pub indexed_stands : (library : Library) (old new : Draft) (head : Sexp) (args parts : Sexps) (f : Identifier)
-    (c : Checked) → parts ≡ Cons head args → begins_indexed head ≡ true → indexed args ≡ Ok f
+    (c : CheckedTerm) → parts ≡ Cons head args → begins_indexed head ≡ true → indexed args ≡ Ok f
     → GrowsTo old new → AddsApplied library old new f [] [] c → Stands library old new (Items parts) c
 indexed_stands library old new head args parts f c split is_head is longer adds =
     subst (λ (ps : Sexps). Stands library old new (Items ps) c)
@@ -223,7 +223,7 @@ other_denotes t slots next around i head args other f js is made all =
 
 -- an application to arguments that stand for theirs
 pub call_stands : (library : Library) (old mid new : Draft) (head : Sexp) (args parts : Sexps) (f : Identifier)
-    (sorts : List Sort) (js : List ℕ) (is_open : Bool) (c : Checked) → parts ≡ Cons head args → IsPlainHead head
+    (sorts : List Sort) (js : List ℕ) (is_open : Bool) (c : CheckedTerm) → parts ≡ Cons head args → IsPlainHead head
     → applied head args ≡ Ok f → c.is_open ≡ is_open → GrowsTo old mid
     → TermsStand library old mid args js is_open → length js ≡ length sorts → GrowsTo mid new
     → AddsApplied library mid new f sorts js c → Stands library old new (Items parts) c

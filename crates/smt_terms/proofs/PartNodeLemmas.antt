@@ -8,7 +8,7 @@ use Rattle.smt_terms.specs.Internal.Calls.{SeesTheSame}
 use Rattle.smt_terms.specs.Internal.NodesView.{Denoting, GrowsTo, KeepsNamed, PartsStand, Stands}
 use Rattle.smt_terms.specs.Internal.TableView.{IsReady, places_seen, slots_seen, table_in}
 use Rattle.smt_terms.specs.declared.library.Library.{Library}
-use Rattle.smt_terms.specs.declared.library.draft.Checked.{Checked}
+use Rattle.smt_terms.specs.declared.library.draft.CheckedTerm.{CheckedTerm}
 use Rattle.smt_terms.specs.declared.library.draft.Draft.{Draft}
 use Rattle.smt_terms.proofs.BinderLemmas.{binding}
 use Rattle.smt_terms.proofs.ClosedLemmas.{neither}
@@ -61,7 +61,7 @@ so_far-none Are library d all done none = record {
 
 -- one more
 pub so_far-next : (Are : Denoting) (library : Library) (old mid new : Draft) (all left rest : Sexps)
-    (done after : List ℕ) (is_open : Bool) (term : Sexp) (c : Checked)
+    (done after : List ℕ) (is_open : Bool) (term : Sexp) (c : CheckedTerm)
     → SoFar Are library old mid all left done is_open → SeesTheSame old mid → StandsFirst Are term left rest
     → GrowsTo mid new → Stands library mid new term c → after ≡ done ++ c.node ∷ []
     → SoFar Are library old new all rest after (is_open || c.is_open)

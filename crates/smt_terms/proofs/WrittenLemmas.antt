@@ -1,6 +1,6 @@
 -- What declarations, definitions, items and labels bring is what they say.
 use Rattle.std.proofs.Common.{◌≡◌, ℕ, Bool, true, false, cond, not, List, [], ◌∷◌, ◌++◌, map, is_some, Result}
-use Rattle.std.proofs.Common.{Ok, Err, refl, ap, sym, ◌∙◌, subst, append_assoc, append-nil}
+use Rattle.std.proofs.Common.{Some, Ok, Err, refl, ap, sym, ◌∙◌, subst, append_assoc, append-nil}
 use Rattle.std.proofs.lemmas.List.{map-append}
 use Rattle.smt_trees.specs.Sexp.{Sexp, Sexps, Atom, Reserved, Items, Nil, Cons, Symbol}
 use Rattle.smt_trees.specs.declared.reserved.Word.TheVariants.{DefineFun, DefineFunRec, DefineFunsRec}
@@ -28,6 +28,7 @@ use Rattle.smt_terms.proofs.ClosedLemmas.{of_ok}
 use Rattle.smt_terms.proofs.IntroducedLemmas.{AreFit, fit, passed, passed-else}
 use Rattle.smt_terms.proofs.ItemLemmas.{Params}
 use Rattle.smt_terms.proofs.KeptLemmas.{answered, unless-none}
+use Rattle.smt_terms.proofs.RepeatedLemmas.{taken_by}
 
 -- ## Declarations
 
@@ -145,7 +146,7 @@ pub record IsFormOf (tree : Sexp) (form : ItemForm) : Type 0 where
   pub named : are_named_trees parameters ≡ true
   pub same : form.parameters ≡ named_trees parameters
 
-form_of : (tree : Sexp) (form : ItemForm) → item_form tree ≡ Ok form → IsFormOf tree form
+pub form_of : (tree : Sexp) (form : ItemForm) → item_form tree ≡ Ok form → IsFormOf tree form
 form_of (Items (Cons (Reserved DefineFunRec) rest)) form h = cc
 form_of (Items (Cons (Reserved DefineFunsRec) rest)) form h = cc
 form_of (Items (Cons (Reserved DefineFun)
@@ -187,9 +188,9 @@ form_defined script earlier form e h =
     (as_written sorts form.name form.parameters form.sort form.body a.0 b.0 a.1 b.1)
 
 pub written-item : (script : Signature) (earlier : List Entry) (tree : Sexp) (e : Entry)
-    → item_in script earlier tree ≡ Ok e → IsPrintedAs (sort_names_of script) tree e
+    → item_in script earlier tree ≡ Ok (Some e) → IsPrintedAs (sort_names_of script) tree e
 written-item script earlier tree e h =
-    let a = answered (item_form tree) (λ form. form_in script earlier form) e h in
+    let a = taken_by script earlier tree e h in
     let form = a.0 in
     let is = form_of tree form a.1 in
     let d = form_defined script earlier form e a.2 in

@@ -1,7 +1,7 @@
 -- SMT-LIB 2.6, section 4.2.6: the items of a printed model, which are definitions. The order of the faults is
 -- this project's rule.
-use Rattle.std.specs.Prelude.{ℕ, List, [], Bool, true, not, ◌&&◌, Option, Some, None, Result, Err, map}
-use Rattle.std.specs.Prelude.{if◌then◌else◌}
+use Rattle.std.specs.Prelude.{ℕ, List, [], ◌∷◌, Bool, true, not, ◌&&◌, Option, Some, None, is_some, Result, Ok}
+use Rattle.std.specs.Prelude.{Err, map, if◌then◌else◌}
 use Rattle.smt_trees.specs.Sexp.{Sexp}
 use Rattle.smt_theory.specs.Ranks.{are_exactly}
 use Rattle.smt_theory.specs.Sort.{is_same_sort}
@@ -11,7 +11,8 @@ use Rattle.smt_forms.specs.ItemForm.{ItemForm, item_form}
 use Rattle.smt_terms.specs.Checking.{unless}
 use Rattle.smt_terms.specs.Definitions.{definition_in, parameters_named}
 use Rattle.smt_terms.specs.Freshness.{name_flaw}
-use Rattle.smt_terms.specs.Signature.{Entry, Signature, declared_named, names_of, no_names, sort_names_of}
+use Rattle.smt_terms.specs.Signature.{Entry, Signature, declared_named, entry_named, names_of, no_names}
+use Rattle.smt_terms.specs.Signature.{sort_names_of}
 use Rattle.smt_terms.specs.SortTrees.{sort_named}
 use Rattle.smt_faults.specs.declared.term_flaw.TermFlaw.{TermFlaw}
 use Rattle.smt_faults.specs.declared.term_flaw.TermFlaw.TheVariants.{IllSorted}
@@ -42,6 +43,40 @@ form_in script earlier form =
     (λ ps. result_and_then (sort_named (sort_names_of script) form.sort)
     (λ s. defined_as script earlier form ps s)))
 
--- what an item of a model of the script's names defines behind the earlier items, or its first fault
-abbrev pub item_in : Signature → List Entry → Sexp → Result Entry TermFlaw
-item_in script earlier tree = result_and_then (item_form tree) (λ form. form_in script earlier form)
+-- ---- items that are no part of a model
+
+-- whether the script defines the name: it has it, and no command declared it
+abbrev pub is_defined_in : Signature → List ℕ → Bool
+is_defined_in script x =
+    is_some (entry_named script.entries x) && not (is_some (declared_named script.entries x))
+
+-- whether items of this name are set aside: in the wide profile those that repeat a definition of the script
+abbrev pub is_set_aside : Signature → List ℕ → Bool
+is_set_aside script x = script.theories.wide && is_defined_in script x
+
+-- an item that repeats a definition comes to nothing, if it has that definition's rank: its body is not looked
+-- at
+abbrev pub repeated_in : Signature → ItemForm → Result (Option Entry) TermFlaw
+repeated_in script form =
+    result_and_then (parameters_named (sort_names_of script) [] form.parameters)
+    (λ ps. result_and_then (sort_named (sort_names_of script) form.sort)
+    (λ s. if has_rank_of (entry_named script.entries form.name) (map (λ p. p.1) ps) s
+    then Ok None else Err IllSorted))
+
+-- ---- all items
+
+-- what an item of these parts comes to
+abbrev pub item_by : Signature → List Entry → ItemForm → Result (Option Entry) TermFlaw
+item_by script earlier form =
+    if is_set_aside script form.name then repeated_in script form
+    else result_and_then (form_in script earlier form) (λ e. Ok (Some e))
+
+-- what an item of a model of the script's names defines behind the earlier items, if it is not set aside; or
+-- its first fault
+abbrev pub item_in : Signature → List Entry → Sexp → Result (Option Entry) TermFlaw
+item_in script earlier tree = result_and_then (item_form tree) (item_by script earlier)
+
+-- what an item adds to the definitions of a model
+abbrev pub list_of : Option Entry → List Entry
+list_of None = []
+list_of (Some e) = e ∷ []

@@ -8,6 +8,7 @@ pub mod Definitions
 pub mod Assertions
 pub mod Items
 pub mod WellSorted
+pub mod Repeated
 pub mod Written
 pub mod Ends
 pub mod Contents

@@ -14,6 +14,7 @@ ghost use Rattle.smt_terms.specs.Contents.{needed_of};
 ghost use Rattle.smt_terms.specs.Definitions.{defined_in};
 ghost use Rattle.smt_terms.specs.Denotes.{Denotes, IsLonger, Slots, Table};
 ghost use Rattle.smt_forms.specs.Labels.{labels_in};
+ghost use Rattle.smt_terms.specs.Repeated.{IsRepeated, widened};
 ghost use Rattle.smt_terms.specs.Library.{Holds, IsTerm, IsTermOf, StandsFor, terms_of};
 ghost use Rattle.smt_terms.specs.Items.{item_in};
 ghost use Rattle.smt_terms.specs.Declarations.{declared_in};
@@ -46,18 +47,33 @@ pub fn definitions_are_well_sorted()
 /// declaration; elsewhere the name is free in the script.
 pub fn items_are_well_sorted()
     ensures sorted { (script : Signature) (earlier : List Entry) (tree : Sexp) (e : Entry)
-        → item_in script earlier tree ≡ Ok e → IsWellSorted script.theories earlier e }
+        → item_in script earlier tree ≡ Ok (Some e) → IsWellSorted script.theories earlier e }
     ensures fresh { (script : Signature) (earlier : List Entry) (tree : Sexp) (e : Entry)
-        → item_in script earlier tree ≡ Ok e → entry_named earlier e.name ≡ None }
+        → item_in script earlier tree ≡ Ok (Some e) → entry_named earlier e.name ≡ None }
     ensures ranked { (script : Signature) (earlier : List Entry) (tree : Sexp) (e d : Entry)
-        → item_in script earlier tree ≡ Ok e
+        → item_in script earlier tree ≡ Ok (Some e)
         → declared_named script.entries e.name ≡ Some d → KeepsRank d (Some e) }
     ensures free { (script : Signature) (earlier : List Entry) (tree : Sexp) (e : Entry)
-        → item_in script earlier tree ≡ Ok e
+        → item_in script earlier tree ≡ Ok (Some e)
         → declared_named script.entries e.name ≡ None → is_taken (names_of script) e.name ≡ false }
 {
     sorts_are_compared();
 }
+
+/// An item is set aside exactly where it repeats a definition or a label of the script, in the wide profile: it
+/// has its name and its rank, and any body. That is this project's choice.
+pub fn repeated_items_are_set_aside()
+    ensures { (script : Signature) (earlier : List Entry) (tree : Sexp)
+        → (item_in script earlier tree ≡ Ok None) ↔ IsRepeated script tree }
+{
+    sorts_are_compared();
+}
+
+/// What an item defines without the wide profile, it defines with it too.
+pub fn items_are_the_same_in_the_wide_profile()
+    ensures { (script : Signature) (earlier : List Entry) (tree : Sexp) (e : Entry)
+        → item_in script earlier tree ≡ Ok (Some e) → item_in (widened script) earlier tree ≡ Ok (Some e) }
+{}
 
 /// A term keeps its sort over more names, none of which hides an operator, where labels are not looked at.
 pub fn sorts_are_kept()
@@ -92,7 +108,7 @@ pub fn definitions_are_as_written()
 /// abbreviations have it.
 pub fn items_are_as_printed()
     ensures { (script : Signature) (earlier : List Entry) (tree : Sexp) (e : Entry)
-        → item_in script earlier tree ≡ Ok e → IsPrintedAs (sort_names_of script) tree e }
+        → item_in script earlier tree ≡ Ok (Some e) → IsPrintedAs (sort_names_of script) tree e }
 {}
 
 /// An assertion brings its labels, in order (SMT-LIB 2.6, section 3.6.5): each is a constant that the term

@@ -1,10 +1,8 @@
-//! The names in force, in the order in which they came, where each stands, and the nodes of the terms that
-//! were checked over them.
+//! The names in force, in the order in which they came, where each stands, and the nodes of the terms that were
+//! checked over them. This file checks no term: `library/checker` does.
 
 ghost use Rattle.std.specs.Prelude.{◌≡◌, length, bytes_eq};
-ghost use Rattle.std.specs.List.{IsDistinct};
 ghost use Rattle.std.proofs.Props.{props};
-ghost use Rattle.indexmap.specs.IndexMap.{keys};
 ghost use Rattle.smt_terms.specs.Ends.{ends_from};
 
 pub use marks::Mark;
@@ -12,20 +10,21 @@ pub use marks::Mark;
 mod assertions;
 mod binders;
 mod checker;
-mod closing;
 mod definitions;
 mod draft;
 mod freshness;
 mod items;
 mod marks;
 mod params;
+mod repeated;
 mod scope;
 mod transient;
+mod whole_terms;
 
 use crate::labels::Labels;
 use crate::sorts::SortNames;
-use indexmap::IndexMap;
 use smt_faults::{Memory, TermFault};
+use smt_names::NameMap;
 use smt_nodes::{Node, Nodes, TermId};
 use smt_theory::{Sort, Theories};
 use smt_trees::Tree;
@@ -82,7 +81,7 @@ pub struct Definition {
 pub struct Library {
     alloc: Global,
     sorts: SortNames,
-    names: IndexMap<Vec<u8>, Entry>,
+    names: NameMap<Entry>,
     declared: Vec<Declared>,
     definitions: Vec<Definition>,
     bodies: Vec<TermId>,
@@ -90,12 +89,12 @@ pub struct Library {
     ends: Vec<usize>,
     nodes: Nodes,
     transient: Nodes,
-    ghost distinct: { IsDistinct (λ a b. bytes_eq a.items b.items) (keys names) } by { Prim.hlevel props },
     ghost paired: { length bodies.items ≡ length definitions.items } by { Prim.hlevel props },
     ghost ended: { ends.items ≡ ends_from 0 bodies.items } by { Prim.hlevel props },
 }
 
 impl Library {
+    ghost use Rattle.smt_names.specs.Entries.{entries_of};
     ghost use Rattle.std.specs.Prelude.{◌≡◌, ◌<◌, ◌∷◌, ◌++◌, [], map, slice_get, option_copied, option_map};
     ghost use Rattle.std.specs.Prelude.{Some, None, Ok, Err, MatchOption, MatchResult, OnOk, OnErr, IfOk};
     ghost use Rattle.std.specs.Prelude.{IfErr, false};
@@ -130,7 +129,7 @@ impl Library {
         Library {
             alloc,
             sorts: SortNames::new(alloc, theories),
-            names: IndexMap::new(alloc),
+            names: NameMap::new(alloc),
             declared: Vec::new(alloc),
             definitions: Vec::new(alloc),
             bodies: Vec::new(alloc),
@@ -304,11 +303,11 @@ impl Library {
     // The same, by comparing one name after another: for few that takes less than a hash.
     fn get_among_few(&self, name: &[u8]) -> Option<&Entry>
         ensures { option_copied result
-            ≡ look_up (map (λ p. (p.0.items, p.1)) self.now.names.entries) name.now }
+            ≡ look_up (entries_of self.now.names) name.now }
     {
         for place in 0..self.names.len() {
             let (key, entry) = self.names.get_index(place).unwrap();
-            if name == key.as_slice() {
+            if name == key {
                 return Some(entry);
             }
         }
@@ -330,8 +329,7 @@ impl Library {
         requires { place < name_count self.now }
         ensures { slice_get (ranks_of_library self.now) place ≡ Some (result.0.now, rank_of result.1.now) }
     {
-        let (name, entry) = self.names.get_index(place).unwrap();
-        (name.as_slice(), entry)
+        self.names.get_index(place).unwrap()
     }
 
     // A declaration by the command, as the next name.
@@ -396,8 +394,6 @@ impl Library {
         ensures nodes { self.new.nodes ≡ self.old.nodes }
         ensures transient { self.new.transient ≡ self.old.transient }
     {
-        let key = Vec::from_slice(self.alloc, name)?;
-        self.names.insert(key, entry)?;
-        Ok(())
+        self.names.insert(name, entry)
     }
 }

@@ -5,9 +5,6 @@ ghost use Rattle.std.specs.Str.Parse.{digits_value};
 ghost use Rattle.smt_trees.specs.Tree.{sexp_of, sexps_of};
 ghost use Rattle.smt_theory.specs.Sort.{is_same_sort};
 ghost use Rattle.smt_theory.specs.Width.{width_of};
-ghost use Rattle.std.specs.List.{IsDistinct};
-ghost use Rattle.std.proofs.Props.{props};
-ghost use Rattle.indexmap.specs.IndexMap.{keys};
 ghost use Rattle.smt_theory.specs.Words.{look_up};
 ghost use Rattle.smt_terms.specs.Freshness.{is_sort_taken};
 ghost use Rattle.smt_terms.specs.Declarations.{abbreviated_in};
@@ -15,9 +12,9 @@ ghost use Rattle.smt_terms.specs.SortTrees.{sort_named, sorts_named};
 ghost use Rattle.smt_faults.specs.Outcome.{IsOutcome, Tells};
 ghost use Rattle.smt_terms.specs.SortTrees as sorts;
 
-use indexmap::IndexMap;
 use smt_faults::{TermFault, TermFlaw};
 use smt_forms::are_indexes;
+use smt_names::NameMap;
 use smt_theory::{Sort, Theories, Width, number};
 use smt_trees::{Tree, Word, split_first};
 use std::alloc::Global;
@@ -27,9 +24,7 @@ use std::alloc::Global;
 #[derive(Drop)]
 pub(crate) struct SortNames {
     pub(crate) theories: Theories,
-    pub(crate) abbreviations: IndexMap<Vec<u8>, Sort>,
-    ghost distinct: { IsDistinct (λ a b. bytes_eq a.items b.items)
-        (keys abbreviations) } by { Prim.hlevel props },
+    pub(crate) abbreviations: NameMap<Sort>,
 }
 
 impl SortNames {
@@ -42,7 +37,7 @@ impl SortNames {
     {
         SortNames {
             theories,
-            abbreviations: IndexMap::new(alloc),
+            abbreviations: NameMap::new(alloc),
         }
     }
 
@@ -92,13 +87,7 @@ impl SortNames {
             return Err(TermFault::NotFresh);
         }
         let sort = self.sort_of(tree)?;
-        let Ok(key) = Vec::from_slice(alloc, name) else {
-            return Err(TermFault::Memory);
-        };
-        let Ok(_) = self.abbreviations.insert(key, sort) else {
-            return Err(TermFault::Memory);
-        };
-        Ok(())
+        Ok(self.abbreviations.insert(name, sort)?)
     }
 
     // The sort that a name abbreviates.

@@ -9,9 +9,9 @@ use Rattle.smt_text.proofs.SexpLemmas.{append_nil, count-append}
 use Rattle.smt_text.proofs.SexpLemmas as sexps
 use Rattle.smt_text.proofs.WholeTreeLemmas.{complete_run, settled_more}
 use Rattle.smt_text.specs.Grammar.{OpenParenthesis, CloseParenthesis}
-use Rattle.smt_text.specs.Internal.Machine.{Levels, On, State, At, start, flush, act, add, add_if, atom_of}
-use Rattle.smt_text.specs.Internal.Machine.{settle, lex, move, token_in, step, go_on, run, complete_of}
-use Rattle.smt_text.specs.Internal.Machine.{top_of}
+use Rattle.smt_text.specs.Internal.LexerStates.{Levels, On, State, At, start, flush, act, add, add_if, atom_of}
+use Rattle.smt_text.specs.Internal.LexerStates.{settle, lex, move, token_in, step, go_on, run, complete_of}
+use Rattle.smt_text.specs.Internal.LexerStates.{top_of}
 use Rattle.smt_text.specs.Reading.{Begins, AreComplete, AreSettled, Reads}
 use Rattle.smt_trees.specs.Sexp.{Sexp, Sexps, Nil, Cons, Items, append, count}
 use Rattle.smt_faults.specs.declared.text_flaw.TextFlaw.{TextFlaw}
@@ -43,30 +43,30 @@ at_end : (s : State) (ys : Sexps) → flush s ≡ On [] ys → (later : Sexps) �
 at_end (At token bytes levels) ys e = added (atom_of token bytes) levels ys e
 
 -- complete trees of a beginning are the first of those of the whole, and of those of every longer beginning
-first_complete : (limit : ℕ) (ended : Bool) (text more : List ℕ) (xs ys : Sexps) (g : Option TextFlaw)
-    → Begins limit text → AreComplete limit text xs → Reads limit ended (text ++ more) ys g
+first_complete : (max_depth : ℕ) (ended : Bool) (text more : List ℕ) (xs ys : Sexps) (g : Option TextFlaw)
+    → Begins max_depth text → AreComplete max_depth text xs → Reads max_depth ended (text ++ more) ys g
     → (later : Sexps) × (ys ≡ append xs later)
-first_complete limit ended text more xs ys (Some g) begun a b =
+first_complete max_depth ended text more xs ys (Some g) begun a b =
     let p = beginning_of_prefix text more b.2.0 b.2.1 b.2.2.parts (b.2.2.longest text more refl begun) in
-    b.2.3.most xs (subst (λ t. AreSettled limit t xs) (sym p.1) (settled_more limit text p.0 xs a.settled))
-first_complete limit true text more xs ys None begun a b =
-    let r = reads-forest limit (text ++ more) ys b in
-    let complete = (complete_run limit (text ++ more) r.next r.runs).most xs
-    (settled_more limit text more xs a.settled) in
+    b.2.3.most xs (subst (λ t. AreSettled max_depth t xs) (sym p.1) (settled_more max_depth text p.0 xs a.settled))
+first_complete max_depth true text more xs ys None begun a b =
+    let r = reads-forest max_depth (text ++ more) ys b in
+    let complete = (complete_run max_depth (text ++ more) r.next r.runs).most xs
+    (settled_more max_depth text more xs a.settled) in
     let last = at_end r.next ys r.trees in (
       append complete.0 last.0,
       last.1 ∙ ap
           (λ x. append x last.0) complete.1 ∙ sexps.append_assoc xs complete.0 last.0,
     )
-first_complete limit false text more xs ys None begun a b = complete_trees_stay limit text more xs ys a b.1
+first_complete max_depth false text more xs ys None begun a b = complete_trees_stay max_depth text more xs ys a b.1
 
-pub read_trees_stay : (limit : ℕ) (ended : Bool) (text more : List ℕ) (xs ys : Sexps) (f g : Option TextFlaw)
-    → Reads limit false text xs f → Reads limit ended (text ++ more) ys g
+pub read_trees_stay : (max_depth : ℕ) (ended : Bool) (text more : List ℕ) (xs ys : Sexps) (f g : Option TextFlaw)
+    → Reads max_depth false text xs f → Reads max_depth ended (text ++ more) ys g
     → (later : Sexps) × (ys ≡ append xs later)
-read_trees_stay limit ended text more xs ys None g a b =
-    first_complete limit ended text more xs ys g a.0 a.1 b
-read_trees_stay limit ended text more xs ys (Some f) g a b =
-    (Nil, (read_faults_stay limit ended text more xs ys f g a b).0 ∙ sym (append_nil xs))
+read_trees_stay max_depth ended text more xs ys None g a b =
+    first_complete max_depth ended text more xs ys g a.0 a.1 b
+read_trees_stay max_depth ended text more xs ys (Some f) g a b =
+    (Nil, (read_faults_stay max_depth ended text more xs ys f g a b).0 ∙ sym (append_nil xs))
 
 -- trees at the top
 abbrev width_of : Levels → ℕ
@@ -102,14 +102,14 @@ width_opened : (t : Bool) (lists : List Sexps) (top : Sexps) (next : State)
 width_opened true lists top next e = omega (arith, width_settled (On (Nil ∷ lists) top) next e)
 width_opened false lists top next e = absurd (cc)
 
-width_open : (limit : ℕ) (levels : Levels) (next : State)
-    → settle (act limit OpenParenthesis levels) ≡ Some next → width_in next ≤ width_of levels
-width_open limit (On lists top) next e = width_opened (ltb (length lists) limit) lists top next e
+width_open : (max_depth : ℕ) (levels : Levels) (next : State)
+    → settle (act max_depth OpenParenthesis levels) ≡ Some next → width_in next ≤ width_of levels
+width_open max_depth (On lists top) next e = width_opened (ltb (length lists) max_depth) lists top next e
 
-width_close : (limit : ℕ) (levels : Levels) (next : State)
-    → settle (act limit CloseParenthesis levels) ≡ Some next → width_in next ≤ width_of levels + 1
-width_close limit (On [] top) next e = absurd (cc)
-width_close limit (On (parts ∷ lists) top) next e =
+width_close : (max_depth : ℕ) (levels : Levels) (next : State)
+    → settle (act max_depth CloseParenthesis levels) ≡ Some next → width_in next ≤ width_of levels + 1
+width_close max_depth (On [] top) next e = absurd (cc)
+width_close max_depth (On (parts ∷ lists) top) next e =
     omega (
       arith,
       width_settled (add (Items parts) (On lists top)) next e,
@@ -118,9 +118,9 @@ width_close limit (On (parts ∷ lists) top) next e =
     )
 
 -- a byte brings a tree at most
-width_move : (limit : ℕ) (what : LexerStep) (s : State) (b : ℕ) (next : State)
-    → move limit what s b ≡ Some next → width_in next ≤ width_in s + 1
-width_move limit (Push token) (At old bytes levels) b next e =
+width_move : (max_depth : ℕ) (what : LexerStep) (s : State) (b : ℕ) (next : State)
+    → move max_depth what s b ≡ Some next → width_in next ≤ width_in s + 1
+width_move max_depth (Push token) (At old bytes levels) b next e =
     let same : next ≡ At token (bytes ++ b ∷ []) levels = cc in
     omega (
       arith,
@@ -129,44 +129,44 @@ width_move limit (Push token) (At old bytes levels) b next e =
       width_kept
           (atom_of old bytes) levels,
     )
-width_move limit (Skip token) (At old bytes levels) b next e =
+width_move max_depth (Skip token) (At old bytes levels) b next e =
     let same : next ≡ At token bytes levels = cc in
     omega (arith, ap width_in same, width_at token bytes levels, width_kept (atom_of old bytes) levels)
-width_move limit (Finish token) s b next e =
+width_move max_depth (Finish token) s b next e =
     let same : next ≡ At token [] (flush s) = cc in
     omega (arith, ap width_in same, width_at token [] (flush s))
-width_move limit Open s b next e = omega (arith, width_open limit (flush s) next e)
-width_move limit Close s b next e = width_close limit (flush s) next e
-width_move limit Stuck s b next e = absurd (cc)
+width_move max_depth Open s b next e = omega (arith, width_open max_depth (flush s) next e)
+width_move max_depth Close s b next e = width_close max_depth (flush s) next e
+width_move max_depth Stuck s b next e = absurd (cc)
 
-width_run : (limit : ℕ) (s : State) (text : List ℕ) (end : State) → run limit s text ≡ Some end
+width_run : (max_depth : ℕ) (s : State) (text : List ℕ) (end : State) → run max_depth s text ≡ Some end
     → width_in end ≤ width_in s + length text
-width_run limit s [] end e = let same : end ≡ s = cc in omega (arith, ap width_in same)
-width_run limit s (b ∷ text) end e = by (step limit s b) refl e (λ next. width_run limit next text end)
+width_run max_depth s [] end e = let same : end ≡ s = cc in omega (arith, ap width_in same)
+width_run max_depth s (b ∷ text) end e = by (step max_depth s b) refl e (λ next. width_run max_depth next text end)
   where
-    by : (o : Option State) → step limit s b ≡ o → go_on o (λ x. run limit x text) ≡ Some end
-        → ((next : State) → run limit next text ≡ Some end → width_in end ≤ width_in next + length text)
+    by : (o : Option State) → step max_depth s b ≡ o → go_on o (λ x. run max_depth x text) ≡ Some end
+        → ((next : State) → run max_depth next text ≡ Some end → width_in end ≤ width_in next + length text)
         → width_in end ≤ width_in s + length (b ∷ text)
     by None h k later = absurd (cc)
-    by (Some next) h k later = omega (arith, later next k, width_move limit (lex (token_in s) b) s b next h)
+    by (Some next) h k later = omega (arith, later next k, width_move max_depth (lex (token_in s) b) s b next h)
 
 width_complete : (s : State) → count (complete_of s) ≤ width_in s
 width_complete (At token bytes levels) = width_kept (atom_of token bytes) levels
 
-pub few_trees : (limit : ℕ) (text : List ℕ) (trees : Sexps) (f : Option TextFlaw)
-    → Reads limit true text trees f → count trees ≤ length text
-few_trees limit text trees None h =
-    let r = reads-forest limit text trees h in
-    omega (arith, width_run limit start text r.next r.runs, ap width_of r.trees)
-few_trees limit text trees (Some f) h =
-    let r = runs_if_begins limit h.2.0 h.2.2.begins in
-    let same = one_complete limit h.2.0 trees (complete_of r.end) h.2.3
-    (complete_run limit h.2.0 r.end r.runs) in
+pub few_trees : (max_depth : ℕ) (text : List ℕ) (trees : Sexps) (f : Option TextFlaw)
+    → Reads max_depth true text trees f → count trees ≤ length text
+few_trees max_depth text trees None h =
+    let r = reads-forest max_depth text trees h in
+    omega (arith, width_run max_depth start text r.next r.runs, ap width_of r.trees)
+few_trees max_depth text trees (Some f) h =
+    let r = runs_if_begins max_depth h.2.0 h.2.2.begins in
+    let same = one_complete max_depth h.2.0 trees (complete_of r.end) h.2.3
+    (complete_run max_depth h.2.0 r.end r.runs) in
     omega (
       arith,
       ap count same,
       width_complete r.end,
-      width_run limit start h.2.0 r.end r.runs,
+      width_run max_depth start h.2.0 r.end r.runs,
       ap length
           h.2.2.parts,
       length-append h.2.0 h.2.1,

@@ -10,8 +10,8 @@ use Rattle.std.specs.declared.alloc.Global.{Global}
 use Rattle.std.specs.declared.vec.Vec.{Vec}
 use Rattle.smt_trees.specs.TreeJoins.{sexps_of-append}
 use Rattle.smt_text.specs.Grammar.{OpenParenthesis, CloseParenthesis}
-use Rattle.smt_text.specs.Internal.Machine.{Levels, On, State, At, add, add_if, atom_of, flush, begun, ended}
-use Rattle.smt_text.specs.Internal.Machine.{depth_of, depth_in, act, settle}
+use Rattle.smt_text.specs.Internal.LexerStates.{Levels, On, State, At, add, add_if, atom_of, flush, begun, ended}
+use Rattle.smt_text.specs.Internal.LexerStates.{depth_of, depth_in, act, settle}
 use Rattle.smt_text.specs.Internal.OpenLists.{are_nested, lists_of}
 use Rattle.smt_trees.specs.Sexp.{Sexp, Sexps, append}
 use Rattle.smt_trees.specs.Tree.{sexp_of, sexps_of}
@@ -129,41 +129,41 @@ depth_of-add_if (Some x) (On (parts ∷ lists) top) = refl
 pub depth_of-flush : (s : State) → depth_of (flush s) ≡ depth_in s
 depth_of-flush (At token bytes levels) = depth_of-add_if (atom_of token bytes) levels
 
-open_none : (limit : ℕ) (levels : Levels) → limit ≤ depth_of levels
-    → settle (act limit OpenParenthesis levels) ≡ None
-open_none limit (On lists top) h =
-    ap (λ t. settle (cond t (Some (begun (On lists top))) None)) (le-ltb (length lists) limit h)
+open_none : (max_depth : ℕ) (levels : Levels) → max_depth ≤ depth_of levels
+    → settle (act max_depth OpenParenthesis levels) ≡ None
+open_none max_depth (On lists top) h =
+    ap (λ t. settle (cond t (Some (begun (On lists top))) None)) (le-ltb (length lists) max_depth h)
 
-open_some : (limit : ℕ) (levels : Levels) → depth_of levels < limit
-    → settle (act limit OpenParenthesis levels) ≡ Some (At Nothing [] (begun levels))
-open_some limit (On lists top) h =
-    ap (λ t. settle (cond t (Some (begun (On lists top))) None)) (lt-ltb (length lists) limit h)
+open_some : (max_depth : ℕ) (levels : Levels) → depth_of levels < max_depth
+    → settle (act max_depth OpenParenthesis levels) ≡ Some (At Nothing [] (begun levels))
+open_some max_depth (On lists top) h =
+    ap (λ t. settle (cond t (Some (begun (On lists top))) None)) (lt-ltb (length lists) max_depth h)
 
-close_none : (limit : ℕ) (levels : Levels) → depth_of levels ≡ 0
-    → settle (act limit CloseParenthesis levels) ≡ None
-close_none limit (On [] top) h = refl
-close_none limit (On (parts ∷ lists) top) h = absurd (omega arith)
+close_none : (max_depth : ℕ) (levels : Levels) → depth_of levels ≡ 0
+    → settle (act max_depth CloseParenthesis levels) ≡ None
+close_none max_depth (On [] top) h = refl
+close_none max_depth (On (parts ∷ lists) top) h = absurd (omega arith)
 
-close_some : (limit : ℕ) (levels : Levels) → 0 < depth_of levels
-    → settle (act limit CloseParenthesis levels) ≡ Some (At Nothing [] (ended levels))
-close_some limit (On [] top) h = absurd (omega arith)
-close_some limit (On (parts ∷ lists) top) h = refl
+close_some : (max_depth : ℕ) (levels : Levels) → 0 < depth_of levels
+    → settle (act max_depth CloseParenthesis levels) ≡ Some (At Nothing [] (ended levels))
+close_some max_depth (On [] top) h = absurd (omega arith)
+close_some max_depth (On (parts ∷ lists) top) h = refl
 
 -- a list begins where it may, and nowhere else
-pub begin_refused : (limit : ℕ) (s : State) → limit ≤ depth_in s
-    → settle (act limit OpenParenthesis (flush s)) ≡ None
-begin_refused limit s h = open_none limit (flush s) (omega (arith, depth_of-flush s))
+pub begin_refused : (max_depth : ℕ) (s : State) → max_depth ≤ depth_in s
+    → settle (act max_depth OpenParenthesis (flush s)) ≡ None
+begin_refused max_depth s h = open_none max_depth (flush s) (omega (arith, depth_of-flush s))
 
-pub begin_taken : (limit : ℕ) (s : State) (levels : Levels) → depth_in s < limit → begun (flush s) ≡ levels
-    → settle (act limit OpenParenthesis (flush s)) ≡ Some (At Nothing [] levels)
-begin_taken limit s levels h e =
-    open_some limit (flush s) (omega (arith, depth_of-flush s)) ∙ ap (λ x. Some (At Nothing [] x)) e
+pub begin_taken : (max_depth : ℕ) (s : State) (levels : Levels) → depth_in s < max_depth → begun (flush s) ≡ levels
+    → settle (act max_depth OpenParenthesis (flush s)) ≡ Some (At Nothing [] levels)
+begin_taken max_depth s levels h e =
+    open_some max_depth (flush s) (omega (arith, depth_of-flush s)) ∙ ap (λ x. Some (At Nothing [] x)) e
 
-pub end_refused : (limit : ℕ) (s : State) → depth_in s ≡ 0
-    → settle (act limit CloseParenthesis (flush s)) ≡ None
-end_refused limit s h = close_none limit (flush s) (depth_of-flush s ∙ h)
+pub end_refused : (max_depth : ℕ) (s : State) → depth_in s ≡ 0
+    → settle (act max_depth CloseParenthesis (flush s)) ≡ None
+end_refused max_depth s h = close_none max_depth (flush s) (depth_of-flush s ∙ h)
 
-pub end_taken : (limit : ℕ) (s : State) (levels : Levels) → 0 < depth_in s → ended (flush s) ≡ levels
-    → settle (act limit CloseParenthesis (flush s)) ≡ Some (At Nothing [] levels)
-end_taken limit s levels h e =
-    close_some limit (flush s) (omega (arith, depth_of-flush s)) ∙ ap (λ x. Some (At Nothing [] x)) e
+pub end_taken : (max_depth : ℕ) (s : State) (levels : Levels) → 0 < depth_in s → ended (flush s) ≡ levels
+    → settle (act max_depth CloseParenthesis (flush s)) ≡ Some (At Nothing [] levels)
+end_taken max_depth s levels h e =
+    close_some max_depth (flush s) (omega (arith, depth_of-flush s)) ∙ ap (λ x. Some (At Nothing [] x)) e

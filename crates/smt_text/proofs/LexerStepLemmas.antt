@@ -3,7 +3,7 @@ use Rattle.std.proofs.Common.{◌≡◌, ◌⊎◌, ◌==◌, ℕ}
 use Rattle.std.proofs.Common.{Bool, true, false, refl, inl, inr}
 use Rattle.std.specs.Prelude.{if◌then◌else◌}
 use Rattle.smt_text.specs.Lexical.{is_white}
-use Rattle.smt_text.specs.Internal.Machine.{separated}
+use Rattle.smt_text.specs.Internal.LexerStates.{separated}
 use Rattle.smt_text.specs.declared.lexer.AtomState.{AtomState}
 use Rattle.smt_text.specs.declared.lexer.AtomState.TheVariants.{Nothing, Digits, Point}
 use Rattle.smt_text.specs.declared.lexer.AtomState.TheVariants.{HexMark, BinMark}

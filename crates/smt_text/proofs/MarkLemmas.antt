@@ -4,7 +4,7 @@ use Rattle.std.proofs.Common.{arith, sym, ap, ◌∙◌, subst, ltb-true, nat_lt
 use Rattle.std.specs.Prelude.{◌==◌, if◌then◌else◌}
 use Rattle.smt_text.proofs.ByteLemmas.{digit_begins, letter_begins, lex_ended, push_first_bin, push_first_hex}
 use Rattle.smt_text.proofs.ReaderCompleteness.{step-at, run-cons}
-use Rattle.smt_text.specs.Internal.Machine.{Levels, At, lex, run, separated}
+use Rattle.smt_text.specs.Internal.LexerStates.{Levels, At, lex, run, separated}
 use Rattle.smt_text.specs.Internal.ReaderState.{BeginsAtom}
 use Rattle.smt_text.specs.Lexical.{is_binary_digit, is_hexadecimal_digit, is_letter, is_nonzero_digit, is_white}
 use Rattle.smt_text.specs.declared.lexer.AtomState.{AtomState}

@@ -6,7 +6,7 @@ use Rattle.std.proofs.lemmas.List.{append-nil, append_assoc, length-append, leng
 use Rattle.std.proofs.lemmas.List.{replicate-append-replicate}
 use Rattle.smt_text.proofs.ReadingLemmas.{stuck_reads, ends_inside, inside_list}
 use Rattle.smt_text.proofs.ReaderCompleteness.{run-cons, run-append}
-use Rattle.smt_text.specs.Internal.Machine.{On, At, start, settle, step, run}
+use Rattle.smt_text.specs.Internal.LexerStates.{On, At, start, settle, step, run}
 use Rattle.smt_text.specs.Reading.{Reads}
 use Rattle.smt_trees.specs.Sexp.{Sexps, Nil}
 use Rattle.smt_faults.specs.declared.text_flaw.TextFlaw.TheVariants.{Byte, Deep, End}
@@ -16,32 +16,32 @@ one_more : (n : ℕ) (lists : List Sexps) → replicate n Nil ++ (Nil ∷ lists)
 one_more zero lists = refl
 one_more (suc n) lists = ap (λ x. Nil ∷ x) (one_more n lists)
 
-step_in : (limit : ℕ) (lists : List Sexps) → length lists < limit
-    → step limit (At Nothing [] (On lists Nil)) 40 ≡ Some (At Nothing [] (On (Nil ∷ lists) Nil))
-step_in limit lists h =
-    ap (λ t. settle (cond t (Some (On (Nil ∷ lists) Nil)) None)) (lt-ltb (length lists) limit h)
+step_in : (max_depth : ℕ) (lists : List Sexps) → length lists < max_depth
+    → step max_depth (At Nothing [] (On lists Nil)) 40 ≡ Some (At Nothing [] (On (Nil ∷ lists) Nil))
+step_in max_depth lists h =
+    ap (λ t. settle (cond t (Some (On (Nil ∷ lists) Nil)) None)) (lt-ltb (length lists) max_depth h)
 
-stops : (limit : ℕ) (lists : List Sexps) → limit ≤ length lists
-    → step limit (At Nothing [] (On lists Nil)) 40 ≡ None
-stops limit lists h =
-    ap (λ t. settle (cond t (Some (On (Nil ∷ lists) Nil)) None)) (le-ltb (length lists) limit h)
+stops : (max_depth : ℕ) (lists : List Sexps) → max_depth ≤ length lists
+    → step max_depth (At Nothing [] (On lists Nil)) 40 ≡ None
+stops max_depth lists h =
+    ap (λ t. settle (cond t (Some (On (Nil ∷ lists) Nil)) None)) (le-ltb (length lists) max_depth h)
 
-run_in : (limit n : ℕ) (lists : List Sexps) → n + length lists ≤ limit
-    → run limit (At Nothing [] (On lists Nil)) (replicate n 40)
+run_in : (max_depth n : ℕ) (lists : List Sexps) → n + length lists ≤ max_depth
+    → run max_depth (At Nothing [] (On lists Nil)) (replicate n 40)
     ≡ Some (At Nothing [] (On (replicate n Nil ++ lists) Nil))
-run_in limit zero lists h = refl
-run_in limit (suc n) lists h =
-    run-cons limit (At Nothing [] (On lists Nil)) (At Nothing [] (On (Nil ∷ lists) Nil)) 40 (replicate n 40)
-    (step_in limit lists (omega arith))
-    ∙ run_in limit n (Nil ∷ lists) (omega arith) ∙ ap (λ x. Some (At Nothing [] (On x Nil)))
+run_in max_depth zero lists h = refl
+run_in max_depth (suc n) lists h =
+    run-cons max_depth (At Nothing [] (On lists Nil)) (At Nothing [] (On (Nil ∷ lists) Nil)) 40 (replicate n 40)
+    (step_in max_depth lists (omega arith))
+    ∙ run_in max_depth n (Nil ∷ lists) (omega arith) ∙ ap (λ x. Some (At Nothing [] (On x Nil)))
     (one_more n lists)
 
-run_all : (limit : ℕ) → run limit start (replicate limit 40)
-    ≡ Some (At Nothing [] (On (replicate limit Nil) Nil))
-run_all limit = run_in limit limit [] (omega arith) ∙ ap (λ x. Some (At Nothing [] (On x Nil)))
-    (append-nil (replicate limit Nil))
+run_all : (max_depth : ℕ) → run max_depth start (replicate max_depth 40)
+    ≡ Some (At Nothing [] (On (replicate max_depth Nil) Nil))
+run_all max_depth = run_in max_depth max_depth [] (omega arith) ∙ ap (λ x. Some (At Nothing [] (On x Nil)))
+    (append-nil (replicate max_depth Nil))
 
-pub reads_at : (limit : ℕ) → 0 < limit → Reads limit true (replicate limit 40) Nil (Some (End limit))
+pub reads_at : (max_depth : ℕ) → 0 < max_depth → Reads max_depth true (replicate max_depth 40) Nil (Some (End max_depth))
 reads_at zero h = absurd (omega arith)
 reads_at (suc n) h =
     subst (λ p. Reads (suc n) true (replicate (suc n) 40) Nil (Some (End p))) (length-replicate (suc n) 40)
@@ -49,31 +49,31 @@ reads_at (suc n) h =
     (run_all (suc n)) (inside_list (At Nothing [] (On (replicate (suc n) Nil) Nil)) Nil
     (replicate n Nil) Nil refl))
 
-pub reads_past : (limit : ℕ) → Reads limit true (replicate (limit + 1) 40) Nil (Some (Deep limit))
-reads_past limit = stuck_reads limit true (replicate (limit + 1) 40)
-    (At Nothing [] (On (replicate limit Nil) Nil)) (Deep limit) record {
-      prefix = replicate limit 40;
+pub reads_past : (max_depth : ℕ) → Reads max_depth true (replicate (max_depth + 1) 40) Nil (Some (Deep max_depth))
+reads_past max_depth = stuck_reads max_depth true (replicate (max_depth + 1) 40)
+    (At Nothing [] (On (replicate max_depth Nil) Nil)) (Deep max_depth) record {
+      prefix = replicate max_depth 40;
       byte = 40;
       rest = [];
-      parts = sym (replicate-append-replicate limit 1 40);
-      runs = run_all limit;
-      stops = stops limit (replicate limit Nil) (omega (arith, length-replicate limit Nil));
-      is = ap Deep (sym (length-replicate limit 40));
+      parts = sym (replicate-append-replicate max_depth 1 40);
+      runs = run_all max_depth;
+      stops = stops max_depth (replicate max_depth Nil) (omega (arith, length-replicate max_depth Nil));
+      is = ap Deep (sym (length-replicate max_depth 40));
     }
 
 -- a parenthesis inside a token is no list, however deep
-pub reads_no_token : (limit : ℕ)
-    → Reads limit true (replicate limit 40 ++ codes "#x(") Nil (Some (Byte (limit + 2)))
-reads_no_token limit = stuck_reads limit true (replicate limit 40 ++ codes "#x(")
-    (At HexMark [] (On (replicate limit Nil) Nil)) (Byte (limit + 2)) record {
-      prefix = replicate limit 40 ++ codes "#x";
+pub reads_no_token : (max_depth : ℕ)
+    → Reads max_depth true (replicate max_depth 40 ++ codes "#x(") Nil (Some (Byte (max_depth + 2)))
+reads_no_token max_depth = stuck_reads max_depth true (replicate max_depth 40 ++ codes "#x(")
+    (At HexMark [] (On (replicate max_depth Nil) Nil)) (Byte (max_depth + 2)) record {
+      prefix = replicate max_depth 40 ++ codes "#x";
       byte = 40;
       rest = [];
-      parts = sym (append_assoc (replicate limit 40) (codes "#x") (40 ∷ []));
-      runs = run-append limit start (At Nothing [] (On (replicate limit Nil) Nil)) (replicate limit 40)
-          (codes "#x") (run_all limit);
+      parts = sym (append_assoc (replicate max_depth 40) (codes "#x") (40 ∷ []));
+      runs = run-append max_depth start (At Nothing [] (On (replicate max_depth Nil) Nil)) (replicate max_depth 40)
+          (codes "#x") (run_all max_depth);
       stops = refl;
-      is = let n : limit + 2 ≡ length (replicate limit 40 ++ codes "#x") = omega
-          (arith, length-append (replicate limit 40) (codes "#x"), length-replicate {A = ℕ} limit 40)
+      is = let n : max_depth + 2 ≡ length (replicate max_depth 40 ++ codes "#x") = omega
+          (arith, length-append (replicate max_depth 40) (codes "#x"), length-replicate {A = ℕ} max_depth 40)
           in ap Byte n;
     }

@@ -19,9 +19,9 @@ use Rattle.smt_text.specs.Grammar.{doubled, barred, tokens_of, tokens_of_all, Fo
 use Rattle.smt_text.specs.Lexical.{quote, bar, semicolon, point, zero_digit, is_white, is_digit}
 use Rattle.smt_text.specs.Lexical.{is_hexadecimal_digit, is_binary_digit, is_letter, is_symbol_byte}
 use Rattle.smt_text.specs.Lexical.{is_text_byte, is_quoted_byte, is_comment_byte, ends_token}
-use Rattle.smt_text.specs.Internal.Machine.{Levels, On, State, At, start, add, word_named, name_or_word}
-use Rattle.smt_text.specs.Internal.Machine.{flush, act, settle, separated, lex, move, may_end, token_in, step}
-use Rattle.smt_text.specs.Internal.Machine.{go_on, run, depth_of}
+use Rattle.smt_text.specs.Internal.LexerStates.{Levels, On, State, At, start, add, word_named, name_or_word}
+use Rattle.smt_text.specs.Internal.LexerStates.{flush, act, settle, separated, lex, move, may_end, token_in, step}
+use Rattle.smt_text.specs.Internal.LexerStates.{go_on, run, depth_of}
 use Rattle.smt_trees.specs.Reserved.{spelling_of, all_words}
 use Rattle.smt_trees.specs.Sexp as sexp
 use Rattle.smt_trees.specs.Sexp.{Sexp, Sexps, Atom, Reserved, Items, Nil, Cons, append, depth, depth_all}
@@ -36,306 +36,306 @@ use Rattle.smt_trees.specs.declared.reserved.Word.{Word}
 use Rattle.smt_trees.specs.declared.reserved.Word.TheVariants as words
 
 -- a step of a token that is known
-pub step-at : (limit : ℕ) (s : State) (b : ℕ) (what : LexerStep) → lex (token_in s) b ≡ what
-    → step limit s b ≡ move limit what s b
-step-at limit s b what e = ap (λ x. move limit x s b) e
+pub step-at : (max_depth : ℕ) (s : State) (b : ℕ) (what : LexerStep) → lex (token_in s) b ≡ what
+    → step max_depth s b ≡ move max_depth what s b
+step-at max_depth s b what e = ap (λ x. move max_depth x s b) e
 
-pub run-cons : (limit : ℕ) (s next : State) (b : ℕ) (bs : List ℕ) → step limit s b ≡ Some next
-    → run limit s (b ∷ bs) ≡ run limit next bs
-run-cons limit s next b bs e = ap (λ o. go_on o (λ x. run limit x bs)) e
+pub run-cons : (max_depth : ℕ) (s next : State) (b : ℕ) (bs : List ℕ) → step max_depth s b ≡ Some next
+    → run max_depth s (b ∷ bs) ≡ run max_depth next bs
+run-cons max_depth s next b bs e = ap (λ o. go_on o (λ x. run max_depth x bs)) e
 
-pub run-append : (limit : ℕ) (s next : State) (xs ys : List ℕ) → run limit s xs ≡ Some next
-    → run limit s (xs ++ ys) ≡ run limit next ys
-run-append limit s next [] ys e = let same : s ≡ next = cc in ap (λ x. run limit x ys) same
-run-append limit s next (b ∷ bs) ys e = by_step (step limit s b) refl (λ x. run-append limit x next bs ys)
+pub run-append : (max_depth : ℕ) (s next : State) (xs ys : List ℕ) → run max_depth s xs ≡ Some next
+    → run max_depth s (xs ++ ys) ≡ run max_depth next ys
+run-append max_depth s next [] ys e = let same : s ≡ next = cc in ap (λ x. run max_depth x ys) same
+run-append max_depth s next (b ∷ bs) ys e = by_step (step max_depth s b) refl (λ x. run-append max_depth x next bs ys)
   where
-    by_step : (o : Option State) → step limit s b ≡ o
-        → ((x : State) → run limit x bs ≡ Some next → run limit x (bs ++ ys) ≡ run limit next ys)
-        → run limit s ((b ∷ bs) ++ ys) ≡ run limit next ys
+    by_step : (o : Option State) → step max_depth s b ≡ o
+        → ((x : State) → run max_depth x bs ≡ Some next → run max_depth x (bs ++ ys) ≡ run max_depth next ys)
+        → run max_depth s ((b ∷ bs) ++ ys) ≡ run max_depth next ys
     by_step None h later =
-        let none : run limit s (b ∷ bs) ≡ None = ap (λ o. go_on o (λ x. run limit x bs)) h in cc
+        let none : run max_depth s (b ∷ bs) ≡ None = ap (λ o. go_on o (λ x. run max_depth x bs)) h in cc
     by_step (Some x) h later =
-        run-cons limit s x b (bs ++ ys) h ∙ later x (sym (run-cons limit s x b bs h) ∙ e)
+        run-cons max_depth s x b (bs ++ ys) h ∙ later x (sym (run-cons max_depth s x b bs h) ∙ e)
 
 -- one byte that is kept
-pub run-push : (limit : ℕ) (levels : Levels) (token next : AtomState) (bytes : List ℕ) (b : ℕ) (rest : List ℕ)
+pub run-push : (max_depth : ℕ) (levels : Levels) (token next : AtomState) (bytes : List ℕ) (b : ℕ) (rest : List ℕ)
     → lex token b ≡ Push next
-    → run limit (At token bytes levels) (b ∷ rest) ≡ run limit (At next (bytes ++ b ∷ []) levels) rest
-run-push limit levels token next bytes b rest e =
-    run-cons limit (At token bytes levels) (At next (bytes ++ b ∷ []) levels) b rest
-    (step-at limit (At token bytes levels) b (Push next) e)
+    → run max_depth (At token bytes levels) (b ∷ rest) ≡ run max_depth (At next (bytes ++ b ∷ []) levels) rest
+run-push max_depth levels token next bytes b rest e =
+    run-cons max_depth (At token bytes levels) (At next (bytes ++ b ∷ []) levels) b rest
+    (step-at max_depth (At token bytes levels) b (Push next) e)
 
 -- bytes that are kept, one after another
-pub run-pushes : (limit : ℕ) (levels : Levels) (test : ℕ → Bool) (token : AtomState)
+pub run-pushes : (max_depth : ℕ) (levels : Levels) (test : ℕ → Bool) (token : AtomState)
     → ((b : ℕ) → test b ≡ true → lex token b ≡ Push token) → (bytes bs rest : List ℕ) → ZeroOrMore test bs
-    → run limit (At token bytes levels) (bs ++ rest) ≡ run limit (At token (bytes ++ bs) levels) rest
-run-pushes limit levels test token goes bytes [] rest h =
-    ap (λ x. run limit (At token x levels) rest) (sym (append-nil bytes))
-run-pushes limit levels test token goes bytes (b ∷ bs) rest h =
-    run-push limit levels token token bytes b (bs ++ rest) (goes b h.0)
-    ∙ run-pushes limit levels test token goes (bytes ++ b ∷ []) bs rest h.1 ∙ ap
-    (λ x. run limit (At token x levels) rest) (append_assoc bytes (b ∷ []) bs)
+    → run max_depth (At token bytes levels) (bs ++ rest) ≡ run max_depth (At token (bytes ++ bs) levels) rest
+run-pushes max_depth levels test token goes bytes [] rest h =
+    ap (λ x. run max_depth (At token x levels) rest) (sym (append-nil bytes))
+run-pushes max_depth levels test token goes bytes (b ∷ bs) rest h =
+    run-push max_depth levels token token bytes b (bs ++ rest) (goes b h.0)
+    ∙ run-pushes max_depth levels test token goes (bytes ++ b ∷ []) bs rest h.1 ∙ ap
+    (λ x. run max_depth (At token x levels) rest) (append_assoc bytes (b ∷ []) bs)
 
 -- the first of them by another step
-run-some : (limit : ℕ) (levels : Levels) (test : ℕ → Bool) (token next : AtomState)
+run-some : (max_depth : ℕ) (levels : Levels) (test : ℕ → Bool) (token next : AtomState)
     → ((b : ℕ) → test b ≡ true → lex token b ≡ Push next) → ((b : ℕ) → test b ≡ true → lex next b ≡ Push next)
     → (bytes bs rest : List ℕ) → OneOrMore test bs
-    → run limit (At token bytes levels) (bs ++ rest) ≡ run limit (At next (bytes ++ bs) levels) rest
-run-some limit levels test token next first goes bytes [] rest h = absurd h
-run-some limit levels test token next first goes bytes (b ∷ bs) rest h =
-    run-push limit levels token next bytes b (bs ++ rest) (first b h.0)
-    ∙ run-pushes limit levels test next goes (bytes ++ b ∷ []) bs rest h.1 ∙ ap
-    (λ x. run limit (At next x levels) rest) (append_assoc bytes (b ∷ []) bs)
+    → run max_depth (At token bytes levels) (bs ++ rest) ≡ run max_depth (At next (bytes ++ bs) levels) rest
+run-some max_depth levels test token next first goes bytes [] rest h = absurd h
+run-some max_depth levels test token next first goes bytes (b ∷ bs) rest h =
+    run-push max_depth levels token next bytes b (bs ++ rest) (first b h.0)
+    ∙ run-pushes max_depth levels test next goes (bytes ++ b ∷ []) bs rest h.1 ∙ ap
+    (λ x. run max_depth (At next x levels) rest) (append_assoc bytes (b ∷ []) bs)
 
 -- what must follow in a state: where a token has begun, its end
 abbrev pub Rests : State → List ℕ → Type 0
 Rests (At token bytes levels) text = ((token ≡ Nothing) × (bytes ≡ [])) ⊎ (MayBeEnded token × EndsToken text)
 
 -- a byte that shows the end of a token
-step-separated : (limit : ℕ) (token : AtomState) (bytes : List ℕ) (levels : Levels) (b : ℕ) (bs : List ℕ)
+step-separated : (max_depth : ℕ) (token : AtomState) (bytes : List ℕ) (levels : Levels) (b : ℕ) (bs : List ℕ)
     → Rests (At token bytes levels) (b ∷ bs) → ends_token b ≡ true
-    → step limit (At token bytes levels) b ≡ move limit (separated b) (At token bytes levels) b
-step-separated limit token bytes levels b bs (inl e) h =
-    step-at limit (At token bytes levels) b (separated b) (ap (λ x. lex x b) e.0 ∙ lex_ended Nothing b tt h)
-step-separated limit token bytes levels b bs (inr m) h =
-    step-at limit (At token bytes levels) b (separated b) (lex_ended token b m.0 h)
+    → step max_depth (At token bytes levels) b ≡ move max_depth (separated b) (At token bytes levels) b
+step-separated max_depth token bytes levels b bs (inl e) h =
+    step-at max_depth (At token bytes levels) b (separated b) (ap (λ x. lex x b) e.0 ∙ lex_ended Nothing b tt h)
+step-separated max_depth token bytes levels b bs (inr m) h =
+    step-at max_depth (At token bytes levels) b (separated b) (lex_ended token b m.0 h)
 
-step-white : (limit : ℕ) (s : State) (b : ℕ) (bs : List ℕ) → is_white b ≡ true → Rests s (b ∷ bs)
-    → step limit s b ≡ Some (At Nothing [] (flush s))
-step-white limit (At token bytes levels) b bs h r =
-    step-separated limit token bytes levels b bs r (white_ends b h) ∙ ap
-    (λ x. move limit x (At token bytes levels) b) (white_separates b h)
+step-white : (max_depth : ℕ) (s : State) (b : ℕ) (bs : List ℕ) → is_white b ≡ true → Rests s (b ∷ bs)
+    → step max_depth s b ≡ Some (At Nothing [] (flush s))
+step-white max_depth (At token bytes levels) b bs h r =
+    step-separated max_depth token bytes levels b bs r (white_ends b h) ∙ ap
+    (λ x. move max_depth x (At token bytes levels) b) (white_separates b h)
 
-step-semicolon : (limit : ℕ) (s : State) (bs : List ℕ) → Rests s (semicolon ∷ bs)
-    → step limit s semicolon ≡ Some (At InComment [] (flush s))
-step-semicolon limit (At token bytes levels) bs r =
-    step-separated limit token bytes levels semicolon bs r refl
+step-semicolon : (max_depth : ℕ) (s : State) (bs : List ℕ) → Rests s (semicolon ∷ bs)
+    → step max_depth s semicolon ≡ Some (At InComment [] (flush s))
+step-semicolon max_depth (At token bytes levels) bs r =
+    step-separated max_depth token bytes levels semicolon bs r refl
 
 -- a comment is passed over
-pub run-comment : (limit : ℕ) (levels : Levels) (body rest : List ℕ) → ZeroOrMore is_comment_byte body
-    → run limit (At InComment [] levels) (body ++ rest) ≡ run limit (At InComment [] levels) rest
-run-comment limit levels [] rest h = refl
-run-comment limit levels (b ∷ body) rest h =
-    run-cons limit (At InComment [] levels) (At InComment [] levels) b (body ++ rest)
-    (step-at limit (At InComment [] levels) b (Skip InComment) (skip_comment b h.0))
-    ∙ run-comment limit levels body rest h.1
+pub run-comment : (max_depth : ℕ) (levels : Levels) (body rest : List ℕ) → ZeroOrMore is_comment_byte body
+    → run max_depth (At InComment [] levels) (body ++ rest) ≡ run max_depth (At InComment [] levels) rest
+run-comment max_depth levels [] rest h = refl
+run-comment max_depth levels (b ∷ body) rest h =
+    run-cons max_depth (At InComment [] levels) (At InComment [] levels) b (body ++ rest)
+    (step-at max_depth (At InComment [] levels) b (Skip InComment) (skip_comment b h.0))
+    ∙ run-comment max_depth levels body rest h.1
 
-comment-begun : (limit : ℕ) (s : State) (comment rest : List ℕ) → IsComment comment
-    → Rests s (comment ++ rest) → run limit s (comment ++ rest) ≡ run limit (At InComment [] (flush s)) rest
-comment-begun limit s comment rest h r =
-    ap (λ x. run limit s (x ++ rest)) h.1
-    ∙ run-cons limit s (At InComment [] (flush s)) semicolon (h.0 ++ rest)
-    (step-semicolon limit s (h.0 ++ rest) (subst (λ x. Rests s (x ++ rest)) h.1 r))
-    ∙ run-comment limit (flush s) h.0 rest h.2
+comment-begun : (max_depth : ℕ) (s : State) (comment rest : List ℕ) → IsComment comment
+    → Rests s (comment ++ rest) → run max_depth s (comment ++ rest) ≡ run max_depth (At InComment [] (flush s)) rest
+comment-begun max_depth s comment rest h r =
+    ap (λ x. run max_depth s (x ++ rest)) h.1
+    ∙ run-cons max_depth s (At InComment [] (flush s)) semicolon (h.0 ++ rest)
+    (step-semicolon max_depth s (h.0 ++ rest) (subst (λ x. Rests s (x ++ rest)) h.1 r))
+    ∙ run-comment max_depth (flush s) h.0 rest h.2
 
-after-separator : (limit : ℕ) (s : State) (part text : List ℕ) → IsSeparator part → Rests s (part ++ text)
-    → run limit s (part ++ text) ≡ run limit (At Nothing [] (flush s)) text
-after-separator limit s part text (inl h) r =
-    ap (λ x. run limit s (x ++ text)) h.1
-    ∙ run-cons limit s (At Nothing [] (flush s)) h.0 text
-    (step-white limit s h.0 text h.2 (subst (λ x. Rests s (x ++ text)) h.1 r))
-after-separator limit s part text (inr h) r =
+after-separator : (max_depth : ℕ) (s : State) (part text : List ℕ) → IsSeparator part → Rests s (part ++ text)
+    → run max_depth s (part ++ text) ≡ run max_depth (At Nothing [] (flush s)) text
+after-separator max_depth s part text (inl h) r =
+    ap (λ x. run max_depth s (x ++ text)) h.1
+    ∙ run-cons max_depth s (At Nothing [] (flush s)) h.0 text
+    (step-white max_depth s h.0 text h.2 (subst (λ x. Rests s (x ++ text)) h.1 r))
+after-separator max_depth s part text (inr h) r =
     let parts : part ++ text ≡ h.0 ++ (h.1 ∷ text) = ap (λ x. x ++ text) h.2 ∙ append_assoc h.0
     (h.1 ∷ []) text in
-    ap (run limit s) parts ∙ comment-begun limit s h.0 (h.1 ∷ text) h.3 (subst (Rests s) parts r)
-    ∙ run-cons limit (At InComment [] (flush s)) (At Nothing [] (flush s)) h.1 text
-    (step-at limit (At InComment [] (flush s)) h.1 (Finish Nothing) (end_comment h.1 h.4))
+    ap (run max_depth s) parts ∙ comment-begun max_depth s h.0 (h.1 ∷ text) h.3 (subst (Rests s) parts r)
+    ∙ run-cons max_depth (At InComment [] (flush s)) (At Nothing [] (flush s)) h.1 text
+    (step-at max_depth (At InComment [] (flush s)) h.1 (Finish Nothing) (end_comment h.1 h.4))
 
-run-parts : (limit : ℕ) (levels : Levels) (parts : List (List ℕ)) (text : List ℕ)
+run-parts : (max_depth : ℕ) (levels : Levels) (parts : List (List ℕ)) (text : List ℕ)
     → AllByRecursion IsSeparator parts
-    → run limit (At Nothing [] levels) (joined parts ++ text) ≡ run limit (At Nothing [] levels) text
-run-parts limit levels [] text h = refl
-run-parts limit levels (part ∷ parts) text h =
-    ap (run limit (At Nothing [] levels)) (append_assoc part (joined parts) text)
-    ∙ after-separator limit (At Nothing [] levels) part (joined parts ++ text) h.0 (inl (refl, refl))
-    ∙ run-parts limit levels parts text h.1
+    → run max_depth (At Nothing [] levels) (joined parts ++ text) ≡ run max_depth (At Nothing [] levels) text
+run-parts max_depth levels [] text h = refl
+run-parts max_depth levels (part ∷ parts) text h =
+    ap (run max_depth (At Nothing [] levels)) (append_assoc part (joined parts) text)
+    ∙ after-separator max_depth (At Nothing [] levels) part (joined parts ++ text) h.0 (inl (refl, refl))
+    ∙ run-parts max_depth levels parts text h.1
 
 -- after the bytes that a state was given: it has these trees, and stands before the rest
-pub record Reaches (limit : ℕ) (s : State) (text : List ℕ) (levels : Levels) (rest : List ℕ) : Type 0 where
+pub record Reaches (max_depth : ℕ) (s : State) (text : List ℕ) (levels : Levels) (rest : List ℕ) : Type 0 where
   pub next : State
-  pub runs : run limit s text ≡ run limit next rest
+  pub runs : run max_depth s text ≡ run max_depth next rest
   pub trees : flush next ≡ levels
   pub rests : Rests next rest
 
-after-parts : (limit : ℕ) (s : State) (parts : List (List ℕ)) (text : List ℕ)
+after-parts : (max_depth : ℕ) (s : State) (parts : List (List ℕ)) (text : List ℕ)
     → AllByRecursion IsSeparator parts → Rests s (joined parts ++ text)
-    → Reaches limit s (joined parts ++ text) (flush s) text
-after-parts limit s [] text h r = record { next = s; runs = refl; trees = refl; rests = r }
-after-parts limit s (part ∷ parts) text h r =
+    → Reaches max_depth s (joined parts ++ text) (flush s) text
+after-parts max_depth s [] text h r = record { next = s; runs = refl; trees = refl; rests = r }
+after-parts max_depth s (part ∷ parts) text h r =
     let split : joined (part ∷ parts) ++ text ≡ part ++ (joined parts ++ text) = append_assoc part
     (joined parts) text in
     record {
       next = At Nothing [] (flush s);
-      runs = ap (run limit s) split ∙ after-separator limit s part (joined parts ++ text) h.0
-          (subst (Rests s) split r) ∙ run-parts limit (flush s) parts text h.1;
+      runs = ap (run max_depth s) split ∙ after-separator max_depth s part (joined parts ++ text) h.0
+          (subst (Rests s) split r) ∙ run-parts max_depth (flush s) parts text h.1;
       trees = refl;
       rests = inl (refl, refl);
     }
 
-after-gap : (limit : ℕ) (s : State) (gap text : List ℕ) → IsGap gap → Rests s (gap ++ text)
-    → Reaches limit s (gap ++ text) (flush s) text
-after-gap limit s gap text h r =
-    subst (λ x. Reaches limit s (x ++ text) (flush s) text) (sym h.1)
-    (after-parts limit s h.0 text h.2 (subst (λ x. Rests s (x ++ text)) h.1 r))
+after-gap : (max_depth : ℕ) (s : State) (gap text : List ℕ) → IsGap gap → Rests s (gap ++ text)
+    → Reaches max_depth s (gap ++ text) (flush s) text
+after-gap max_depth s gap text h r =
+    subst (λ x. Reaches max_depth s (x ++ text) (flush s) text) (sym h.1)
+    (after-parts max_depth s h.0 text h.2 (subst (λ x. Rests s (x ++ text)) h.1 r))
 
 -- a numeral is read to its end
-record Numbered (limit : ℕ) (levels : Levels) (digits rest : List ℕ) : Type 0 where
+record Numbered (max_depth : ℕ) (levels : Levels) (digits rest : List ℕ) : Type 0 where
   token : AtomState
   kind : (token ≡ Zero) ⊎ (token ≡ Digits)
-  runs : run limit (At Nothing [] levels) (digits ++ rest) ≡ run limit (At token digits levels) rest
+  runs : run max_depth (At Nothing [] levels) (digits ++ rest) ≡ run max_depth (At token digits levels) rest
 
-run-numeral : (limit : ℕ) (levels : Levels) (digits rest : List ℕ) → IsNumeral digits
-    → Numbered limit levels digits rest
-run-numeral limit levels [] rest h = absurd h
-run-numeral limit levels (b ∷ bs) rest (inl h) = record {
+run-numeral : (max_depth : ℕ) (levels : Levels) (digits rest : List ℕ) → IsNumeral digits
+    → Numbered max_depth levels digits rest
+run-numeral max_depth levels [] rest h = absurd h
+run-numeral max_depth levels (b ∷ bs) rest (inl h) = record {
   token = Zero;
   kind = inl refl;
-  runs = run-push limit levels Nothing Zero [] b (bs ++ rest) (ap (λ x. lex Nothing x) h.0) ∙ ap
-      (λ x. run limit (At Zero (b ∷ []) levels) (x ++ rest)) h.1 ∙ ap
-      (λ x. run limit (At Zero (b ∷ x) levels) rest) (sym h.1);
+  runs = run-push max_depth levels Nothing Zero [] b (bs ++ rest) (ap (λ x. lex Nothing x) h.0) ∙ ap
+      (λ x. run max_depth (At Zero (b ∷ []) levels) (x ++ rest)) h.1 ∙ ap
+      (λ x. run max_depth (At Zero (b ∷ x) levels) rest) (sym h.1);
 }
-run-numeral limit levels (b ∷ bs) rest (inr h) = record {
+run-numeral max_depth levels (b ∷ bs) rest (inr h) = record {
   token = Digits;
   kind = inr refl;
-  runs = run-push limit levels Nothing Digits [] b (bs ++ rest)
-      (digit_begins b h.0) ∙ run-pushes limit levels is_digit Digits push_digit (b ∷ []) bs rest h.1;
+  runs = run-push max_depth levels Nothing Digits [] b (bs ++ rest)
+      (digit_begins b h.0) ∙ run-pushes max_depth levels is_digit Digits push_digit (b ∷ []) bs rest h.1;
 }
 
-take-numeral : (limit : ℕ) (levels : Levels) (digits rest : List ℕ) → IsNumeral digits → EndsToken rest
-    → Reaches limit (At Nothing [] levels) (digits ++ rest) (add (Atom sexp.Numeral digits) levels) rest
-take-numeral limit levels digits rest h ends =
-    let n = run-numeral limit levels digits rest h in by n.token n.kind n.runs
+take-numeral : (max_depth : ℕ) (levels : Levels) (digits rest : List ℕ) → IsNumeral digits → EndsToken rest
+    → Reaches max_depth (At Nothing [] levels) (digits ++ rest) (add (Atom sexp.Numeral digits) levels) rest
+take-numeral max_depth levels digits rest h ends =
+    let n = run-numeral max_depth levels digits rest h in by n.token n.kind n.runs
   where
     by : (token : AtomState) → (token ≡ Zero) ⊎ (token ≡ Digits)
-        → run limit (At Nothing [] levels) (digits ++ rest) ≡ run limit (At token digits levels) rest
-        → Reaches limit (At Nothing [] levels) (digits ++ rest) (add (Atom sexp.Numeral digits) levels) rest
+        → run max_depth (At Nothing [] levels) (digits ++ rest) ≡ run max_depth (At token digits levels) rest
+        → Reaches max_depth (At Nothing [] levels) (digits ++ rest) (add (Atom sexp.Numeral digits) levels) rest
     by token (inl e) r = record {
       next = At Zero digits levels;
-      runs = r ∙ ap (λ x. run limit (At x digits levels) rest) e;
+      runs = r ∙ ap (λ x. run max_depth (At x digits levels) rest) e;
       trees = refl;
       rests = inr (tt, ends);
     }
     by token (inr e) r = record {
       next = At Digits digits levels;
-      runs = r ∙ ap (λ x. run limit (At x digits levels) rest) e;
+      runs = r ∙ ap (λ x. run max_depth (At x digits levels) rest) e;
       trees = refl;
       rests = inr (tt, ends);
     }
 
-run-point : (limit : ℕ) (levels : Levels) (token : AtomState) (bytes rest : List ℕ)
+run-point : (max_depth : ℕ) (levels : Levels) (token : AtomState) (bytes rest : List ℕ)
     → (token ≡ Zero) ⊎ (token ≡ Digits)
-    → run limit (At token bytes levels) (point ∷ rest)
-    ≡ run limit (At Point (bytes ++ point ∷ []) levels) rest
-run-point limit levels token bytes rest (inl e) =
-    run-push limit levels token Point bytes point rest (ap (λ x. lex x point) e)
-run-point limit levels token bytes rest (inr e) =
-    run-push limit levels token Point bytes point rest (ap (λ x. lex x point) e)
+    → run max_depth (At token bytes levels) (point ∷ rest)
+    ≡ run max_depth (At Point (bytes ++ point ∷ []) levels) rest
+run-point max_depth levels token bytes rest (inl e) =
+    run-push max_depth levels token Point bytes point rest (ap (λ x. lex x point) e)
+run-point max_depth levels token bytes rest (inr e) =
+    run-push max_depth levels token Point bytes point rest (ap (λ x. lex x point) e)
 
-take-decimal : (limit : ℕ) (levels : Levels) (text rest : List ℕ) → IsDecimal text → EndsToken rest
-    → Reaches limit (At Nothing [] levels) (text ++ rest) (add (Atom sexp.Decimal text) levels) rest
-take-decimal limit levels text rest h ends =
-    let n = run-numeral limit levels h.0 (point ∷ (h.1 ++ rest)) h.3 in
+take-decimal : (max_depth : ℕ) (levels : Levels) (text rest : List ℕ) → IsDecimal text → EndsToken rest
+    → Reaches max_depth (At Nothing [] levels) (text ++ rest) (add (Atom sexp.Decimal text) levels) rest
+take-decimal max_depth levels text rest h ends =
+    let n = run-numeral max_depth levels h.0 (point ∷ (h.1 ++ rest)) h.3 in
     let split : text ++ rest ≡ h.0 ++ (point ∷ (h.1 ++ rest)) = ap (λ x. x ++ rest) h.2 ∙ append_assoc h.0
     (point ∷ h.1) rest in
     let all : (h.0 ++ point ∷ []) ++ h.1 ≡ text = append_assoc h.0 (point ∷ []) h.1 ∙ sym h.2 in
     record {
       next = At Fraction text levels;
-      runs = ap (run limit (At Nothing [] levels)) split ∙ n.runs ∙ run-point limit levels n.token h.0
+      runs = ap (run max_depth (At Nothing [] levels)) split ∙ n.runs ∙ run-point max_depth levels n.token h.0
           (h.1 ++ rest) n.kind
-          ∙ run-some limit levels is_digit Point Fraction push_first_fraction push_fraction
+          ∙ run-some max_depth levels is_digit Point Fraction push_first_fraction push_fraction
           (h.0 ++ point ∷ []) h.1 rest h.4
-          ∙ ap (λ x. run limit (At Fraction x levels) rest) all;
+          ∙ ap (λ x. run max_depth (At Fraction x levels) rest) all;
       trees = refl;
       rests = inr (tt, ends);
     }
 
 -- a token that begins with bytes that are not kept
-take-hex : (limit : ℕ) (levels : Levels) (digits rest : List ℕ) → OneOrMore is_hexadecimal_digit digits
-    → EndsToken rest → Reaches limit (At Nothing [] levels) (35 ∷ 120 ∷ (digits ++ rest))
+take-hex : (max_depth : ℕ) (levels : Levels) (digits rest : List ℕ) → OneOrMore is_hexadecimal_digit digits
+    → EndsToken rest → Reaches max_depth (At Nothing [] levels) (35 ∷ 120 ∷ (digits ++ rest))
     (add (Atom sexp.Hexadecimal digits) levels) rest
-take-hex limit levels digits rest h ends = record {
+take-hex max_depth levels digits rest h ends = record {
   next = At HexDigits digits levels;
   runs =
-      run-some limit levels is_hexadecimal_digit HexMark HexDigits push_first_hex push_hex [] digits rest h;
+      run-some max_depth levels is_hexadecimal_digit HexMark HexDigits push_first_hex push_hex [] digits rest h;
   trees = refl;
   rests = inr (tt, ends);
 }
 
-take-bin : (limit : ℕ) (levels : Levels) (digits rest : List ℕ) → OneOrMore is_binary_digit digits
-    → EndsToken rest → Reaches limit (At Nothing [] levels) (35 ∷ 98 ∷ (digits ++ rest))
+take-bin : (max_depth : ℕ) (levels : Levels) (digits rest : List ℕ) → OneOrMore is_binary_digit digits
+    → EndsToken rest → Reaches max_depth (At Nothing [] levels) (35 ∷ 98 ∷ (digits ++ rest))
     (add (Atom sexp.Binary digits) levels) rest
-take-bin limit levels digits rest h ends = record {
+take-bin max_depth levels digits rest h ends = record {
   next = At BinDigits digits levels;
-  runs = run-some limit levels is_binary_digit BinMark BinDigits push_first_bin push_bin [] digits rest h;
+  runs = run-some max_depth levels is_binary_digit BinMark BinDigits push_first_bin push_bin [] digits rest h;
   trees = refl;
   rests = inr (tt, ends);
 }
 
-take-keyword : (limit : ℕ) (levels : Levels) (name rest : List ℕ) → OneOrMore is_symbol_byte name
-    → EndsToken rest → Reaches limit (At Nothing [] levels) (58 ∷ (name ++ rest))
+take-keyword : (max_depth : ℕ) (levels : Levels) (name rest : List ℕ) → OneOrMore is_symbol_byte name
+    → EndsToken rest → Reaches max_depth (At Nothing [] levels) (58 ∷ (name ++ rest))
     (add (Atom sexp.Keyword name) levels) rest
-take-keyword limit levels name rest h ends = record {
+take-keyword max_depth levels name rest h ends = record {
   next = At KeywordName name levels;
   runs =
-      run-some limit levels is_symbol_byte Colon KeywordName push_first_keyword push_keyword [] name rest h;
+      run-some max_depth levels is_symbol_byte Colon KeywordName push_first_keyword push_keyword [] name rest h;
   trees = refl;
   rests = inr (tt, ends);
 }
 
 -- a string literal
-run-doubled : (limit : ℕ) (levels : Levels) (bytes bs rest : List ℕ) → ZeroOrMore is_text_byte bs
-    → run limit (At InText bytes levels) (doubled bs ++ rest)
-    ≡ run limit (At InText (bytes ++ bs) levels) rest
-run-doubled limit levels bytes [] rest h =
-    ap (λ x. run limit (At InText x levels) rest) (sym (append-nil bytes))
-run-doubled limit levels bytes (b ∷ bs) rest h =
-    by (b == quote) refl (run-doubled limit levels (bytes ++ b ∷ []) bs rest h.1)
+run-doubled : (max_depth : ℕ) (levels : Levels) (bytes bs rest : List ℕ) → ZeroOrMore is_text_byte bs
+    → run max_depth (At InText bytes levels) (doubled bs ++ rest)
+    ≡ run max_depth (At InText (bytes ++ bs) levels) rest
+run-doubled max_depth levels bytes [] rest h =
+    ap (λ x. run max_depth (At InText x levels) rest) (sym (append-nil bytes))
+run-doubled max_depth levels bytes (b ∷ bs) rest h =
+    by (b == quote) refl (run-doubled max_depth levels (bytes ++ b ∷ []) bs rest h.1)
   where
     by : (t : Bool) → (b == quote) ≡ t
-        → run limit (At InText (bytes ++ b ∷ []) levels) (doubled bs ++ rest)
-        ≡ run limit (At InText ((bytes ++ b ∷ []) ++ bs) levels) rest
-        → run limit (At InText bytes levels) (doubled (b ∷ bs) ++ rest)
-        ≡ run limit (At InText (bytes ++ b ∷ bs) levels) rest
+        → run max_depth (At InText (bytes ++ b ∷ []) levels) (doubled bs ++ rest)
+        ≡ run max_depth (At InText ((bytes ++ b ∷ []) ++ bs) levels) rest
+        → run max_depth (At InText bytes levels) (doubled (b ∷ bs) ++ rest)
+        ≡ run max_depth (At InText (bytes ++ b ∷ bs) levels) rest
     by true e later =
-        ap (λ t. run limit (At InText bytes levels)
+        ap (λ t. run max_depth (At InText bytes levels)
         ((if t then b ∷ b ∷ doubled bs else b ∷ doubled bs) ++ rest)) e
-        ∙ run-cons limit (At InText bytes levels) (At TextQuote bytes levels) b (b ∷ (doubled bs ++ rest))
-        (step-at limit (At InText bytes levels) b (Skip TextQuote)
+        ∙ run-cons max_depth (At InText bytes levels) (At TextQuote bytes levels) b (b ∷ (doubled bs ++ rest))
+        (step-at max_depth (At InText bytes levels) b (Skip TextQuote)
         (ap (λ t. if t then Skip TextQuote else if is_text_byte b then Push InText else Stuck) e))
-        ∙ run-push limit levels TextQuote InText bytes b (doubled bs ++ rest)
+        ∙ run-push max_depth levels TextQuote InText bytes b (doubled bs ++ rest)
         (ap (λ t. if t then Push InText else separated b) e)
-        ∙ later ∙ ap (λ x. run limit (At InText x levels) rest) (append_assoc bytes (b ∷ []) bs)
+        ∙ later ∙ ap (λ x. run max_depth (At InText x levels) rest) (append_assoc bytes (b ∷ []) bs)
     by false e later =
-        ap (λ t. run limit (At InText bytes levels)
+        ap (λ t. run max_depth (At InText bytes levels)
         ((if t then b ∷ b ∷ doubled bs else b ∷ doubled bs) ++ rest)) e
-        ∙ run-push limit levels InText InText bytes b (doubled bs ++ rest) (push_text b e h.0)
-        ∙ later ∙ ap (λ x. run limit (At InText x levels) rest) (append_assoc bytes (b ∷ []) bs)
+        ∙ run-push max_depth levels InText InText bytes b (doubled bs ++ rest) (push_text b e h.0)
+        ∙ later ∙ ap (λ x. run max_depth (At InText x levels) rest) (append_assoc bytes (b ∷ []) bs)
 
-take-text : (limit : ℕ) (levels : Levels) (bytes rest : List ℕ) → ZeroOrMore is_text_byte bytes
-    → EndsToken rest → Reaches limit (At Nothing [] levels) ((quote ∷ (doubled bytes ++ quote ∷ [])) ++ rest)
+take-text : (max_depth : ℕ) (levels : Levels) (bytes rest : List ℕ) → ZeroOrMore is_text_byte bytes
+    → EndsToken rest → Reaches max_depth (At Nothing [] levels) ((quote ∷ (doubled bytes ++ quote ∷ [])) ++ rest)
     (add (Atom sexp.Text bytes) levels) rest
-take-text limit levels bytes rest h ends = record {
+take-text max_depth levels bytes rest h ends = record {
   next = At TextQuote bytes levels;
-  runs = ap (run limit (At InText [] levels))
-      (append_assoc (doubled bytes) (quote ∷ []) rest) ∙ run-doubled limit levels [] bytes (quote ∷ rest) h;
+  runs = ap (run max_depth (At InText [] levels))
+      (append_assoc (doubled bytes) (quote ∷ []) rest) ∙ run-doubled max_depth levels [] bytes (quote ∷ rest) h;
   trees = refl;
   rests = inr (tt, ends);
 }
 
 -- a quoted symbol
-pub run-barred : (limit : ℕ) (levels : Levels) (name rest : List ℕ) → ZeroOrMore is_quoted_byte name
-    → run limit (At Nothing [] levels) (barred name ++ rest)
-    ≡ run limit (At AfterBar [] (add (Atom sexp.Symbol name) levels)) rest
-run-barred limit levels name rest h =
-    ap (run limit (At InBars [] levels)) (append_assoc name (bar ∷ []) rest)
-    ∙ run-pushes limit levels is_quoted_byte InBars push_quoted [] name (bar ∷ rest) h
+pub run-barred : (max_depth : ℕ) (levels : Levels) (name rest : List ℕ) → ZeroOrMore is_quoted_byte name
+    → run max_depth (At Nothing [] levels) (barred name ++ rest)
+    ≡ run max_depth (At AfterBar [] (add (Atom sexp.Symbol name) levels)) rest
+run-barred max_depth levels name rest h =
+    ap (run max_depth (At InBars [] levels)) (append_assoc name (bar ∷ []) rest)
+    ∙ run-pushes max_depth levels is_quoted_byte InBars push_quoted [] name (bar ∷ rest) h
 
-take-barred : (limit : ℕ) (levels : Levels) (name rest : List ℕ) → ZeroOrMore is_quoted_byte name
-    → EndsToken rest → Reaches limit (At Nothing [] levels) (barred name ++ rest)
+take-barred : (max_depth : ℕ) (levels : Levels) (name rest : List ℕ) → ZeroOrMore is_quoted_byte name
+    → EndsToken rest → Reaches max_depth (At Nothing [] levels) (barred name ++ rest)
     (add (Atom sexp.Symbol name) levels) rest
-take-barred limit levels name rest h ends = record {
+take-barred max_depth levels name rest h ends = record {
   next = At AfterBar [] (add (Atom sexp.Symbol name) levels);
-  runs = run-barred limit levels name rest h;
+  runs = run-barred max_depth levels name rest h;
   trees = refl;
   rests = inr (tt, ends);
 }
@@ -345,12 +345,12 @@ abbrev pub IsName : List ℕ → Type 0
 IsName [] = ⊥
 IsName (b ∷ bs) = (is_letter b ≡ true) × ZeroOrMore is_symbol_byte bs
 
-run-name : (limit : ℕ) (levels : Levels) (name rest : List ℕ) → IsName name
-    → run limit (At Nothing [] levels) (name ++ rest) ≡ run limit (At Name name levels) rest
-run-name limit levels [] rest h = absurd h
-run-name limit levels (b ∷ bs) rest h =
-    run-push limit levels Nothing Name [] b (bs ++ rest)
-    (letter_begins b h.0) ∙ run-pushes limit levels is_symbol_byte Name push_name (b ∷ []) bs rest h.1
+run-name : (max_depth : ℕ) (levels : Levels) (name rest : List ℕ) → IsName name
+    → run max_depth (At Nothing [] levels) (name ++ rest) ≡ run max_depth (At Name name levels) rest
+run-name max_depth levels [] rest h = absurd h
+run-name max_depth levels (b ∷ bs) rest h =
+    run-push max_depth levels Nothing Name [] b (bs ++ rest)
+    (letter_begins b h.0) ∙ run-pushes max_depth levels is_symbol_byte Name push_name (b ∷ []) bs rest h.1
 
 -- a name that is no reserved word
 name_is : (o : Option Word) (bytes : List ℕ) → word_named bytes ≡ o
@@ -367,11 +367,11 @@ no_word : (name : List ℕ) → IsSimpleSymbol name → (word : Word) → name �
 no_word [] h = absurd h
 no_word (b ∷ bs) h = h.2
 
-take-symbol : (limit : ℕ) (levels : Levels) (name rest : List ℕ) → IsSimpleSymbol name → EndsToken rest
-    → Reaches limit (At Nothing [] levels) (name ++ rest) (add (Atom sexp.Symbol name) levels) rest
-take-symbol limit levels name rest h ends = record {
+take-symbol : (max_depth : ℕ) (levels : Levels) (name rest : List ℕ) → IsSimpleSymbol name → EndsToken rest
+    → Reaches max_depth (At Nothing [] levels) (name ++ rest) (add (Atom sexp.Symbol name) levels) rest
+take-symbol max_depth levels name rest h ends = record {
   next = At Name name levels;
-  runs = run-name limit levels name rest (name_of_symbol name h);
+  runs = run-name max_depth levels name rest (name_of_symbol name h);
   trees = ap (λ x. add x levels) (name_is (word_named name) name refl (no_word name h));
   rests = inr (tt, ends);
 }
@@ -438,11 +438,11 @@ letters_of words.SetInfo = name_by (spelling_of words.SetInfo) refl
 letters_of words.SetLogic = name_by (spelling_of words.SetLogic) refl
 letters_of words.SetOption = name_by (spelling_of words.SetOption) refl
 
-take-word : (limit : ℕ) (levels : Levels) (word : Word) (name rest : List ℕ) → name ≡ spelling_of word
-    → EndsToken rest → Reaches limit (At Nothing [] levels) (name ++ rest) (add (Reserved word) levels) rest
-take-word limit levels word name rest is ends = record {
+take-word : (max_depth : ℕ) (levels : Levels) (word : Word) (name rest : List ℕ) → name ≡ spelling_of word
+    → EndsToken rest → Reaches max_depth (At Nothing [] levels) (name ++ rest) (add (Reserved word) levels) rest
+take-word max_depth levels word name rest is ends = record {
   next = At Name name levels;
-  runs = run-name limit levels name rest (subst IsName (sym is) (letters_of word));
+  runs = run-name max_depth levels name rest (subst IsName (sym is) (letters_of word));
   trees = ap (λ o. add (name_or_word o name) levels) (ap word_named is ∙ word_named-spelling word);
   rests = inr (tt, ends);
 }
@@ -478,85 +478,85 @@ begins_name (b ∷ bs) h = letter_no_ender b h.0
 pub no_ender : (b : ℕ) → ends_token b ≡ false → ends_token b ≡ true → ⊥
 no_ender b e f = cc
 
-after-parenthesis : (limit : ℕ) (s : State) (b : ℕ) (spelled rest : List ℕ) (levels : Levels)
-    → spelled ≡ b ∷ [] → step limit s b ≡ Some (At Nothing [] levels)
-    → Reaches limit s (spelled ++ rest) levels rest
-after-parenthesis limit s b spelled rest levels is e = record {
+after-parenthesis : (max_depth : ℕ) (s : State) (b : ℕ) (spelled rest : List ℕ) (levels : Levels)
+    → spelled ≡ b ∷ [] → step max_depth s b ≡ Some (At Nothing [] levels)
+    → Reaches max_depth s (spelled ++ rest) levels rest
+after-parenthesis max_depth s b spelled rest levels is e = record {
   next = At Nothing [] levels;
-  runs = ap (λ x. run limit s (x ++ rest)) is ∙ run-cons limit s (At Nothing [] levels) b rest e;
+  runs = ap (λ x. run max_depth s (x ++ rest)) is ∙ run-cons max_depth s (At Nothing [] levels) b rest e;
   trees = refl;
   rests = inl (refl, refl);
 }
 
-step-open : (limit : ℕ) (s : State) (spelled rest : List ℕ) (levels : Levels) → spelled ≡ 40 ∷ []
-    → Rests s (spelled ++ rest) → act limit OpenParenthesis (flush s) ≡ Some levels
-    → step limit s 40 ≡ Some (At Nothing [] levels)
-step-open limit (At token bytes at) spelled rest levels is r e =
-    step-separated limit token bytes at 40 rest
+step-open : (max_depth : ℕ) (s : State) (spelled rest : List ℕ) (levels : Levels) → spelled ≡ 40 ∷ []
+    → Rests s (spelled ++ rest) → act max_depth OpenParenthesis (flush s) ≡ Some levels
+    → step max_depth s 40 ≡ Some (At Nothing [] levels)
+step-open max_depth (At token bytes at) spelled rest levels is r e =
+    step-separated max_depth token bytes at 40 rest
     (subst (λ x. Rests (At token bytes at) (x ++ rest)) is r) refl ∙ ap settle e
 
-pub step-close : (limit : ℕ) (s : State) (spelled rest : List ℕ) (levels : Levels) → spelled ≡ 41 ∷ []
-    → Rests s (spelled ++ rest) → act limit CloseParenthesis (flush s) ≡ Some levels
-    → step limit s 41 ≡ Some (At Nothing [] levels)
-step-close limit (At token bytes at) spelled rest levels is r e =
-    step-separated limit token bytes at 41 rest
+pub step-close : (max_depth : ℕ) (s : State) (spelled rest : List ℕ) (levels : Levels) → spelled ≡ 41 ∷ []
+    → Rests s (spelled ++ rest) → act max_depth CloseParenthesis (flush s) ≡ Some levels
+    → step max_depth s 41 ≡ Some (At Nothing [] levels)
+step-close max_depth (At token bytes at) spelled rest levels is r e =
+    step-separated max_depth token bytes at 41 rest
     (subst (λ x. Rests (At token bytes at) (x ++ rest)) is r) refl ∙ ap settle e
 
 -- a token other than a parenthesis, read where none has begun
-moved : (limit : ℕ) (s : State) (x : Sexp) (spelled written rest : List ℕ) (levels : Levels)
+moved : (max_depth : ℕ) (s : State) (x : Sexp) (spelled written rest : List ℕ) (levels : Levels)
     → spelled ≡ written → BeginsToken written → Rests s (spelled ++ rest)
     → Some (add x (flush s)) ≡ Some levels
-    → Reaches limit (At Nothing [] (flush s)) (written ++ rest) (add x (flush s)) rest
-    → Reaches limit s (spelled ++ rest) levels rest
-moved limit s x spelled written rest levels is begins r e t =
+    → Reaches max_depth (At Nothing [] (flush s)) (written ++ rest) (add x (flush s)) rest
+    → Reaches max_depth s (spelled ++ rest) levels rest
+moved max_depth s x spelled written rest levels is begins r e t =
     let at : At Nothing [] (flush s) ≡ s = none_begun s written rest begins
     (subst (λ y. Rests s (y ++ rest)) is r) in
     let same : add x (flush s) ≡ levels = cc in
     record {
       next = t.next;
-      runs = ap (λ y. run limit s (y ++ rest)) is ∙ ap (λ y. run limit y (written ++ rest)) (sym at) ∙ t.runs;
+      runs = ap (λ y. run max_depth s (y ++ rest)) is ∙ ap (λ y. run max_depth y (written ++ rest)) (sym at) ∙ t.runs;
       trees = t.trees ∙ same;
       rests = t.rests;
     }
 
 -- a token does to a state what it does to its trees
-pub after-token : (limit : ℕ) (s : State) (token : Token) (spelled rest : List ℕ) (levels : Levels)
+pub after-token : (max_depth : ℕ) (s : State) (token : Token) (spelled rest : List ℕ) (levels : Levels)
     → IsSpelling token spelled → IsApart token rest → Rests s (spelled ++ rest)
-    → act limit token (flush s) ≡ Some levels → Reaches limit s (spelled ++ rest) levels rest
-after-token limit s OpenParenthesis spelled rest levels is apart r e =
-    after-parenthesis limit s 40 spelled rest levels is (step-open limit s spelled rest levels is r e)
-after-token limit s CloseParenthesis spelled rest levels is apart r e =
-    after-parenthesis limit s 41 spelled rest levels is (step-close limit s spelled rest levels is r e)
-after-token limit s (WordToken word) spelled rest levels is apart r e =
-    moved limit s (Reserved word) spelled spelled rest levels refl
+    → act max_depth token (flush s) ≡ Some levels → Reaches max_depth s (spelled ++ rest) levels rest
+after-token max_depth s OpenParenthesis spelled rest levels is apart r e =
+    after-parenthesis max_depth s 40 spelled rest levels is (step-open max_depth s spelled rest levels is r e)
+after-token max_depth s CloseParenthesis spelled rest levels is apart r e =
+    after-parenthesis max_depth s 41 spelled rest levels is (step-close max_depth s spelled rest levels is r e)
+after-token max_depth s (WordToken word) spelled rest levels is apart r e =
+    moved max_depth s (Reserved word) spelled spelled rest levels refl
     (begins_name spelled (subst IsName (sym is) (letters_of word))) r e
-    (take-word limit (flush s) word spelled rest is apart)
-after-token limit s (AtomToken sexp.Numeral digits) spelled rest levels is apart r e =
-    moved limit s (Atom sexp.Numeral digits) spelled digits rest levels is.0 (begins_numeral digits is.1) r e
-    (take-numeral limit (flush s) digits rest is.1 apart)
-after-token limit s (AtomToken sexp.Decimal bytes) spelled rest levels is apart r e =
-    moved limit s (Atom sexp.Decimal bytes) spelled bytes rest levels is.0
+    (take-word max_depth (flush s) word spelled rest is apart)
+after-token max_depth s (AtomToken sexp.Numeral digits) spelled rest levels is apart r e =
+    moved max_depth s (Atom sexp.Numeral digits) spelled digits rest levels is.0 (begins_numeral digits is.1) r e
+    (take-numeral max_depth (flush s) digits rest is.1 apart)
+after-token max_depth s (AtomToken sexp.Decimal bytes) spelled rest levels is apart r e =
+    moved max_depth s (Atom sexp.Decimal bytes) spelled bytes rest levels is.0
     (subst BeginsToken (sym is.1.2)
     (begins_longer is.1.0 (point ∷ is.1.1) (begins_numeral is.1.0 is.1.3))) r e
-    (take-decimal limit (flush s) bytes rest is.1 apart)
-after-token limit s (AtomToken sexp.Hexadecimal digits) spelled rest levels is apart r e =
-    moved limit s (Atom sexp.Hexadecimal digits) spelled (35 ∷ 120 ∷ digits) rest levels is.0
-    (no_ender 35 refl) r e (take-hex limit (flush s) digits rest is.1 apart)
-after-token limit s (AtomToken sexp.Binary digits) spelled rest levels is apart r e =
-    moved limit s (Atom sexp.Binary digits) spelled (35 ∷ 98 ∷ digits) rest levels is.0 (no_ender 35 refl) r e
-    (take-bin limit (flush s) digits rest is.1 apart)
-after-token limit s (AtomToken sexp.Text bytes) spelled rest levels is apart r e =
-    moved limit s (Atom sexp.Text bytes) spelled (quote ∷ (doubled bytes ++ quote ∷ [])) rest levels is.0
-    (no_ender quote refl) r e (take-text limit (flush s) bytes rest is.1 apart)
-after-token limit s (AtomToken sexp.Keyword name) spelled rest levels is apart r e =
-    moved limit s (Atom sexp.Keyword name) spelled (58 ∷ name) rest levels is.0 (no_ender 58 refl) r e
-    (take-keyword limit (flush s) name rest is.1 apart)
-after-token limit s (AtomToken sexp.Symbol name) spelled rest levels (inl is) apart r e =
-    moved limit s (Atom sexp.Symbol name) spelled name rest levels is.0
-    (begins_name name (name_of_symbol name is.1)) r e (take-symbol limit (flush s) name rest is.1 apart)
-after-token limit s (AtomToken sexp.Symbol name) spelled rest levels (inr is) apart r e =
-    moved limit s (Atom sexp.Symbol name) spelled (barred name) rest levels is.0 (no_ender bar refl) r e
-    (take-barred limit (flush s) name rest is.1 apart)
+    (take-decimal max_depth (flush s) bytes rest is.1 apart)
+after-token max_depth s (AtomToken sexp.Hexadecimal digits) spelled rest levels is apart r e =
+    moved max_depth s (Atom sexp.Hexadecimal digits) spelled (35 ∷ 120 ∷ digits) rest levels is.0
+    (no_ender 35 refl) r e (take-hex max_depth (flush s) digits rest is.1 apart)
+after-token max_depth s (AtomToken sexp.Binary digits) spelled rest levels is apart r e =
+    moved max_depth s (Atom sexp.Binary digits) spelled (35 ∷ 98 ∷ digits) rest levels is.0 (no_ender 35 refl) r e
+    (take-bin max_depth (flush s) digits rest is.1 apart)
+after-token max_depth s (AtomToken sexp.Text bytes) spelled rest levels is apart r e =
+    moved max_depth s (Atom sexp.Text bytes) spelled (quote ∷ (doubled bytes ++ quote ∷ [])) rest levels is.0
+    (no_ender quote refl) r e (take-text max_depth (flush s) bytes rest is.1 apart)
+after-token max_depth s (AtomToken sexp.Keyword name) spelled rest levels is apart r e =
+    moved max_depth s (Atom sexp.Keyword name) spelled (58 ∷ name) rest levels is.0 (no_ender 58 refl) r e
+    (take-keyword max_depth (flush s) name rest is.1 apart)
+after-token max_depth s (AtomToken sexp.Symbol name) spelled rest levels (inl is) apart r e =
+    moved max_depth s (Atom sexp.Symbol name) spelled name rest levels is.0
+    (begins_name name (name_of_symbol name is.1)) r e (take-symbol max_depth (flush s) name rest is.1 apart)
+after-token max_depth s (AtomToken sexp.Symbol name) spelled rest levels (inr is) apart r e =
+    moved max_depth s (Atom sexp.Symbol name) spelled (barred name) rest levels is.0 (no_ender bar refl) r e
+    (take-barred max_depth (flush s) name rest is.1 apart)
 
 -- what tokens do to the trees
 abbrev pub act_next : Option Levels → (Levels → Option Levels) → Option Levels
@@ -564,50 +564,50 @@ act_next None f = None
 act_next (Some levels) f = f levels
 
 abbrev pub acts : ℕ → List Token → Levels → Option Levels
-acts limit [] levels = Some levels
-acts limit (token ∷ tokens) levels = act_next (act limit token levels) (λ next. acts limit tokens next)
+acts max_depth [] levels = Some levels
+acts max_depth (token ∷ tokens) levels = act_next (act max_depth token levels) (λ next. acts max_depth tokens next)
 
 -- a text of tokens does what they do, up to its rest
-pub record Arrives (limit : ℕ) (Last : List ℕ → Type 0) (s : State) (text : List ℕ)
+pub record Arrives (max_depth : ℕ) (Last : List ℕ → Type 0) (s : State) (text : List ℕ)
     (levels : Levels) : Type 0 where
   pub rest : List ℕ
   pub last : Last rest
-  pub reaches : Reaches limit s text levels rest
+  pub reaches : Reaches max_depth s text levels rest
 
-pub arrives : (limit : ℕ) (Last : List ℕ → Type 0) (tokens : List Token) (text : List ℕ) (s : State)
-    (levels : Levels) → IsTextThen Last tokens text → Rests s text → acts limit tokens (flush s) ≡ Some levels
-    → Arrives limit Last s text levels
-arrives limit Last [] text s levels h r e =
-    let g = after-gap limit s h.0 h.1 h.3 (subst (Rests s) h.2 r) in
+pub arrives : (max_depth : ℕ) (Last : List ℕ → Type 0) (tokens : List Token) (text : List ℕ) (s : State)
+    (levels : Levels) → IsTextThen Last tokens text → Rests s text → acts max_depth tokens (flush s) ≡ Some levels
+    → Arrives max_depth Last s text levels
+arrives max_depth Last [] text s levels h r e =
+    let g = after-gap max_depth s h.0 h.1 h.3 (subst (Rests s) h.2 r) in
     let same : flush s ≡ levels = cc in
     record {
       rest = h.1;
       last = h.4;
       reaches = record {
         next = g.next;
-        runs = ap (run limit s) h.2 ∙ g.runs;
+        runs = ap (run max_depth s) h.2 ∙ g.runs;
         trees = g.trees ∙ same;
         rests = g.rests;
       };
     }
-arrives limit Last (token ∷ tokens) text s levels h r e =
-    by_act (act limit token (flush s)) refl (λ rest next. arrives limit Last tokens rest next levels)
+arrives max_depth Last (token ∷ tokens) text s levels h r e =
+    by_act (act max_depth token (flush s)) refl (λ rest next. arrives max_depth Last tokens rest next levels)
   where
-    by_act : (o : Option Levels) → act limit token (flush s) ≡ o
+    by_act : (o : Option Levels) → act max_depth token (flush s) ≡ o
         → ((rest : List ℕ) (next : State) → IsTextThen Last tokens rest → Rests next rest
-        → acts limit tokens (flush next) ≡ Some levels → Arrives limit Last next rest levels)
-        → Arrives limit Last s text levels
-    by_act None a later = let none : acts limit (token ∷ tokens) (flush s)
-        ≡ None = ap (λ o. act_next o (λ next. acts limit tokens next)) a in absurd (cc)
+        → acts max_depth tokens (flush next) ≡ Some levels → Arrives max_depth Last next rest levels)
+        → Arrives max_depth Last s text levels
+    by_act None a later = let none : acts max_depth (token ∷ tokens) (flush s)
+        ≡ None = ap (λ o. act_next o (λ next. acts max_depth tokens next)) a in absurd (cc)
     by_act (Some nearer) a later =
-        let g = after-gap limit s h.0 (h.1 ++ h.2) h.4 (subst (Rests s) h.3 r) in
-        let t = after-token limit g.next token h.1 h.2 nearer h.5 h.6 g.rests
-        (ap (act limit token) g.trees ∙ a) in
-        let rest_acts : acts limit tokens nearer ≡ Some levels = sym
-        (ap (λ o. act_next o (λ next. acts limit tokens next)) a) ∙ e in
-        let end = later h.2 t.next h.7 t.rests (ap (acts limit tokens) t.trees ∙ rest_acts) in
-        let way : run limit s text ≡ run limit end.reaches.next end.rest = ap
-        (run limit s) h.3 ∙ g.runs ∙ t.runs ∙ end.reaches.runs in
+        let g = after-gap max_depth s h.0 (h.1 ++ h.2) h.4 (subst (Rests s) h.3 r) in
+        let t = after-token max_depth g.next token h.1 h.2 nearer h.5 h.6 g.rests
+        (ap (act max_depth token) g.trees ∙ a) in
+        let rest_acts : acts max_depth tokens nearer ≡ Some levels = sym
+        (ap (λ o. act_next o (λ next. acts max_depth tokens next)) a) ∙ e in
+        let end = later h.2 t.next h.7 t.rests (ap (acts max_depth tokens) t.trees ∙ rest_acts) in
+        let way : run max_depth s text ≡ run max_depth end.reaches.next end.rest = ap
+        (run max_depth s) h.3 ∙ g.runs ∙ t.runs ∙ end.reaches.runs in
         record {
           rest = end.rest;
           last = end.last;
@@ -620,9 +620,9 @@ arrives limit Last (token ∷ tokens) text s levels h r e =
         }
 
 -- the end of a text
-pub record Ends (limit : ℕ) (s : State) (text : List ℕ) (levels : Levels) : Type 0 where
+pub record Ends (max_depth : ℕ) (s : State) (text : List ℕ) (levels : Levels) : Type 0 where
   pub next : State
-  pub runs : run limit s text ≡ Some next
+  pub runs : run max_depth s text ≡ Some next
   pub trees : flush next ≡ levels
   pub whole : may_end (token_in next) ≡ true
 
@@ -650,15 +650,15 @@ rests_end : (s : State) (text : List ℕ) → Rests s text → may_end (token_in
 rests_end (At token bytes levels) text (inl e) = ap may_end e.0
 rests_end (At token bytes levels) text (inr m) = may_be_ended_ends token m.0
 
-ends_after : (limit : ℕ) (s : State) (rest : List ℕ) → IsTextEnd rest → Rests s rest
-    → Ends limit s rest (flush s)
-ends_after limit s rest (inl e) r =
-    record { next = s; runs = ap (run limit s) e; trees = refl; whole = rests_end s rest r }
-ends_after limit s rest (inr h) r =
+ends_after : (max_depth : ℕ) (s : State) (rest : List ℕ) → IsTextEnd rest → Rests s rest
+    → Ends max_depth s rest (flush s)
+ends_after max_depth s rest (inl e) r =
+    record { next = s; runs = ap (run max_depth s) e; trees = refl; whole = rests_end s rest r }
+ends_after max_depth s rest (inr h) r =
     let all : rest ++ [] ≡ rest = append-nil rest in
     record {
       next = At InComment [] (flush s);
-      runs = ap (run limit s) (sym all) ∙ comment-begun limit s rest [] h (subst (Rests s) (sym all) r);
+      runs = ap (run max_depth s) (sym all) ∙ comment-begun max_depth s rest [] h (subst (Rests s) (sym all) r);
       trees = refl;
       whole = refl;
     }
@@ -680,37 +680,37 @@ pub depth_of-add : (x : Sexp) (levels : Levels) → depth_of (add x levels) ≡ 
 depth_of-add x (On [] top) = refl
 depth_of-add x (On (parts ∷ lists) top) = refl
 
-acts-open : (limit : ℕ) (tokens : List Token) (lists : List Sexps) (top : Sexps) → length lists < limit
-    → acts limit (OpenParenthesis ∷ tokens) (On lists top) ≡ acts limit tokens (On (Nil ∷ lists) top)
-acts-open limit tokens lists top h = rw (lt-ltb (length lists) limit h) refl
+acts-open : (max_depth : ℕ) (tokens : List Token) (lists : List Sexps) (top : Sexps) → length lists < max_depth
+    → acts max_depth (OpenParenthesis ∷ tokens) (On lists top) ≡ acts max_depth tokens (On (Nil ∷ lists) top)
+acts-open max_depth tokens lists top h = rw (lt-ltb (length lists) max_depth h) refl
 
 -- the tokens of trees add them, where lists may nest so deep
 mutual
-  pub acts-tree : (limit : ℕ) (x : Sexp) (later : List Token) (levels : Levels)
-      → depth x + depth_of levels ≤ limit
-      → acts limit (tokens_of x later) levels ≡ acts limit later (add x levels)
-  acts-tree limit (Atom kind bytes) later levels h = refl
-  acts-tree limit (Reserved word) later levels h = refl
-  acts-tree limit (Items parts) later (On lists top) h =
-      acts-open limit (tokens_of_all parts (CloseParenthesis ∷ later)) lists top (omega arith)
-      ∙ acts-trees limit parts (CloseParenthesis ∷ later) (On (Nil ∷ lists) top) (omega arith)
+  pub acts-tree : (max_depth : ℕ) (x : Sexp) (later : List Token) (levels : Levels)
+      → depth x + depth_of levels ≤ max_depth
+      → acts max_depth (tokens_of x later) levels ≡ acts max_depth later (add x levels)
+  acts-tree max_depth (Atom kind bytes) later levels h = refl
+  acts-tree max_depth (Reserved word) later levels h = refl
+  acts-tree max_depth (Items parts) later (On lists top) h =
+      acts-open max_depth (tokens_of_all parts (CloseParenthesis ∷ later)) lists top (omega arith)
+      ∙ acts-trees max_depth parts (CloseParenthesis ∷ later) (On (Nil ∷ lists) top) (omega arith)
 
-  pub acts-trees : (limit : ℕ) (xs : Sexps) (later : List Token) (levels : Levels)
-      → depth_all xs + depth_of levels ≤ limit
-      → acts limit (tokens_of_all xs later) levels ≡ acts limit later (extend xs levels)
-  acts-trees limit Nil later levels h = ap (acts limit later) (sym (extend_none levels))
-  acts-trees limit (Cons x xs) later levels h =
-      acts-tree limit x (tokens_of_all xs later) levels (omega arith)
-      ∙ acts-trees limit xs later (add x levels) (omega (arith, depth_of-add x levels))
-      ∙ ap (acts limit later) (extend_more x xs levels)
+  pub acts-trees : (max_depth : ℕ) (xs : Sexps) (later : List Token) (levels : Levels)
+      → depth_all xs + depth_of levels ≤ max_depth
+      → acts max_depth (tokens_of_all xs later) levels ≡ acts max_depth later (extend xs levels)
+  acts-trees max_depth Nil later levels h = ap (acts max_depth later) (sym (extend_none levels))
+  acts-trees max_depth (Cons x xs) later levels h =
+      acts-tree max_depth x (tokens_of_all xs later) levels (omega arith)
+      ∙ acts-trees max_depth xs later (add x levels) (omega (arith, depth_of-add x levels))
+      ∙ ap (acts max_depth later) (extend_more x xs levels)
 
 -- a text of trees runs to them
-pub reads-forest : (limit : ℕ) (text : List ℕ) (xs : Sexps) → Forest limit text xs
-    → Ends limit start text (On [] xs)
-reads-forest limit text xs h =
-    let a = arrives limit IsTextEnd (tokens_of_all xs []) text start (On [] xs) h.tokens (inl (refl, refl))
-    (acts-trees limit xs [] (On [] Nil) (omega (arith, h.shallow))) in
-    let e = ends_after limit a.reaches.next a.rest a.last a.reaches.rests in
+pub reads-forest : (max_depth : ℕ) (text : List ℕ) (xs : Sexps) → Forest max_depth text xs
+    → Ends max_depth start text (On [] xs)
+reads-forest max_depth text xs h =
+    let a = arrives max_depth IsTextEnd (tokens_of_all xs []) text start (On [] xs) h.tokens (inl (refl, refl))
+    (acts-trees max_depth xs [] (On [] Nil) (omega (arith, h.shallow))) in
+    let e = ends_after max_depth a.reaches.next a.rest a.last a.reaches.rests in
     record {
       next = e.next;
       runs = a.reaches.runs ∙ e.runs;

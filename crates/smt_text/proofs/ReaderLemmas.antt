@@ -10,9 +10,9 @@ use Rattle.smt_text.proofs.BuilderLemmas.{depth_of-flush}
 use Rattle.smt_text.proofs.ReaderCompleteness.{run-append}
 use Rattle.smt_text.specs.Grammar.{OpenParenthesis, CloseParenthesis}
 use Rattle.smt_text.specs.Reader.{is_finished, bytes_fed, flaw_of, trees_ready, Keeps, StandsFor, Answers}
-use Rattle.smt_text.specs.Internal.Machine.{Levels, On, State, At, start, add, atom_of, add_if, flush, act}
-use Rattle.smt_text.specs.Internal.Machine.{settle, lex, move, may_end, token_in, step, go_on, run, depth_of}
-use Rattle.smt_text.specs.Internal.Machine.{depth_in, top_of, complete_of, IsStuck, Leaves, blame}
+use Rattle.smt_text.specs.Internal.LexerStates.{Levels, On, State, At, start, add, atom_of, add_if, flush, act}
+use Rattle.smt_text.specs.Internal.LexerStates.{settle, lex, move, may_end, token_in, step, go_on, run, depth_of}
+use Rattle.smt_text.specs.Internal.LexerStates.{depth_in, top_of, complete_of, IsStuck, Leaves, blame}
 use Rattle.smt_text.specs.Reading.{Reads}
 use Rattle.smt_text.specs.Internal.OpenLists.{lists_of}
 use Rattle.smt_text.specs.Internal.ReaderState.{GoesOnFrom, state_of, under, after_taken}
@@ -59,41 +59,41 @@ add_if_under taken (Some x) levels = add_under taken x levels
 pub flush_after : (taken : Sexps) (s : State) → flush (after_taken taken s) ≡ under taken (flush s)
 flush_after taken (At token bytes levels) = add_if_under taken (atom_of token bytes) levels
 
-open_under : (limit : ℕ) (taken : Sexps) (levels : Levels)
-    → settle (act limit OpenParenthesis (under taken levels))
-    ≡ after_if taken (settle (act limit OpenParenthesis levels))
-open_under limit taken (On lists top) = by (ltb (length lists) limit)
+open_under : (max_depth : ℕ) (taken : Sexps) (levels : Levels)
+    → settle (act max_depth OpenParenthesis (under taken levels))
+    ≡ after_if taken (settle (act max_depth OpenParenthesis levels))
+open_under max_depth taken (On lists top) = by (ltb (length lists) max_depth)
   where
     by : (t : Bool) → settle (cond t (Some (On (Nil ∷ lists) (append taken top))) None)
         ≡ after_if taken (settle (cond t (Some (On (Nil ∷ lists) top)) None))
     by true = refl
     by false = refl
 
-close_under : (limit : ℕ) (taken : Sexps) (levels : Levels)
-    → settle (act limit CloseParenthesis (under taken levels))
-    ≡ after_if taken (settle (act limit CloseParenthesis levels))
-close_under limit taken (On [] top) = refl
-close_under limit taken (On (parts ∷ lists) top) =
+close_under : (max_depth : ℕ) (taken : Sexps) (levels : Levels)
+    → settle (act max_depth CloseParenthesis (under taken levels))
+    ≡ after_if taken (settle (act max_depth CloseParenthesis levels))
+close_under max_depth taken (On [] top) = refl
+close_under max_depth taken (On (parts ∷ lists) top) =
     ap (λ x. Some (At Nothing [] x)) (add_under taken (Items parts) (On lists top))
 
-move_after : (limit : ℕ) (taken : Sexps) (what : LexerStep) (s : State) (b : ℕ)
-    → move limit what (after_taken taken s) b ≡ after_if taken (move limit what s b)
-move_after limit taken (Push next) (At token bytes levels) b = refl
-move_after limit taken (Skip next) (At token bytes levels) b = refl
-move_after limit taken (Finish next) s b = ap (λ x. Some (At next [] x)) (flush_after taken s)
-move_after limit taken Open s b =
-    ap (λ x. settle (act limit OpenParenthesis x)) (flush_after taken s) ∙ open_under limit taken (flush s)
-move_after limit taken Close s b =
-    ap (λ x. settle (act limit CloseParenthesis x)) (flush_after taken s) ∙ close_under limit taken (flush s)
-move_after limit taken Stuck s b = refl
+move_after : (max_depth : ℕ) (taken : Sexps) (what : LexerStep) (s : State) (b : ℕ)
+    → move max_depth what (after_taken taken s) b ≡ after_if taken (move max_depth what s b)
+move_after max_depth taken (Push next) (At token bytes levels) b = refl
+move_after max_depth taken (Skip next) (At token bytes levels) b = refl
+move_after max_depth taken (Finish next) s b = ap (λ x. Some (At next [] x)) (flush_after taken s)
+move_after max_depth taken Open s b =
+    ap (λ x. settle (act max_depth OpenParenthesis x)) (flush_after taken s) ∙ open_under max_depth taken (flush s)
+move_after max_depth taken Close s b =
+    ap (λ x. settle (act max_depth CloseParenthesis x)) (flush_after taken s) ∙ close_under max_depth taken (flush s)
+move_after max_depth taken Stuck s b = refl
 
 pub token_after : (taken : Sexps) (s : State) → token_in (after_taken taken s) ≡ token_in s
 token_after taken (At token bytes levels) = refl
 
-pub step_after : (limit : ℕ) (taken : Sexps) (s : State) (b : ℕ)
-    → step limit (after_taken taken s) b ≡ after_if taken (step limit s b)
-step_after limit taken s b =
-    ap (λ x. move limit (lex x b) (after_taken taken s) b) (token_after taken s) ∙ move_after limit taken
+pub step_after : (max_depth : ℕ) (taken : Sexps) (s : State) (b : ℕ)
+    → step max_depth (after_taken taken s) b ≡ after_if taken (step max_depth s b)
+step_after max_depth taken s b =
+    ap (λ x. move max_depth (lex x b) (after_taken taken s) b) (token_after taken s) ∙ move_after max_depth taken
     (lex (token_in s) b) s b
 
 -- what is known while there is no fault
@@ -137,20 +137,20 @@ pub stands_new : (reader : Reader) → bytes_fed reader ≡ 0 → is_finished re
 stands_new reader count e f s =
     stands_if reader [] Nil None count e (ap flaw_found f) (ap Some (sym (ap (after_taken Nil) s)))
 
-run_after : (limit : ℕ) (taken : Sexps) (s : State) (text : List ℕ)
-    → run limit (after_taken taken s) text ≡ after_if taken (run limit s text)
-run_after limit taken s [] = refl
-run_after limit taken s (b ∷ text) = by (step limit s b) refl (λ next. run_after limit taken next text)
+run_after : (max_depth : ℕ) (taken : Sexps) (s : State) (text : List ℕ)
+    → run max_depth (after_taken taken s) text ≡ after_if taken (run max_depth s text)
+run_after max_depth taken s [] = refl
+run_after max_depth taken s (b ∷ text) = by (step max_depth s b) refl (λ next. run_after max_depth taken next text)
   where
-    by : (o : Option State) → step limit s b ≡ o
-        → ((next : State) → run limit (after_taken taken next) text ≡ after_if taken (run limit next text))
-        → run limit (after_taken taken s) (b ∷ text) ≡ after_if taken (run limit s (b ∷ text))
+    by : (o : Option State) → step max_depth s b ≡ o
+        → ((next : State) → run max_depth (after_taken taken next) text ≡ after_if taken (run max_depth next text))
+        → run max_depth (after_taken taken s) (b ∷ text) ≡ after_if taken (run max_depth s (b ∷ text))
     by None e later =
-        ap (λ o. go_on o (λ x. run limit x text)) (step_after limit taken s b ∙ ap (after_if taken) e) ∙ ap
-        (λ o. after_if taken (go_on o (λ x. run limit x text))) (sym e)
+        ap (λ o. go_on o (λ x. run max_depth x text)) (step_after max_depth taken s b ∙ ap (after_if taken) e) ∙ ap
+        (λ o. after_if taken (go_on o (λ x. run max_depth x text))) (sym e)
     by (Some next) e later =
-        ap (λ o. go_on o (λ x. run limit x text)) (step_after limit taken s b ∙ ap (after_if taken) e) ∙ later
-        next ∙ ap (λ o. after_if taken (go_on o (λ x. run limit x text))) (sym e)
+        ap (λ o. go_on o (λ x. run max_depth x text)) (step_after max_depth taken s b ∙ ap (after_if taken) e) ∙ later
+        next ∙ ap (λ o. after_if taken (go_on o (λ x. run max_depth x text))) (sym e)
 
 -- one more piece
 counted : (old new : Reader) (fed piece : List ℕ) → bytes_fed old ≡ length fed
@@ -199,9 +199,9 @@ stands_read old new piece (Err (failures.Fault flaw)) fed taken e e' n count f g
     }
 
 -- more bytes after a fault
-stuck_more : (limit : ℕ) (text more : List ℕ) (s : State) (fault : TextFlaw) → IsStuck limit text s fault
-    → IsStuck limit (text ++ more) s fault
-stuck_more limit text more s fault h = record {
+stuck_more : (max_depth : ℕ) (text more : List ℕ) (s : State) (fault : TextFlaw) → IsStuck max_depth text s fault
+    → IsStuck max_depth (text ++ more) s fault
+stuck_more max_depth text more s fault h = record {
   prefix = h.prefix;
   byte = h.byte;
   rest = h.rest ++ more;

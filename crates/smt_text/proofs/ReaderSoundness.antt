@@ -22,9 +22,9 @@ use Rattle.smt_text.specs.Grammar.{doubled, barred, tokens_of_all, Forest}
 use Rattle.smt_text.specs.Lexical.{quote, bar, point, zero_digit, is_white, is_line_end, is_digit}
 use Rattle.smt_text.specs.Lexical.{is_nonzero_digit, is_hexadecimal_digit, is_binary_digit, is_symbol_byte}
 use Rattle.smt_text.specs.Lexical.{is_text_byte, is_quoted_byte, is_comment_byte, ends_token}
-use Rattle.smt_text.specs.Internal.Machine.{Levels, On, State, At, start, add, word_named, name_or_word}
-use Rattle.smt_text.specs.Internal.Machine.{flush, act, settle, separated, lex, move, may_end, token_in, step}
-use Rattle.smt_text.specs.Internal.Machine.{go_on, run}
+use Rattle.smt_text.specs.Internal.LexerStates.{Levels, On, State, At, start, add, word_named, name_or_word}
+use Rattle.smt_text.specs.Internal.LexerStates.{flush, act, settle, separated, lex, move, may_end, token_in, step}
+use Rattle.smt_text.specs.Internal.LexerStates.{go_on, run}
 use Rattle.smt_text.specs.Reading.{IsClosed, EndsClosed}
 use Rattle.smt_trees.specs.Reserved.{all_words}
 use Rattle.smt_trees.specs.Sexp as sexp
@@ -123,29 +123,29 @@ doubled-append (x ∷ xs) ys = by (x == quote) (doubled-append xs ys)
     by false e = ap (λ z. x ∷ z) e
 
 -- tokens that a text has up to its rest, and the trees that they leave
-pub record Spells (limit : ℕ) (Last : List ℕ → Type 0) (levels : Levels) (text : List ℕ)
+pub record Spells (max_depth : ℕ) (Last : List ℕ → Type 0) (levels : Levels) (text : List ℕ)
     (after_all : Levels) : Type 0 where
   pub tokens : List Token
   pub is_text : IsTextThen Last tokens text
-  pub leaves : acts limit tokens levels ≡ Some after_all
+  pub leaves : acts max_depth tokens levels ≡ Some after_all
 
 no_gap : IsGap []
 no_gap = ([], refl, tt)
 
-only_last : (limit : ℕ) (Last : List ℕ → Type 0) (levels : Levels) (text : List ℕ) → Last text
-    → Spells limit Last levels text levels
-only_last limit Last levels text h =
+only_last : (max_depth : ℕ) (Last : List ℕ → Type 0) (levels : Levels) (text : List ℕ) → Last text
+    → Spells max_depth Last levels text levels
+only_last max_depth Last levels text h =
     record { tokens = []; is_text = ([], text, refl, no_gap, h); leaves = refl }
 
 -- a token before a text
-token_first : (limit : ℕ) (Last : List ℕ → Type 0) (token : Token) (levels next : Levels)
+token_first : (max_depth : ℕ) (Last : List ℕ → Type 0) (token : Token) (levels next : Levels)
     (spelled text : List ℕ) (end : Levels) → IsSpelling token spelled → IsApart token text
-    → act limit token levels ≡ Some next → Spells limit Last next text end
-    → Spells limit Last levels (spelled ++ text) end
-token_first limit Last token levels next spelled text end is apart e r = record {
+    → act max_depth token levels ≡ Some next → Spells max_depth Last next text end
+    → Spells max_depth Last levels (spelled ++ text) end
+token_first max_depth Last token levels next spelled text end is apart e r = record {
   tokens = token ∷ r.tokens;
   is_text = ([], spelled, text, refl, no_gap, is, apart, r.is_text);
-  leaves = ap (λ o. act_next o (λ x. acts limit r.tokens x)) e ∙ r.leaves;
+  leaves = ap (λ o. act_next o (λ x. acts max_depth r.tokens x)) e ∙ r.leaves;
 }
 
 -- a separator before a text
@@ -174,9 +174,9 @@ separated_text Last (token ∷ tokens) part text is h = (
   h.7,
 )
 
-separator_first : (limit : ℕ) (Last : List ℕ → Type 0) (levels : Levels) (part text : List ℕ) (end : Levels)
-    → IsSeparator part → Spells limit Last levels text end → Spells limit Last levels (part ++ text) end
-separator_first limit Last levels part text end is r = record
+separator_first : (max_depth : ℕ) (Last : List ℕ → Type 0) (levels : Levels) (part text : List ℕ) (end : Levels)
+    → IsSeparator part → Spells max_depth Last levels text end → Spells max_depth Last levels (part ++ text) end
+separator_first max_depth Last levels part text end is r = record
     { tokens = r.tokens; is_text = separated_text Last r.tokens part text is r.is_text; leaves = r.leaves }
 
 name_is_symbol : (bytes : List ℕ) → IsName bytes → word_named bytes ≡ None → IsSimpleSymbol bytes
@@ -184,151 +184,151 @@ name_is_symbol [] h e = absurd h
 name_is_symbol (b ∷ bs) h e = (h.0, h.1, word_named-none (b ∷ bs) e)
 
 -- a token that has ended is one of the tokens
-written_first : (limit : ℕ) (Last : List ℕ → Type 0) (token : AtomState) (bytes written : List ℕ)
+written_first : (max_depth : ℕ) (Last : List ℕ → Type 0) (token : AtomState) (bytes written : List ℕ)
     (levels : Levels) (text : List ℕ) (end : Levels) → MayBeEnded token → IsWritten token bytes written
-    → EndsToken text → Spells limit Last (flush (At token bytes levels)) text end
-    → Spells limit Last levels (written ++ text) end
-written_first limit Last Nothing bytes written levels text end m h ends r =
-    subst (λ x. Spells limit Last levels (x ++ text) end) (sym h.1) r
-written_first limit Last Zero bytes written levels text end m h ends r =
-    token_first limit Last (AtomToken sexp.Numeral bytes) levels (add (Atom sexp.Numeral bytes) levels)
+    → EndsToken text → Spells max_depth Last (flush (At token bytes levels)) text end
+    → Spells max_depth Last levels (written ++ text) end
+written_first max_depth Last Nothing bytes written levels text end m h ends r =
+    subst (λ x. Spells max_depth Last levels (x ++ text) end) (sym h.1) r
+written_first max_depth Last Zero bytes written levels text end m h ends r =
+    token_first max_depth Last (AtomToken sexp.Numeral bytes) levels (add (Atom sexp.Numeral bytes) levels)
     written text end (h.1, subst IsNumeral (sym h.0) (inl (refl, refl))) ends refl r
-written_first limit Last Digits bytes written levels text end m h ends r =
-    token_first limit Last (AtomToken sexp.Numeral bytes) levels
+written_first max_depth Last Digits bytes written levels text end m h ends r =
+    token_first max_depth Last (AtomToken sexp.Numeral bytes) levels
     (add (Atom sexp.Numeral bytes) levels) written text end (h.1, long_is_numeral bytes h.0) ends refl r
-written_first limit Last Fraction bytes written levels text end m h ends r =
-    token_first limit Last (AtomToken sexp.Decimal bytes) levels
+written_first max_depth Last Fraction bytes written levels text end m h ends r =
+    token_first max_depth Last (AtomToken sexp.Decimal bytes) levels
     (add (Atom sexp.Decimal bytes) levels) written text end (h.1, h.0) ends refl r
-written_first limit Last HexDigits bytes written levels text end m h ends r =
-    token_first limit Last (AtomToken sexp.Hexadecimal bytes) levels
+written_first max_depth Last HexDigits bytes written levels text end m h ends r =
+    token_first max_depth Last (AtomToken sexp.Hexadecimal bytes) levels
     (add (Atom sexp.Hexadecimal bytes) levels) written text end (h.1, h.0) ends refl r
-written_first limit Last BinDigits bytes written levels text end m h ends r =
-    token_first limit Last (AtomToken sexp.Binary bytes) levels
+written_first max_depth Last BinDigits bytes written levels text end m h ends r =
+    token_first max_depth Last (AtomToken sexp.Binary bytes) levels
     (add (Atom sexp.Binary bytes) levels) written text end (h.1, h.0) ends refl r
-written_first limit Last KeywordName bytes written levels text end m h ends r =
-    token_first limit Last (AtomToken sexp.Keyword bytes) levels
+written_first max_depth Last KeywordName bytes written levels text end m h ends r =
+    token_first max_depth Last (AtomToken sexp.Keyword bytes) levels
     (add (Atom sexp.Keyword bytes) levels) written text end (h.1, h.0) ends refl r
-written_first limit Last TextQuote bytes written levels text end m h ends r =
-    token_first limit Last (AtomToken sexp.Text bytes) levels
+written_first max_depth Last TextQuote bytes written levels text end m h ends r =
+    token_first max_depth Last (AtomToken sexp.Text bytes) levels
     (add (Atom sexp.Text bytes) levels) written text end (h.1, h.0) ends refl r
-written_first limit Last Name bytes written levels text end m h ends r = by_word (word_named bytes) refl
+written_first max_depth Last Name bytes written levels text end m h ends r = by_word (word_named bytes) refl
   where
-    by_word : (o : Option Word) → word_named bytes ≡ o → Spells limit Last levels (written ++ text) end
+    by_word : (o : Option Word) → word_named bytes ≡ o → Spells max_depth Last levels (written ++ text) end
     by_word None e =
         let is : name_or_word (word_named bytes) bytes ≡ Atom sexp.Symbol bytes = ap
         (λ o. name_or_word o bytes) e in
-        token_first limit Last (AtomToken sexp.Symbol bytes) levels
+        token_first max_depth Last (AtomToken sexp.Symbol bytes) levels
         (add (Atom sexp.Symbol bytes) levels) written text end (inl (h.1, name_is_symbol bytes h.0 e))
-        ends refl (subst (λ x. Spells limit Last (add x levels) text end) is r)
+        ends refl (subst (λ x. Spells max_depth Last (add x levels) text end) is r)
     by_word (Some word) e =
         let is : name_or_word (word_named bytes) bytes ≡ Reserved word = ap (λ o. name_or_word o bytes) e in
-        token_first limit Last (WordToken word) levels (add (Reserved word) levels) written text end
+        token_first max_depth Last (WordToken word) levels (add (Reserved word) levels) written text end
         (h.1 ∙ find_word-some bytes all_words word e) ends refl
-        (subst (λ x. Spells limit Last (add x levels) text end) is r)
-written_first limit Last AfterBar bytes written levels text end m h ends r = absurd h
-written_first limit Last Point bytes written levels text end m h ends r = absurd m
-written_first limit Last Hash bytes written levels text end m h ends r = absurd m
-written_first limit Last HexMark bytes written levels text end m h ends r = absurd m
-written_first limit Last BinMark bytes written levels text end m h ends r = absurd m
-written_first limit Last Colon bytes written levels text end m h ends r = absurd m
-written_first limit Last InText bytes written levels text end m h ends r = absurd m
-written_first limit Last InBars bytes written levels text end m h ends r = absurd m
-written_first limit Last InComment bytes written levels text end m h ends r = absurd m
+        (subst (λ x. Spells max_depth Last (add x levels) text end) is r)
+written_first max_depth Last AfterBar bytes written levels text end m h ends r = absurd h
+written_first max_depth Last Point bytes written levels text end m h ends r = absurd m
+written_first max_depth Last Hash bytes written levels text end m h ends r = absurd m
+written_first max_depth Last HexMark bytes written levels text end m h ends r = absurd m
+written_first max_depth Last BinMark bytes written levels text end m h ends r = absurd m
+written_first max_depth Last Colon bytes written levels text end m h ends r = absurd m
+written_first max_depth Last InText bytes written levels text end m h ends r = absurd m
+written_first max_depth Last InBars bytes written levels text end m h ends r = absurd m
+written_first max_depth Last InComment bytes written levels text end m h ends r = absurd m
 
-behind_first : (limit : ℕ) (Last : List ℕ → Type 0) (s : State) (written : List ℕ) (before : Levels)
+behind_first : (max_depth : ℕ) (Last : List ℕ → Type 0) (s : State) (written : List ℕ) (before : Levels)
     (text : List ℕ) (end : Levels) → IsBehind s written before → MayBeEnded (token_in s) → EndsToken text
-    → Spells limit Last (flush s) text end → Spells limit Last before (written ++ text) end
-behind_first limit Last (At token bytes levels) written before text end (inl h) m ends r =
-    subst (λ x. Spells limit Last x (written ++ text) end) h.1
-    (written_first limit Last token bytes written levels text end m h.0 ends r)
-behind_first limit Last (At token bytes levels) written before text end (inr h) m ends r =
+    → Spells max_depth Last (flush s) text end → Spells max_depth Last before (written ++ text) end
+behind_first max_depth Last (At token bytes levels) written before text end (inl h) m ends r =
+    subst (λ x. Spells max_depth Last x (written ++ text) end) h.1
+    (written_first max_depth Last token bytes written levels text end m h.0 ends r)
+behind_first max_depth Last (At token bytes levels) written before text end (inr h) m ends r =
     let trees : flush (At token bytes levels) ≡ add (Atom sexp.Symbol h.0) before = ap
     (λ x. flush (At x bytes levels)) h.1 ∙ h.4 in
-    token_first limit Last (AtomToken sexp.Symbol h.0) before (add (Atom sexp.Symbol h.0) before) written text
-    end (inr (h.3, h.2)) ends refl (subst (λ x. Spells limit Last x text end) trees r)
+    token_first max_depth Last (AtomToken sexp.Symbol h.0) before (add (Atom sexp.Symbol h.0) before) written text
+    end (inr (h.3, h.2)) ends refl (subst (λ x. Spells max_depth Last x text end) trees r)
 
 -- what a run reads from a state on, whatever was written before it
 abbrev pub GoesOn : ℕ → (List ℕ → Type 0) → List ℕ → Levels → State → Type 0
-GoesOn limit Last text end s = (written : List ℕ) (before : Levels) → IsBehind s written before
-    → Spells limit Last before (written ++ text) end
+GoesOn max_depth Last text end s = (written : List ℕ) (before : Levels) → IsBehind s written before
+    → Spells max_depth Last before (written ++ text) end
 
 -- a byte that shows the end of a token
-pub to_next : (limit : ℕ) (what : LexerStep) (s : State) (b : ℕ) (next : State) → step limit s b ≡ Some next
-    → lex (token_in s) b ≡ what → move limit what s b ≡ Some next
-to_next limit what s b next e k = ap (λ x. move limit x s b) (sym k) ∙ e
+pub to_next : (max_depth : ℕ) (what : LexerStep) (s : State) (b : ℕ) (next : State) → step max_depth s b ≡ Some next
+    → lex (token_in s) b ≡ what → move max_depth what s b ≡ Some next
+to_next max_depth what s b next e k = ap (λ x. move max_depth x s b) (sym k) ∙ e
 
-sound_settled : (limit : ℕ) (Last : List ℕ → Type 0) (token : Token) (s : State) (written : List ℕ)
+sound_settled : (max_depth : ℕ) (Last : List ℕ → Type 0) (token : Token) (s : State) (written : List ℕ)
     (before : Levels) (b : ℕ) (text : List ℕ) (end : Levels) (o : Option Levels) (next : State)
     → IsBehind s written before → MayBeEnded (token_in s) → ends_token b ≡ true → IsSpelling token (b ∷ [])
-    → IsApart token text → act limit token (flush s) ≡ o → settle o ≡ Some next
-    → GoesOn limit Last text end next → Spells limit Last before (written ++ b ∷ text) end
-sound_settled limit Last token s written before b text end None next h m ends is apart a e later = absurd (cc)
-sound_settled limit Last token s written before b text end (Some levels) next h m ends is apart a e later =
+    → IsApart token text → act max_depth token (flush s) ≡ o → settle o ≡ Some next
+    → GoesOn max_depth Last text end next → Spells max_depth Last before (written ++ b ∷ text) end
+sound_settled max_depth Last token s written before b text end None next h m ends is apart a e later = absurd (cc)
+sound_settled max_depth Last token s written before b text end (Some levels) next h m ends is apart a e later =
     let same : next ≡ At Nothing [] levels = cc in
-    let r : Spells limit Last levels text end = later [] levels
+    let r : Spells max_depth Last levels text end = later [] levels
     (subst (λ x. IsBehind x [] levels) (sym same) (inl ((refl, refl), refl))) in
-    behind_first limit Last s written before (b ∷ text) end h m ends
-    (token_first limit Last token (flush s) levels (b ∷ []) text end is apart a r)
+    behind_first max_depth Last s written before (b ∷ text) end h m ends
+    (token_first max_depth Last token (flush s) levels (b ∷ []) text end is apart a r)
 
-sound_separated : (limit : ℕ) (Last : List ℕ → Type 0) (s : State) (written : List ℕ) (before : Levels)
+sound_separated : (max_depth : ℕ) (Last : List ℕ → Type 0) (s : State) (written : List ℕ) (before : Levels)
     (b : ℕ) (text : List ℕ) (end : Levels) (next : State) → IsBehind s written before
-    → MayBeEnded (token_in s) → ends_token b ≡ true → move limit (separated b) s b ≡ Some next
-    → GoesOn limit Last text end next → Spells limit Last before (written ++ b ∷ text) end
-sound_separated limit Last s written before b text end next h m ends e later = by (ender_values b ends)
+    → MayBeEnded (token_in s) → ends_token b ≡ true → move max_depth (separated b) s b ≡ Some next
+    → GoesOn max_depth Last text end next → Spells max_depth Last before (written ++ b ∷ text) end
+sound_separated max_depth Last s written before b text end next h m ends e later = by (ender_values b ends)
   where
     by : (is_white b ≡ true) ⊎ ((b ≡ 59) ⊎ ((b ≡ 40) ⊎ (b ≡ 41)))
-        → Spells limit Last before (written ++ b ∷ text) end
+        → Spells max_depth Last before (written ++ b ∷ text) end
     by (inl w) =
-        let some : move limit (Finish Nothing) s b ≡ Some next = ap (λ x. move limit x s b)
+        let some : move max_depth (Finish Nothing) s b ≡ Some next = ap (λ x. move max_depth x s b)
         (sym (white_separates b w)) ∙ e in
         let same : next ≡ At Nothing [] (flush s) = cc in
-        let r : Spells limit Last (flush s) text end = later [] (flush s)
+        let r : Spells max_depth Last (flush s) text end = later [] (flush s)
         (subst (λ x. IsBehind x [] (flush s)) (sym same) (inl ((refl, refl), refl))) in
-        behind_first limit Last s written before (b ∷ text) end h m ends
-        (separator_first limit Last (flush s) (b ∷ []) text end (inl (b, refl, w)) r)
+        behind_first max_depth Last s written before (b ∷ text) end h m ends
+        (separator_first max_depth Last (flush s) (b ∷ []) text end (inl (b, refl, w)) r)
     by (inr (inl k)) =
-        let some : move limit (Finish InComment) s b ≡ Some next = ap (λ x. move limit (separated x) s b)
+        let some : move max_depth (Finish InComment) s b ≡ Some next = ap (λ x. move max_depth (separated x) s b)
         (sym k) ∙ e in
         let same : next ≡ At InComment [] (flush s) = cc in
-        let r : Spells limit Last (flush s) (b ∷ text) end = later (b ∷ []) (flush s)
+        let r : Spells max_depth Last (flush s) (b ∷ text) end = later (b ∷ []) (flush s)
         (subst (λ x. IsBehind x (b ∷ []) (flush s)) (sym same)
         (inl ((refl, ([], ap (λ x. x ∷ []) k, tt)), refl))) in
-        behind_first limit Last s written before (b ∷ text) end h m ends r
+        behind_first max_depth Last s written before (b ∷ text) end h m ends r
     by (inr (inr (inl k))) =
-        let some : move limit Open s b ≡ Some next = ap (λ x. move limit (separated x) s b) (sym k) ∙ e in
-        sound_settled limit Last OpenParenthesis s written before b text end
-        (act limit OpenParenthesis (flush s)) next h m ends (ap (λ x. x ∷ []) k) tt refl some later
+        let some : move max_depth Open s b ≡ Some next = ap (λ x. move max_depth (separated x) s b) (sym k) ∙ e in
+        sound_settled max_depth Last OpenParenthesis s written before b text end
+        (act max_depth OpenParenthesis (flush s)) next h m ends (ap (λ x. x ∷ []) k) tt refl some later
     by (inr (inr (inr k))) =
-        let some : move limit Close s b ≡ Some next = ap (λ x. move limit (separated x) s b) (sym k) ∙ e in
-        sound_settled limit Last CloseParenthesis s written before b text end
-        (act limit CloseParenthesis (flush s)) next h m ends (ap (λ x. x ∷ []) k) tt refl some later
+        let some : move max_depth Close s b ≡ Some next = ap (λ x. move max_depth (separated x) s b) (sym k) ∙ e in
+        sound_settled max_depth Last CloseParenthesis s written before b text end
+        (act max_depth CloseParenthesis (flush s)) next h m ends (ap (λ x. x ∷ []) k) tt refl some later
 
 -- a byte with which the token goes on
-sound_longer : (limit : ℕ) (Last : List ℕ → Type 0) (written : List ℕ) (before : Levels) (b : ℕ)
+sound_longer : (max_depth : ℕ) (Last : List ℕ → Type 0) (written : List ℕ) (before : Levels) (b : ℕ)
     (text : List ℕ) (end : Levels) (made next : State) → Some made ≡ Some next
-    → IsBehind made (written ++ b ∷ []) before → GoesOn limit Last text end next
-    → Spells limit Last before (written ++ b ∷ text) end
-sound_longer limit Last written before b text end made next e h later =
+    → IsBehind made (written ++ b ∷ []) before → GoesOn max_depth Last text end next
+    → Spells max_depth Last before (written ++ b ∷ text) end
+sound_longer max_depth Last written before b text end made next e h later =
     let same : made ≡ next = cc in
-    subst (λ x. Spells limit Last before x end) (append_assoc written (b ∷ []) text)
+    subst (λ x. Spells max_depth Last before x end) (append_assoc written (b ∷ []) text)
     (later (written ++ b ∷ []) before (subst (λ x. IsBehind x (written ++ b ∷ []) before) same h))
 
-sound_kept : (limit : ℕ) (Last : List ℕ → Type 0) (token longer : AtomState) (bytes written : List ℕ)
+sound_kept : (max_depth : ℕ) (Last : List ℕ → Type 0) (token longer : AtomState) (bytes written : List ℕ)
     (levels before : Levels) (b : ℕ) (text : List ℕ) (end : Levels) (next : State) → lex token b ≡ Push longer
-    → step limit (At token bytes levels) b ≡ Some next
+    → step max_depth (At token bytes levels) b ≡ Some next
     → IsWritten longer (bytes ++ b ∷ []) (written ++ b ∷ []) → levels ≡ before
-    → GoesOn limit Last text end next → Spells limit Last before (written ++ b ∷ text) end
-sound_kept limit Last token longer bytes written levels before b text end next k e h l later =
-    sound_longer limit Last written before b text end (At longer (bytes ++ b ∷ []) levels) next
-    (to_next limit (Push longer) (At token bytes levels) b next e k) (inl (h, l)) later
+    → GoesOn max_depth Last text end next → Spells max_depth Last before (written ++ b ∷ text) end
+sound_kept max_depth Last token longer bytes written levels before b text end next k e h l later =
+    sound_longer max_depth Last written before b text end (At longer (bytes ++ b ∷ []) levels) next
+    (to_next max_depth (Push longer) (At token bytes levels) b next e k) (inl (h, l)) later
 
-sound_skipped : (limit : ℕ) (Last : List ℕ → Type 0) (token longer : AtomState) (bytes written : List ℕ)
+sound_skipped : (max_depth : ℕ) (Last : List ℕ → Type 0) (token longer : AtomState) (bytes written : List ℕ)
     (levels before : Levels) (b : ℕ) (text : List ℕ) (end : Levels) (next : State) → lex token b ≡ Skip longer
-    → step limit (At token bytes levels) b ≡ Some next → IsWritten longer bytes (written ++ b ∷ [])
-    → levels ≡ before → GoesOn limit Last text end next → Spells limit Last before (written ++ b ∷ text) end
-sound_skipped limit Last token longer bytes written levels before b text end next k e h l later =
-    sound_longer limit Last written before b text end (At longer bytes levels) next
-    (to_next limit (Skip longer) (At token bytes levels) b next e k) (inl (h, l)) later
+    → step max_depth (At token bytes levels) b ≡ Some next → IsWritten longer bytes (written ++ b ∷ [])
+    → levels ≡ before → GoesOn max_depth Last text end next → Spells max_depth Last before (written ++ b ∷ text) end
+sound_skipped max_depth Last token longer bytes written levels before b text end next k e h l later =
+    sound_longer max_depth Last written before b text end (At longer bytes levels) next
+    (to_next max_depth (Skip longer) (At token bytes levels) b next e k) (inl (h, l)) later
 
 -- how a token is written with a byte that is kept
 abbrev Longer : AtomState → List ℕ → List ℕ → ℕ → Type 0
@@ -522,86 +522,86 @@ after_bar_skipped : (token next : AtomState) (b : ℕ) → token ≡ AfterBar �
 after_bar_skipped token next b e k = separated_no_skip b next (ap (λ x. lex x b) (sym e) ∙ k)
 
 -- a symbol in bars is complete
-sound_barred : (limit : ℕ) (Last : List ℕ → Type 0) (token : AtomState) (bytes written : List ℕ)
+sound_barred : (max_depth : ℕ) (Last : List ℕ → Type 0) (token : AtomState) (bytes written : List ℕ)
     (levels before : Levels) (b : ℕ) (text : List ℕ) (end : Levels) (next : State) → token ≡ InBars → b ≡ bar
-    → move limit (Finish AfterBar) (At token bytes levels) b ≡ Some next → IsWritten token bytes written
-    → levels ≡ before → GoesOn limit Last text end next → Spells limit Last before (written ++ b ∷ text) end
-sound_barred limit Last token bytes written levels before b text end next e k m h l later =
+    → move max_depth (Finish AfterBar) (At token bytes levels) b ≡ Some next → IsWritten token bytes written
+    → levels ≡ before → GoesOn max_depth Last text end next → Spells max_depth Last before (written ++ b ∷ text) end
+sound_barred max_depth Last token bytes written levels before b text end next e k m h l later =
     let w : IsWritten InBars bytes written = subst (λ x. IsWritten x bytes written) e h in
     let made : At AfterBar [] (add (Atom sexp.Symbol bytes) before)
     ≡ At AfterBar [] (flush (At token bytes levels)) = ap
     (λ x. At AfterBar [] (add (Atom sexp.Symbol bytes) x)) (sym l) ∙ ap
     (λ x. At AfterBar [] (flush (At x bytes levels))) (sym e) in
-    sound_longer limit Last written before b text end
+    sound_longer max_depth Last written before b text end
     (At AfterBar [] (add (Atom sexp.Symbol bytes) before)) next (ap Some made ∙ m)
     (inr (bytes, refl, w.0, ap (λ x. x ++ b ∷ []) w.1 ∙ ap (λ x. bar ∷ (bytes ++ x ∷ [])) k, refl)) later
 
 -- a comment has ended
-sound_line_end : (limit : ℕ) (Last : List ℕ → Type 0) (token : AtomState) (bytes written : List ℕ)
+sound_line_end : (max_depth : ℕ) (Last : List ℕ → Type 0) (token : AtomState) (bytes written : List ℕ)
     (levels before : Levels) (b : ℕ) (text : List ℕ) (end : Levels) (next : State) → token ≡ InComment
-    → is_line_end b ≡ true → move limit (Finish Nothing) (At token bytes levels) b ≡ Some next
-    → IsWritten token bytes written → levels ≡ before → GoesOn limit Last text end next
-    → Spells limit Last before (written ++ b ∷ text) end
-sound_line_end limit Last token bytes written levels before b text end next e k m h l later =
+    → is_line_end b ≡ true → move max_depth (Finish Nothing) (At token bytes levels) b ≡ Some next
+    → IsWritten token bytes written → levels ≡ before → GoesOn max_depth Last text end next
+    → Spells max_depth Last before (written ++ b ∷ text) end
+sound_line_end max_depth Last token bytes written levels before b text end next e k m h l later =
     let w : IsWritten InComment bytes written = subst (λ x. IsWritten x bytes written) e h in
     let made : At Nothing [] before ≡ At Nothing [] (flush (At token bytes levels)) = ap
     (λ x. At Nothing [] x) (sym l) ∙ ap (λ x. At Nothing [] (flush (At x bytes levels))) (sym e) in
     let some : Some (At Nothing [] before) ≡ Some next = ap Some made ∙ m in
     let same : At Nothing [] before ≡ next = cc in
-    let r : Spells limit Last before text end = later [] before
+    let r : Spells max_depth Last before text end = later [] before
     (subst (λ x. IsBehind x [] before) same (inl ((refl, refl), refl))) in
-    subst (λ x. Spells limit Last before x end) (append_assoc written (b ∷ []) text)
-    (separator_first limit Last before (written ++ b ∷ []) text end (inr (written, b, refl, w.1, k)) r)
+    subst (λ x. Spells max_depth Last before x end) (append_assoc written (b ∷ []) text)
+    (separator_first max_depth Last before (written ++ b ∷ []) text end (inr (written, b, refl, w.1, k)) r)
 
-sound_view : (limit : ℕ) (Last : List ℕ → Type 0) (token : AtomState) (bytes written : List ℕ)
+sound_view : (max_depth : ℕ) (Last : List ℕ → Type 0) (token : AtomState) (bytes written : List ℕ)
     (levels before : Levels) (b : ℕ) (text : List ℕ) (end : Levels) (next : State) → View token b
-    → IsBehind (At token bytes levels) written before → step limit (At token bytes levels) b ≡ Some next
-    → GoesOn limit Last text end next → Spells limit Last before (written ++ b ∷ text) end
-sound_view limit Last token bytes written levels before b text end next (Kept longer k) (inl h) e later =
-    sound_kept limit Last token longer bytes written levels before b text end next k e
+    → IsBehind (At token bytes levels) written before → step max_depth (At token bytes levels) b ≡ Some next
+    → GoesOn max_depth Last text end next → Spells max_depth Last before (written ++ b ∷ text) end
+sound_view max_depth Last token bytes written levels before b text end next (Kept longer k) (inl h) e later =
+    sound_kept max_depth Last token longer bytes written levels before b text end next k e
     (kept token longer bytes written b h.0 k) h.1 later
-sound_view limit Last token bytes written levels before b text end next (Skipped longer k) (inl h) e later =
-    sound_skipped limit Last token longer bytes written levels before b text end next k e
+sound_view max_depth Last token bytes written levels before b text end next (Skipped longer k) (inl h) e later =
+    sound_skipped max_depth Last token longer bytes written levels before b text end next k e
     (skipped token longer bytes written b h.0 k) h.1 later
-sound_view limit Last token bytes written levels before b text end next (Refused k) h e later =
-    let none = to_next limit Stuck (At token bytes levels) b next e k in absurd (cc)
-sound_view limit Last token bytes written levels before b text end next (Separates m ends k) h e later =
-    sound_separated limit Last (At token bytes levels) written before b text end next h m ends
-    (to_next limit (separated b) (At token bytes levels) b next e k) later
-sound_view limit Last token bytes written levels before b text end next (BarEnds t k m) (inl h) e later =
-    sound_barred limit Last token bytes written levels before b text end next t k
-    (to_next limit (Finish AfterBar) (At token bytes levels) b next e m) h.0 h.1 later
-sound_view limit Last token bytes written levels before b text end next (LineEnds t k m) (inl h) e later =
-    sound_line_end limit Last token bytes written levels before b text end next t k
-    (to_next limit (Finish Nothing) (At token bytes levels) b next e m) h.0 h.1 later
-sound_view limit Last token bytes written levels before b text end next (Kept longer k) (inr h) e later =
+sound_view max_depth Last token bytes written levels before b text end next (Refused k) h e later =
+    let none = to_next max_depth Stuck (At token bytes levels) b next e k in absurd (cc)
+sound_view max_depth Last token bytes written levels before b text end next (Separates m ends k) h e later =
+    sound_separated max_depth Last (At token bytes levels) written before b text end next h m ends
+    (to_next max_depth (separated b) (At token bytes levels) b next e k) later
+sound_view max_depth Last token bytes written levels before b text end next (BarEnds t k m) (inl h) e later =
+    sound_barred max_depth Last token bytes written levels before b text end next t k
+    (to_next max_depth (Finish AfterBar) (At token bytes levels) b next e m) h.0 h.1 later
+sound_view max_depth Last token bytes written levels before b text end next (LineEnds t k m) (inl h) e later =
+    sound_line_end max_depth Last token bytes written levels before b text end next t k
+    (to_next max_depth (Finish Nothing) (At token bytes levels) b next e m) h.0 h.1 later
+sound_view max_depth Last token bytes written levels before b text end next (Kept longer k) (inr h) e later =
     absurd (after_bar_kept token longer b h.1 k)
-sound_view limit Last token bytes written levels before b text end next (Skipped longer k) (inr h) e later =
+sound_view max_depth Last token bytes written levels before b text end next (Skipped longer k) (inr h) e later =
     absurd (after_bar_skipped token longer b h.1 k)
-sound_view limit Last token bytes written levels before b text end next (BarEnds t k m) (inr h) e later =
+sound_view max_depth Last token bytes written levels before b text end next (BarEnds t k m) (inr h) e later =
     let clash : InBars ≡ AfterBar = sym t ∙ h.1 in absurd (cc)
-sound_view limit Last token bytes written levels before b text end next (LineEnds t k m) (inr h) e later =
+sound_view max_depth Last token bytes written levels before b text end next (LineEnds t k m) (inr h) e later =
     let clash : InComment ≡ AfterBar = sym t ∙ h.1 in absurd (cc)
 
-sound_byte : (limit : ℕ) (Last : List ℕ → Type 0) (s : State) (b : ℕ) (text : List ℕ) (end : Levels)
-    (next : State) → step limit s b ≡ Some next → GoesOn limit Last text end next
-    → GoesOn limit Last (b ∷ text) end s
-sound_byte limit Last (At token bytes levels) b text end next e later = λ written before h. sound_view limit
+sound_byte : (max_depth : ℕ) (Last : List ℕ → Type 0) (s : State) (b : ℕ) (text : List ℕ) (end : Levels)
+    (next : State) → step max_depth s b ≡ Some next → GoesOn max_depth Last text end next
+    → GoesOn max_depth Last (b ∷ text) end s
+sound_byte max_depth Last (At token bytes levels) b text end next e later = λ written before h. sound_view max_depth
     Last token bytes written levels before b text end next (view token b) h e later
 
 -- what is read is spelled by tokens that leave the same trees
-pub sound : (limit : ℕ) (Last : List ℕ → Type 0) (text rest : List ℕ) (s mid : State) (end : Levels)
-    → run limit s text ≡ Some mid → GoesOn limit Last rest end mid → GoesOn limit Last (text ++ rest) end s
-sound limit Last [] rest s mid end e h =
-    let same : mid ≡ s = cc in subst (λ x. GoesOn limit Last rest end x) same h
-sound limit Last (b ∷ text) rest s mid end e h =
-    by_step (step limit s b) refl e (λ next f. sound limit Last text rest next mid end f h)
+pub sound : (max_depth : ℕ) (Last : List ℕ → Type 0) (text rest : List ℕ) (s mid : State) (end : Levels)
+    → run max_depth s text ≡ Some mid → GoesOn max_depth Last rest end mid → GoesOn max_depth Last (text ++ rest) end s
+sound max_depth Last [] rest s mid end e h =
+    let same : mid ≡ s = cc in subst (λ x. GoesOn max_depth Last rest end x) same h
+sound max_depth Last (b ∷ text) rest s mid end e h =
+    by_step (step max_depth s b) refl e (λ next f. sound max_depth Last text rest next mid end f h)
   where
-    by_step : (o : Option State) → step limit s b ≡ o → go_on o (λ x. run limit x text) ≡ Some mid
-        → ((next : State) → run limit next text ≡ Some mid → GoesOn limit Last (text ++ rest) end next)
-        → GoesOn limit Last ((b ∷ text) ++ rest) end s
+    by_step : (o : Option State) → step max_depth s b ≡ o → go_on o (λ x. run max_depth x text) ≡ Some mid
+        → ((next : State) → run max_depth next text ≡ Some mid → GoesOn max_depth Last (text ++ rest) end next)
+        → GoesOn max_depth Last ((b ∷ text) ++ rest) end s
     by_step None k f later = absurd (cc)
-    by_step (Some next) k f later = sound_byte limit Last s b (text ++ rest) end next k (later next f)
+    by_step (Some next) k f later = sound_byte max_depth Last s b (text ++ rest) end next k (later next f)
 
 -- where a text may end
 pub record EndsWell (token : AtomState) : Type 0 where
@@ -627,102 +627,102 @@ ends_well Colon e = absurd (cc)
 ends_well InText e = absurd (cc)
 ends_well InBars e = absurd (cc)
 
-end_comment_text : (limit : ℕ) (token : AtomState) (bytes : List ℕ) (levels : Levels) (written : List ℕ)
+end_comment_text : (max_depth : ℕ) (token : AtomState) (bytes : List ℕ) (levels : Levels) (written : List ℕ)
     (before : Levels) → token ≡ InComment → IsBehind (At token bytes levels) written before
-    → Spells limit IsTextEnd before (written ++ []) (flush (At token bytes levels))
-end_comment_text limit token bytes levels written before e (inl h) =
+    → Spells max_depth IsTextEnd before (written ++ []) (flush (At token bytes levels))
+end_comment_text max_depth token bytes levels written before e (inl h) =
     let w : IsWritten InComment bytes written = subst (λ x. IsWritten x bytes written) e h.0 in
     let trees : before ≡ flush (At token bytes levels) = sym h.1 ∙ ap (λ x. flush (At x bytes levels)) (sym e)
     in
-    subst (λ x. Spells limit IsTextEnd before x (flush (At token bytes levels))) (sym (append-nil written))
-    (subst (λ x. Spells limit IsTextEnd before written x) trees
-    (only_last limit IsTextEnd before written (inr w.1)))
-end_comment_text limit token bytes levels written before e (inr h) =
+    subst (λ x. Spells max_depth IsTextEnd before x (flush (At token bytes levels))) (sym (append-nil written))
+    (subst (λ x. Spells max_depth IsTextEnd before written x) trees
+    (only_last max_depth IsTextEnd before written (inr w.1)))
+end_comment_text max_depth token bytes levels written before e (inr h) =
     let clash : InComment ≡ AfterBar = sym e ∙ h.1 in absurd (cc)
 
-ends_text : (limit : ℕ) (s : State) → may_end (token_in s) ≡ true → GoesOn limit IsTextEnd [] (flush s) s
-ends_text limit (At token bytes levels) e = λ written before h. by written before h (ends_well token e).is
+ends_text : (max_depth : ℕ) (s : State) → may_end (token_in s) ≡ true → GoesOn max_depth IsTextEnd [] (flush s) s
+ends_text max_depth (At token bytes levels) e = λ written before h. by written before h (ends_well token e).is
   where
     by : (written : List ℕ) (before : Levels) → IsBehind (At token bytes levels) written before
         → (MayBeEnded token) ⊎ (token ≡ InComment)
-        → Spells limit IsTextEnd before (written ++ []) (flush (At token bytes levels))
-    by written before h (inl m) = behind_first limit IsTextEnd (At token bytes levels) written before []
+        → Spells max_depth IsTextEnd before (written ++ []) (flush (At token bytes levels))
+    by written before h (inl m) = behind_first max_depth IsTextEnd (At token bytes levels) written before []
         (flush (At token bytes levels)) h m tt
-        (only_last limit IsTextEnd (flush (At token bytes levels)) [] (inl refl))
-    by written before h (inr k) = end_comment_text limit token bytes levels written before k h
+        (only_last max_depth IsTextEnd (flush (At token bytes levels)) [] (inl refl))
+    by written before h (inr k) = end_comment_text max_depth token bytes levels written before k h
 
 -- a text that runs to trees is theirs
-pub forest-read : (limit : ℕ) (text : List ℕ) (end : State) (xs : Sexps) → run limit start text ≡ Some end
-    → flush end ≡ On [] xs → may_end (token_in end) ≡ true → Forest limit text xs
-forest-read limit text end xs e f whole =
-    let r = sound limit IsTextEnd text [] start end (flush end) e (ends_text limit end whole) [] (On [] Nil)
+pub forest-read : (max_depth : ℕ) (text : List ℕ) (end : State) (xs : Sexps) → run max_depth start text ≡ Some end
+    → flush end ≡ On [] xs → may_end (token_in end) ≡ true → Forest max_depth text xs
+forest-read max_depth text end xs e f whole =
+    let r = sound max_depth IsTextEnd text [] start end (flush end) e (ends_text max_depth end whole) [] (On [] Nil)
     (inl ((refl, refl), refl)) in
-    let leaves : acts limit r.tokens (On [] Nil) ≡ Some (On [] xs) = r.leaves ∙ ap Some f in
-    let all : tokens_of_all xs [] ≡ r.tokens = spent-acts limit r.tokens (On [] Nil) (On [] xs) leaves in
+    let leaves : acts max_depth r.tokens (On [] Nil) ≡ Some (On [] xs) = r.leaves ∙ ap Some f in
+    let all : tokens_of_all xs [] ≡ r.tokens = spent-acts max_depth r.tokens (On [] Nil) (On [] xs) leaves in
     record {
       tokens =
           subst (λ x. IsText x text) (sym all) (subst (λ x. IsText r.tokens x) (append-nil text) r.is_text);
-      shallow = (shallow-acts limit r.tokens (On [] Nil) (On [] xs) leaves (omega arith, tt)).0;
+      shallow = (shallow-acts max_depth r.tokens (On [] Nil) (On [] xs) leaves (omega arith, tt)).0;
     }
 
 -- one more token
-acts-last : (limit : ℕ) (tokens : List Token) (token : Token) (levels mid next : Levels)
-    → acts limit tokens levels ≡ Some mid → act limit token mid ≡ Some next
-    → acts limit (tokens ++ token ∷ []) levels ≡ Some next
-acts-last limit [] token levels mid next e f =
+acts-last : (max_depth : ℕ) (tokens : List Token) (token : Token) (levels mid next : Levels)
+    → acts max_depth tokens levels ≡ Some mid → act max_depth token mid ≡ Some next
+    → acts max_depth (tokens ++ token ∷ []) levels ≡ Some next
+acts-last max_depth [] token levels mid next e f =
     let same : levels ≡ mid = cc in
-    ap (λ x. acts limit (token ∷ []) x) same ∙ ap (λ o. act_next o (λ x. acts limit [] x)) f
-acts-last limit (first ∷ tokens) token levels mid next e f =
-    by_act (act limit first levels) refl e (λ nearer g. acts-last limit tokens token nearer mid next g f)
+    ap (λ x. acts max_depth (token ∷ []) x) same ∙ ap (λ o. act_next o (λ x. acts max_depth [] x)) f
+acts-last max_depth (first ∷ tokens) token levels mid next e f =
+    by_act (act max_depth first levels) refl e (λ nearer g. acts-last max_depth tokens token nearer mid next g f)
   where
-    by_act : (o : Option Levels) → act limit first levels ≡ o
-        → act_next o (λ x. acts limit tokens x) ≡ Some mid
-        → ((nearer : Levels) → acts limit tokens nearer ≡ Some mid
-        → acts limit (tokens ++ token ∷ []) nearer ≡ Some next)
-        → acts limit ((first ∷ tokens) ++ token ∷ []) levels ≡ Some next
+    by_act : (o : Option Levels) → act max_depth first levels ≡ o
+        → act_next o (λ x. acts max_depth tokens x) ≡ Some mid
+        → ((nearer : Levels) → acts max_depth tokens nearer ≡ Some mid
+        → acts max_depth (tokens ++ token ∷ []) nearer ≡ Some next)
+        → acts max_depth ((first ∷ tokens) ++ token ∷ []) levels ≡ Some next
     by_act None a g later = absurd (cc)
     by_act (Some nearer) a g later =
-        ap (λ o. act_next o (λ x. acts limit (tokens ++ token ∷ []) x)) a ∙ later nearer g
+        ap (λ o. act_next o (λ x. acts max_depth (tokens ++ token ∷ []) x)) a ∙ later nearer g
 
 -- a text that ends with a token which shows its end itself
 abbrev pub ClosedLast : Token → List ℕ → Type 0
 ClosedLast token spelled = IsSpelling token spelled × IsClosed token spelled
 
-closed_by : (limit : ℕ) (token : Token) (text rest : List ℕ) (levels : Levels) (trees : Sexps)
-    → Spells limit (ClosedLast token) (On [] Nil) text levels → act limit token levels ≡ Some (On [] trees)
+closed_by : (max_depth : ℕ) (token : Token) (text rest : List ℕ) (levels : Levels) (trees : Sexps)
+    → Spells max_depth (ClosedLast token) (On [] Nil) text levels → act max_depth token levels ≡ Some (On [] trees)
     → EndsClosed (tokens_of_all trees []) text
-closed_by limit token text rest levels trees r a =
-    let all : tokens_of_all trees [] ≡ r.tokens ++ token ∷ [] = spent-acts limit (r.tokens ++ token ∷ [])
-    (On [] Nil) (On [] trees) (acts-last limit r.tokens token (On [] Nil) levels (On [] trees) r.leaves a)
+closed_by max_depth token text rest levels trees r a =
+    let all : tokens_of_all trees [] ≡ r.tokens ++ token ∷ [] = spent-acts max_depth (r.tokens ++ token ∷ [])
+    (On [] Nil) (On [] trees) (acts-last max_depth r.tokens token (On [] Nil) levels (On [] trees) r.leaves a)
     in
     (r.tokens, token, all, r.is_text)
 
-pub closed_list : (limit : ℕ) (prefix : List ℕ) (s : State) (trees : Sexps) → run limit start prefix ≡ Some s
-    → MayBeEnded (token_in s) → act limit CloseParenthesis (flush s) ≡ Some (On [] trees)
+pub closed_list : (max_depth : ℕ) (prefix : List ℕ) (s : State) (trees : Sexps) → run max_depth start prefix ≡ Some s
+    → MayBeEnded (token_in s) → act max_depth CloseParenthesis (flush s) ≡ Some (On [] trees)
     → EndsClosed (tokens_of_all trees []) (prefix ++ 41 ∷ [])
-closed_list limit prefix s trees e m a =
-    let base : GoesOn limit (ClosedLast CloseParenthesis) (41 ∷ []) (flush s) s = λ written before h.
-    behind_first limit (ClosedLast CloseParenthesis) s written before (41 ∷ []) (flush s) h m refl
-    (only_last limit (ClosedLast CloseParenthesis) (flush s) (41 ∷ []) (refl, tt)) in
-    let r = sound limit (ClosedLast CloseParenthesis) prefix (41 ∷ []) start s (flush s) e base [] (On [] Nil)
+closed_list max_depth prefix s trees e m a =
+    let base : GoesOn max_depth (ClosedLast CloseParenthesis) (41 ∷ []) (flush s) s = λ written before h.
+    behind_first max_depth (ClosedLast CloseParenthesis) s written before (41 ∷ []) (flush s) h m refl
+    (only_last max_depth (ClosedLast CloseParenthesis) (flush s) (41 ∷ []) (refl, tt)) in
+    let r = sound max_depth (ClosedLast CloseParenthesis) prefix (41 ∷ []) start s (flush s) e base [] (On [] Nil)
     (inl ((refl, refl), refl)) in
-    closed_by limit CloseParenthesis (prefix ++ 41 ∷ []) [] (flush s) trees r a
+    closed_by max_depth CloseParenthesis (prefix ++ 41 ∷ []) [] (flush s) trees r a
 
-pub closed_bar : (limit : ℕ) (prefix bytes : List ℕ) (top trees : Sexps)
-    → run limit start prefix ≡ Some (At InBars bytes (On [] top))
+pub closed_bar : (max_depth : ℕ) (prefix bytes : List ℕ) (top trees : Sexps)
+    → run max_depth start prefix ≡ Some (At InBars bytes (On [] top))
     → add (Atom sexp.Symbol bytes) (On [] top) ≡ On [] trees
     → EndsClosed (tokens_of_all trees []) (prefix ++ bar ∷ [])
-closed_bar limit prefix bytes top trees e a =
-    let r = sound limit (ClosedLast (AtomToken sexp.Symbol bytes)) prefix (bar ∷ []) start
+closed_bar max_depth prefix bytes top trees e a =
+    let r = sound max_depth (ClosedLast (AtomToken sexp.Symbol bytes)) prefix (bar ∷ []) start
     (At InBars bytes (On [] top)) (On [] top) e base [] (On [] Nil) (inl ((refl, refl), refl)) in
-    closed_by limit (AtomToken sexp.Symbol bytes) (prefix ++ bar ∷ []) [] (On [] top) trees r (ap Some a)
+    closed_by max_depth (AtomToken sexp.Symbol bytes) (prefix ++ bar ∷ []) [] (On [] top) trees r (ap Some a)
   where
-    base : GoesOn limit (ClosedLast (AtomToken sexp.Symbol bytes)) (bar ∷ []) (On [] top)
+    base : GoesOn max_depth (ClosedLast (AtomToken sexp.Symbol bytes)) (bar ∷ []) (On [] top)
         (At InBars bytes (On [] top))
     base written before (inl h) =
         let spelled : written ++ bar ∷ [] ≡ barred bytes = ap (λ x. x ++ bar ∷ []) h.0.1 in
-        subst (λ x. Spells limit (ClosedLast (AtomToken sexp.Symbol bytes)) before (written ++ bar ∷ []) x)
+        subst (λ x. Spells max_depth (ClosedLast (AtomToken sexp.Symbol bytes)) before (written ++ bar ∷ []) x)
         (sym h.1)
-        (only_last limit (ClosedLast (AtomToken sexp.Symbol bytes)) before (written ++ bar ∷ [])
+        (only_last max_depth (ClosedLast (AtomToken sexp.Symbol bytes)) before (written ++ bar ∷ [])
         (inr (spelled, h.0.0), spelled))
     base written before (inr h) = let clash = h.1 in absurd (cc)

@@ -5,7 +5,7 @@ use Rattle.std.proofs.lemmas.List.{drop_all, drop_more}
 use Rattle.std.specs.List.{slice_get}
 use Rattle.std.specs.Str.{bytes_eq}
 use Rattle.std.proofs.lemmas.Slice.Eq.{bytes_eq-Decides}
-use Rattle.smt_text.specs.Internal.Machine.{find_word, word_named, words_like}
+use Rattle.smt_text.specs.Internal.LexerStates.{find_word, word_named, words_like}
 use Rattle.smt_trees.specs.Reserved.{all_words, spelling_of}
 use Rattle.smt_trees.specs.declared.reserved.Word.{Word}
 use Rattle.smt_trees.specs.declared.reserved.Word.TheVariants.{Bang, Underscore, As, Binary, Decimal, Exists}

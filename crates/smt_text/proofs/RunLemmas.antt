@@ -8,8 +8,8 @@ use Rattle.smt_text.proofs.BuilderLemmas.{end_taken}
 use Rattle.smt_text.proofs.ByteLemmas.{white_ends, white_separates}
 use Rattle.smt_text.proofs.ReaderCompleteness.{step-at, run-push, run-cons, run-append}
 use Rattle.smt_text.specs.Lexical.{ends_token, is_white}
-use Rattle.smt_text.specs.Internal.Machine.{Levels, State, At, add_if, atom_of, ended, levels_in, lex}
-use Rattle.smt_text.specs.Internal.Machine.{separated, token_in, step, run, depth_of, blame, refusal_of, flaw_at}
+use Rattle.smt_text.specs.Internal.LexerStates.{Levels, State, At, add_if, atom_of, ended, levels_in, lex}
+use Rattle.smt_text.specs.Internal.LexerStates.{separated, token_in, step, run, depth_of, blame, refusal_of, flaw_at}
 use Rattle.smt_text.specs.Internal.ReaderState.{state_of, BeginsAtom, GoesOn, GoesOver, GoesThrough}
 use Rattle.smt_text.specs.declared.lexer.AtomState.{AtomState}
 use Rattle.smt_text.specs.declared.lexer.AtomState.TheVariants.{Nothing, InComment}
@@ -22,69 +22,69 @@ use Rattle.smt_text.specs.declared.reader.Reader.{Reader}
 use Rattle.smt_text.specs.declared.reader.TheConstants.{MAX_DEPTH}
 
 -- bytes that are kept
-pub kept_run : (limit : ℕ) (levels : Levels) (token : AtomState) (bytes text : List ℕ) (n : ℕ)
+pub kept_run : (max_depth : ℕ) (levels : Levels) (token : AtomState) (bytes text : List ℕ) (n : ℕ)
     → n ≤ length text → ((k : ℕ) → k < n → lex token (get_or text k 0) ≡ Push token)
-    → run limit (At token bytes levels) (take n text) ≡ Some (At token (bytes ++ take n text) levels)
-kept_run limit levels token bytes text zero le h = ap (λ x. Some (At token x levels)) (sym (append-nil bytes))
-kept_run limit levels token bytes [] (suc n) le h = absurd (omega arith)
-kept_run limit levels token bytes (b ∷ text) (suc n) le h =
-    run-push limit levels token token bytes b (take n text) (h 0 (omega arith))
-    ∙ kept_run limit levels token (bytes ++ b ∷ []) text n (omega arith) (λ k lt. h (suc k) (omega arith))
+    → run max_depth (At token bytes levels) (take n text) ≡ Some (At token (bytes ++ take n text) levels)
+kept_run max_depth levels token bytes text zero le h = ap (λ x. Some (At token x levels)) (sym (append-nil bytes))
+kept_run max_depth levels token bytes [] (suc n) le h = absurd (omega arith)
+kept_run max_depth levels token bytes (b ∷ text) (suc n) le h =
+    run-push max_depth levels token token bytes b (take n text) (h 0 (omega arith))
+    ∙ kept_run max_depth levels token (bytes ++ b ∷ []) text n (omega arith) (λ k lt. h (suc k) (omega arith))
     ∙ ap (λ x. Some (At token x levels)) (append_assoc bytes (b ∷ []) (take n text))
 
 -- bytes of a comment
-pub skipped_run : (limit : ℕ) (levels : Levels) (token : AtomState) (bytes text : List ℕ) (n : ℕ)
+pub skipped_run : (max_depth : ℕ) (levels : Levels) (token : AtomState) (bytes text : List ℕ) (n : ℕ)
     → token ≡ InComment → n ≤ length text
     → ((k : ℕ) → k < n → lex InComment (get_or text k 0) ≡ Skip InComment)
-    → run limit (At token bytes levels) (take n text) ≡ Some (At token bytes levels)
-skipped_run limit levels token bytes text n e le h =
-    subst (λ t. run limit (At t bytes levels) (take n text) ≡ Some (At t bytes levels)) (sym e)
+    → run max_depth (At token bytes levels) (take n text) ≡ Some (At token bytes levels)
+skipped_run max_depth levels token bytes text n e le h =
+    subst (λ t. run max_depth (At t bytes levels) (take n text) ≡ Some (At t bytes levels)) (sym e)
     (in_comment text n le h)
   where
     in_comment : (text : List ℕ) (n : ℕ) → n ≤ length text
         → ((k : ℕ) → k < n → lex InComment (get_or text k 0) ≡ Skip InComment)
-        → run limit (At InComment bytes levels) (take n text) ≡ Some (At InComment bytes levels)
+        → run max_depth (At InComment bytes levels) (take n text) ≡ Some (At InComment bytes levels)
     in_comment text zero le h = refl
     in_comment [] (suc n) le h = absurd (omega arith)
     in_comment (b ∷ text) (suc n) le h =
-        run-cons limit (At InComment bytes levels) (At InComment bytes levels) b (take n text)
-        (step-at limit (At InComment bytes levels) b (Skip InComment) (h 0 (omega arith)))
+        run-cons max_depth (At InComment bytes levels) (At InComment bytes levels) b (take n text)
+        (step-at max_depth (At InComment bytes levels) b (Skip InComment) (h 0 (omega arith)))
         ∙ in_comment text n (omega arith) (λ k lt. h (suc k) (omega arith))
 
 -- an atom, from its first byte on
-pub atom_run : (limit : ℕ) (levels : Levels) (start token : AtomState) (text : List ℕ) (n : ℕ)
+pub atom_run : (max_depth : ℕ) (levels : Levels) (start token : AtomState) (text : List ℕ) (n : ℕ)
     → 0 < n → n ≤ length text → lex start (get_or text 0 0) ≡ Push token
     → ((k : ℕ) → k < n → lex token (get_or text k 0) ≡ Push token)
-    → run limit (At start [] levels) (take n text) ≡ Some (At token (take n text) levels)
-atom_run limit levels start token text zero some le first h = absurd (omega arith)
-atom_run limit levels start token [] (suc n) some le first h = absurd (omega arith)
-atom_run limit levels start token (b ∷ text) (suc n) some le first h =
-    run-push limit levels start token [] b (take n text) first
-    ∙ kept_run limit levels token (b ∷ []) text n (omega arith) (λ k lt. h (suc k) (omega arith))
+    → run max_depth (At start [] levels) (take n text) ≡ Some (At token (take n text) levels)
+atom_run max_depth levels start token text zero some le first h = absurd (omega arith)
+atom_run max_depth levels start token [] (suc n) some le first h = absurd (omega arith)
+atom_run max_depth levels start token (b ∷ text) (suc n) some le first h =
+    run-push max_depth levels start token [] b (take n text) first
+    ∙ kept_run max_depth levels token (b ∷ []) text n (omega arith) (λ k lt. h (suc k) (omega arith))
 
 -- and the byte behind it
-one_more : (limit : ℕ) (s mid next : State) (text : List ℕ) (n : ℕ) → n < length text
-    → run limit s (take n text) ≡ Some mid → step limit mid (get_or text n 0) ≡ Some next
-    → run limit s (take (n + 1) text) ≡ Some next
-one_more limit s mid next text n lt e k =
-    ap (run limit s) (take_more text n 0 lt) ∙ run-append limit s mid (take n text)
-    (get_or text n 0 ∷ []) e ∙ run-cons limit mid next (get_or text n 0) [] k
+one_more : (max_depth : ℕ) (s mid next : State) (text : List ℕ) (n : ℕ) → n < length text
+    → run max_depth s (take n text) ≡ Some mid → step max_depth mid (get_or text n 0) ≡ Some next
+    → run max_depth s (take (n + 1) text) ≡ Some next
+one_more max_depth s mid next text n lt e k =
+    ap (run max_depth s) (take_more text n 0 lt) ∙ run-append max_depth s mid (take n text)
+    (get_or text n 0 ∷ []) e ∙ run-cons max_depth mid next (get_or text n 0) [] k
 
 abbrev pub Over : ℕ → State → List ℕ → ℕ → State → Type 0
-Over limit s text n next = (0 < n) × (n ≤ length text) × (run limit s (take n text) ≡ Some next)
+Over max_depth s text n next = (0 < n) × (n ≤ length text) × (run max_depth s (take n text) ≡ Some next)
 
-white_step : (limit : ℕ) (levels : Levels) (token : AtomState) (said : List ℕ) (b : ℕ)
+white_step : (max_depth : ℕ) (levels : Levels) (token : AtomState) (said : List ℕ) (b : ℕ)
     → lex token b ≡ separated b → is_white b ≡ true
-    → step limit (At token said levels) b ≡ Some (At Nothing [] (add_if (atom_of token said) levels))
-white_step limit levels token said b e h =
-    step-at limit (At token said levels) b (Finish Nothing) (e ∙ white_separates b h)
+    → step max_depth (At token said levels) b ≡ Some (At Nothing [] (add_if (atom_of token said) levels))
+white_step max_depth levels token said b e h =
+    step-at max_depth (At token said levels) b (Finish Nothing) (e ∙ white_separates b h)
 
-close_step : (limit : ℕ) (levels next : Levels) (token : AtomState) (said : List ℕ) (b : ℕ)
+close_step : (max_depth : ℕ) (levels next : Levels) (token : AtomState) (said : List ℕ) (b : ℕ)
     → lex token b ≡ separated b → b ≡ 41 → 0 < depth_of levels
     → ended (add_if (atom_of token said) levels) ≡ next
-    → step limit (At token said levels) b ≡ Some (At Nothing [] next)
-close_step limit levels next token said b s e h k =
-    step-at limit (At token said levels) b Close (s ∙ ap separated e) ∙ end_taken limit
+    → step max_depth (At token said levels) b ≡ Some (At Nothing [] next)
+close_step max_depth levels next token said b s e h k =
+    step-at max_depth (At token said levels) b Close (s ∙ ap separated e) ∙ end_taken max_depth
     (At token said levels) next h k
 
 at_nothing : (token : AtomState) (bytes : List ℕ) (levels : Levels) → token ≡ Nothing → bytes ≡ []
@@ -110,13 +110,13 @@ at_rest piece place k = ap (λ x. get_or x k 0) (rest_is piece place) ∙ get_or
 pub rest_length : (piece : List ℕ) (place : ℕ) → length (rest_of piece place) ≡ length piece - place
 rest_length piece place = ap length (rest_is piece place) ∙ length-drop place piece
 
-pub further : (limit : ℕ) (s mid next : State) (piece : List ℕ) (place n : ℕ)
-    → run limit s (take place piece) ≡ Some mid → run limit mid (take n (rest_of piece place)) ≡ Some next
-    → run limit s (take (place + n) piece) ≡ Some next
-further limit s mid next piece place n e f =
-    ap (run limit s) (take-add place n piece) ∙ run-append limit s mid (take place piece)
+pub further : (max_depth : ℕ) (s mid next : State) (piece : List ℕ) (place n : ℕ)
+    → run max_depth s (take place piece) ≡ Some mid → run max_depth mid (take n (rest_of piece place)) ≡ Some next
+    → run max_depth s (take (place + n) piece) ≡ Some next
+further max_depth s mid next piece place n e f =
+    ap (run max_depth s) (take-add place n piece) ∙ run-append max_depth s mid (take place piece)
     (take n (drop place piece)) e
-    ∙ ap (λ x. run limit mid (take n x)) (sym (rest_is piece place)) ∙ f
+    ∙ ap (λ x. run max_depth mid (take n x)) (sym (rest_is piece place)) ∙ f
 
 -- some bytes, and more behind them
 pub goes_further : (old mid new : Reader) (text : List ℕ) (place n : ℕ) → GoesOn old text place mid
@@ -200,11 +200,11 @@ atom_close s mid next token new left text mark n begins e f some lt h close deep
           deep (ap ended (sym adds) ∙ ends) ∙ ap Some (at_nothing new left next e f)),
     )
 
-pub run_kept : (limit : ℕ) (levels : Levels) (token : AtomState) (bytes longer text : List ℕ) (n : ℕ) → 0 < n
+pub run_kept : (max_depth : ℕ) (levels : Levels) (token : AtomState) (bytes longer text : List ℕ) (n : ℕ) → 0 < n
     → n ≤ length text → ((k : ℕ) → k < n → lex token (get_or text k 0) ≡ Push token)
-    → longer ≡ bytes ++ take n text → Over limit (At token bytes levels) text n (At token longer levels)
-run_kept limit levels token bytes longer text n some le h is =
-    (some, le, kept_run limit levels token bytes text n le h ∙ ap (λ x. Some (At token x levels)) (sym is))
+    → longer ≡ bytes ++ take n text → Over max_depth (At token bytes levels) text n (At token longer levels)
+run_kept max_depth levels token bytes longer text n some le h is =
+    (some, le, kept_run max_depth levels token bytes text n le h ∙ ap (λ x. Some (At token x levels)) (sym is))
 
 blame-at : (place : ℕ) (what : LexerStep) → flaw_at place (refusal_of what) ≡ blame place what
 blame-at place (Push token) = refl

@@ -1,7 +1,7 @@
 -- SMT-LIB 2.6, sections 3.1 and 3.2: texts, as tokens with white space and comments between them, and the
 -- trees of a text. This project's rules are that two neighbouring tokens, neither a parenthesis, need white
 -- space or a comment between them, that a comment may end with the text and may have any bytes, and that
--- lists nest no deeper than a limit.
+-- lists nest no deeper than a max_depth.
 use Rattle.std.specs.Prelude.{◌≡◌, ◌≢◌, ◌⊎◌, ◌≤◌, ℕ, Bool, true, List, [], ◌∷◌, ◌++◌, codes, ◌==◌}
 use Rattle.std.specs.Prelude.{if◌then◌else◌}
 use Rattle.std.specs.List.{AllByRecursion}
@@ -15,8 +15,8 @@ use Rattle.smt_text.specs.declared.reader.TheConstants.{MAX_DEPTH}
 use Rattle.smt_trees.specs.declared.reserved.Word.{Word}
 
 -- how deep lists may nest, a list at the top being at depth 1
-abbrev pub limit : ℕ
-limit = MAX_DEPTH
+abbrev pub max_depth : ℕ
+max_depth = MAX_DEPTH
 
 -- a token: a parenthesis, an atom with what it says, or a reserved word
 pub data Token : Type 0 where
@@ -133,7 +133,7 @@ abbrev mutual
   tokens_of_all Nil later = later
   tokens_of_all (Cons x xs) later = tokens_of x (tokens_of_all xs later)
 
--- the text is that of the trees, and no list of them is deeper than the limit
-pub record Forest (limit : ℕ) (text : List ℕ) (trees : Sexps) : Type 0 where
+-- the text is that of the trees, and no list of them is deeper than the max_depth
+pub record Forest (max_depth : ℕ) (text : List ℕ) (trees : Sexps) : Type 0 where
   pub tokens : IsText (tokens_of_all trees []) text
-  pub shallow : depth_all trees ≤ limit
+  pub shallow : depth_all trees ≤ max_depth

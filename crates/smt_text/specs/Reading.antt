@@ -10,17 +10,17 @@ use Rattle.smt_faults.specs.declared.text_flaw.TextFlaw.TheVariants.{Byte, Deep,
 
 -- some text of trees begins so
 abbrev pub Begins : ℕ → List ℕ → Type 0
-Begins limit prefix = (more : List ℕ) × (trees : Sexps) × Forest limit (prefix ++ more) trees
+Begins max_depth prefix = (more : List ℕ) × (trees : Sexps) × Forest max_depth (prefix ++ more) trees
 
 -- the text has trees
 abbrev pub IsForest : ℕ → List ℕ → Type 0
-IsForest limit text = (trees : Sexps) × Forest limit text trees
+IsForest max_depth text = (trees : Sexps) × Forest max_depth text trees
 
 -- the longest prefix of the text that begins some text of trees, and what follows it
-pub record LongestPrefix (limit : ℕ) (text prefix rest : List ℕ) : Type 0 where
+pub record LongestPrefix (max_depth : ℕ) (text prefix rest : List ℕ) : Type 0 where
   pub parts : text ≡ prefix ++ rest
-  pub begins : Begins limit prefix
-  pub longest : (longer other : List ℕ) → text ≡ longer ++ other → Begins limit longer
+  pub begins : Begins max_depth prefix
+  pub longest : (longer other : List ℕ) → text ≡ longer ++ other → Begins max_depth longer
       → length longer ≤ length prefix
 
 -- a token that shows its end itself: a closing parenthesis, or a symbol in bars
@@ -41,17 +41,17 @@ IsFollowed rest = (b : ℕ) × (bs : List ℕ) × (rest ≡ b ∷ bs) × (ends_t
 
 -- these are the trees of a beginning of the prefix that is empty, ends with a list or a quoted symbol, or is
 -- followed by white space, a comment or a parenthesis: so the last of them is complete, whatever comes
-pub record AreSettled (limit : ℕ) (prefix : List ℕ) (trees : Sexps) : Type 0 where
+pub record AreSettled (max_depth : ℕ) (prefix : List ℕ) (trees : Sexps) : Type 0 where
   pub beginning : List ℕ
   pub rest : List ℕ
   pub parts : prefix ≡ beginning ++ rest
-  pub forest : Forest limit beginning trees
+  pub forest : Forest max_depth beginning trees
   pub settled : (beginning ≡ []) ⊎ (EndsClosed (tokens_of_all trees []) beginning ⊎ IsFollowed rest)
 
 -- the complete trees of a prefix: those of its longest such beginning
-pub record AreComplete (limit : ℕ) (prefix : List ℕ) (trees : Sexps) : Type 0 where
-  pub settled : AreSettled limit prefix trees
-  pub most : (others : Sexps) → AreSettled limit prefix others
+pub record AreComplete (max_depth : ℕ) (prefix : List ℕ) (trees : Sexps) : Type 0 where
+  pub settled : AreSettled max_depth prefix trees
+  pub most : (others : Sexps) → AreSettled max_depth prefix others
       → (later : Sexps) × (trees ≡ append others later)
 
 -- which fault a text has that is none of trees
@@ -59,13 +59,13 @@ pub record AreComplete (limit : ℕ) (prefix : List ℕ) (trees : Sexps) : Type 
 --     Deep     with the byte at this place, the text might go on if lists could be of any depth
 --     Byte     with the byte at this place, it is the beginning of no text
 abbrev pub HasFault : ℕ → List ℕ → TextFlaw → Type 0
-HasFault limit text (End place) = (place ≡ length text) × Begins limit text × (IsForest limit text → ⊥)
-HasFault limit text (Deep place) =
+HasFault max_depth text (End place) = (place ≡ length text) × Begins max_depth text × (IsForest max_depth text → ⊥)
+HasFault max_depth text (Deep place) =
     (prefix : List ℕ) × (b : ℕ) × (rest : List ℕ) × (place ≡ length prefix)
-    × LongestPrefix limit text prefix (b ∷ rest) × ((depth : ℕ) × Begins depth (prefix ++ b ∷ []))
-HasFault limit text (Byte place) =
+    × LongestPrefix max_depth text prefix (b ∷ rest) × ((depth : ℕ) × Begins depth (prefix ++ b ∷ []))
+HasFault max_depth text (Byte place) =
     (prefix : List ℕ) × (b : ℕ) × (rest : List ℕ) × (place ≡ length prefix)
-    × LongestPrefix limit text prefix (b ∷ rest) × (((depth : ℕ) × Begins depth (prefix ++ b ∷ [])) → ⊥)
+    × LongestPrefix max_depth text prefix (b ∷ rest) × (((depth : ℕ) × Begins depth (prefix ++ b ∷ [])) → ⊥)
 
 -- a text that ends inside a list or a token has this fault only once its end was told
 abbrev pub IsTold : Bool → TextFlaw → Type 0
@@ -76,8 +76,8 @@ IsTold ended (Deep place) = Unit {0}
 -- what is read of the text: the trees, and the fault after them, if there is one. `ended` says that no more
 -- of the text comes
 abbrev pub Reads : ℕ → Bool → List ℕ → Sexps → Option TextFlaw → Type 0
-Reads limit true text trees None = Forest limit text trees
-Reads limit false text trees None = Begins limit text × AreComplete limit text trees
-Reads limit ended text trees (Some fault) =
-    HasFault limit text fault × IsTold ended fault
-    × ((prefix rest : List ℕ) × LongestPrefix limit text prefix rest × AreComplete limit prefix trees)
+Reads max_depth true text trees None = Forest max_depth text trees
+Reads max_depth false text trees None = Begins max_depth text × AreComplete max_depth text trees
+Reads max_depth ended text trees (Some fault) =
+    HasFault max_depth text fault × IsTold ended fault
+    × ((prefix rest : List ℕ) × LongestPrefix max_depth text prefix rest × AreComplete max_depth prefix trees)

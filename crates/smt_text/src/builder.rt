@@ -1,4 +1,4 @@
-//! Trees, built from tokens in order.
+//! Trees, built from tokens in order. This file knows no bytes of a text.
 
 ghost use Rattle.std.proofs.Props.{props};
 ghost use Rattle.std.specs.Prelude.{◌≡◌, [], ◌∷◌, ◌++◌, true, length, reverse, IfOk, OnErr};
@@ -23,7 +23,7 @@ pub(crate) struct Builder {
 
 impl Builder {
     ghost use Rattle.std.specs.Prelude.{◌<◌, MatchOption};
-    ghost use Rattle.smt_text.specs.Internal.Machine.{On, add, begun, ended, depth_of};
+    ghost use Rattle.smt_text.specs.Internal.LexerStates.{On, add, begun, ended, depth_of};
     ghost use Rattle.smt_text.specs.Internal.ReaderState.{levels_of};
     ghost use Rattle.smt_trees.specs.Sexp.{Nil};
     ghost use Rattle.smt_trees.specs.Tree.{sexp_of};

@@ -1,4 +1,4 @@
-//! Bytes, by what they may stand for (SMT-LIB 2.6, section 3.1).
+//! Bytes, by what they may stand for (SMT-LIB 2.6, section 3.1). This file knows no tokens.
 
 ghost use Rattle.std.specs.Prelude.{◌≡◌};
 ghost use Rattle.smt_text.specs.Internal.ByteKinds.{kinds};

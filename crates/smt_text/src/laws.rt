@@ -10,48 +10,48 @@ ghost use Rattle.smt_faults.specs.declared.text_flaw.TextFlaw.{TextFlaw};
 
 /// A text has at most one forest, whatever the limits on the depth of lists.
 pub fn one_forest()
-    ensures one { (limit other : ℕ) (text : List ℕ) (xs ys : Sexps) → Forest limit text xs
+    ensures one { (max_depth other : ℕ) (text : List ℕ) (xs ys : Sexps) → Forest max_depth text xs
         → Forest other text ys → xs ≡ ys }
 {}
 
 /// What is read of a text, its trees and its fault, is one answer.
 pub fn one_reading()
-    ensures one { (limit : ℕ) (ended : Bool) (text : List ℕ) (xs ys : Sexps) (f g : Option TextFlaw)
-        → Reads limit ended text xs f → Reads limit ended text ys g → (xs ≡ ys) × (f ≡ g) }
+    ensures one { (max_depth : ℕ) (ended : Bool) (text : List ℕ) (xs ys : Sexps) (f g : Option TextFlaw)
+        → Reads max_depth ended text xs f → Reads max_depth ended text ys g → (xs ≡ ys) × (f ≡ g) }
 {}
 
 /// Of every text something is read, whether more of it comes or not.
 pub fn every_text_reads()
-    ensures some { (limit : ℕ) (ended : Bool) (text : List ℕ)
-        → (trees : Sexps) × (fault : Option TextFlaw) × Reads limit ended text trees fault }
+    ensures some { (max_depth : ℕ) (ended : Bool) (text : List ℕ)
+        → (trees : Sexps) × (fault : Option TextFlaw) × Reads max_depth ended text trees fault }
 {}
 
 /// The complete trees of a prefix of a text stay, in their order, whatever comes after it.
 pub fn complete_trees_stay()
-    ensures stay { (limit : ℕ) (prefix more : List ℕ) (xs ys : Sexps) → Begins limit (prefix ++ more)
-        → AreComplete limit prefix xs → AreComplete limit (prefix ++ more) ys
+    ensures stay { (max_depth : ℕ) (prefix more : List ℕ) (xs ys : Sexps) → Begins max_depth (prefix ++ more)
+        → AreComplete max_depth prefix xs → AreComplete max_depth (prefix ++ more) ys
         → (later : Sexps) × (ys ≡ append xs later) }
 {}
 
 /// The trees that are read of the beginning of a text, while more of it may come, are the first that are read
 /// of more of it, whether its end was told or not.
 pub fn read_trees_stay()
-    ensures stay { (limit : ℕ) (ended : Bool) (text more : List ℕ) (xs ys : Sexps) (f g : Option TextFlaw)
-        → Reads limit false text xs f → Reads limit ended (text ++ more) ys g
+    ensures stay { (max_depth : ℕ) (ended : Bool) (text more : List ℕ) (xs ys : Sexps) (f g : Option TextFlaw)
+        → Reads max_depth false text xs f → Reads max_depth ended (text ++ more) ys g
         → (later : Sexps) × (ys ≡ append xs later) }
 {}
 
 /// A fault of the beginning of a text, which was found while more of it might come, is that of more of it,
 /// behind the same trees.
 pub fn read_faults_stay()
-    ensures stay { (limit : ℕ) (ended : Bool) (text more : List ℕ) (xs ys : Sexps) (f : TextFlaw)
+    ensures stay { (max_depth : ℕ) (ended : Bool) (text more : List ℕ) (xs ys : Sexps) (f : TextFlaw)
         (g : Option TextFlaw)
-        → Reads limit false text xs (Some f) → Reads limit ended (text ++ more) ys g
+        → Reads max_depth false text xs (Some f) → Reads max_depth ended (text ++ more) ys g
         → (ys ≡ xs) × (g ≡ Some f) }
 {}
 
 /// A text has no more trees than bytes.
 pub fn trees_are_no_more_than_bytes()
-    ensures few { (limit : ℕ) (text : List ℕ) (trees : Sexps) (f : Option TextFlaw)
-        → Reads limit true text trees f → count trees ≤ length text }
+    ensures few { (max_depth : ℕ) (text : List ℕ) (trees : Sexps) (f : Option TextFlaw)
+        → Reads max_depth true text trees f → count trees ≤ length text }
 {}

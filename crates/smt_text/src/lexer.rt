@@ -1,8 +1,8 @@
-//! Tokens, byte by byte.
+//! Tokens, byte by byte. This file knows no lists.
 
 ghost use Rattle.std.specs.Prelude.{◌≡◌, ◌<◌, ◌≤◌, ℕ, [], true, length, slice_index, take, IfOk};
 ghost use Rattle.std.specs.Option.{option_map};
-ghost use Rattle.smt_text.specs.Internal.Machine as machine;
+ghost use Rattle.smt_text.specs.Internal.LexerStates as machine;
 ghost use Rattle.smt_trees.specs.Tree.{sexp_of};
 ghost use Rattle.smt_text.specs.declared.lexer.AtomState.TheVariants.{Zero, Digits, Hash, InText, InBars};
 ghost use Rattle.smt_text.specs.declared.lexer.AtomState.TheVariants.{InComment};

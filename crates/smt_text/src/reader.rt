@@ -1,12 +1,12 @@
-//! The reader: bytes in, S-expressions out.
+//! The reader: bytes in, S-expressions out. This file knows nothing of what a tree means.
 
 ghost use Rattle.std.specs.Prelude.{◌≡◌, ◌≢◌, ℕ, ◌+◌, ◌<◌, ◌≤◌, ◌^◌, List, [], ◌∷◌, ◌++◌, length};
 ghost use Rattle.std.specs.Prelude.{slice_index, take, true, false, None, Some, IfOk, MatchBool, MatchResult};
-ghost use Rattle.smt_text.specs.Grammar.{limit, OpenParenthesis, CloseParenthesis};
+ghost use Rattle.smt_text.specs.Grammar.{max_depth, OpenParenthesis, CloseParenthesis};
 ghost use Rattle.smt_text.specs.Reader.{is_finished, bytes_fed, fault_of, trees_waiting, StandsFor, Answers};
 ghost use Rattle.smt_text.specs.Reader.{FewerWait, IsFound, with_answer};
-ghost use Rattle.smt_text.specs.Internal.Machine.{act, add_if, atom_of, finished, flush, lex, refusal_of};
-ghost use Rattle.smt_text.specs.Internal.Machine.{settle, step};
+ghost use Rattle.smt_text.specs.Internal.LexerStates.{act, add_if, atom_of, finished, flush, lex, refusal_of};
+ghost use Rattle.smt_text.specs.Internal.LexerStates.{settle, step};
 ghost use Rattle.smt_text.specs.Internal.ReaderState.{levels_of, state_of, BeginsAtom, Ends, Goes, GoesOn, GoesOver};
 ghost use Rattle.smt_text.specs.Internal.ReaderState.{GoesThrough};
 ghost use Rattle.smt_text.specs.Internal.ReaderState.{IsBeside};
@@ -479,9 +479,9 @@ impl Reader {
 
 /// The trees of a whole text, or its fault.
 pub fn read_trees(alloc: Global, text: &[u8]) -> Result<Trees, TextFault>
-    ensures { MatchResult result (λ trees. Reads limit true text.now trees None)
+    ensures { MatchResult result (λ trees. Reads max_depth true text.now trees None)
         (λ fault. (flaw : TextFlaw) → flaw_in fault ≡ Some flaw
-        → (trees : Sexps) × Reads limit true text.now trees (Some flaw)) }
+        → (trees : Sexps) × Reads max_depth true text.now trees (Some flaw)) }
 {
     let mut reader = Reader::new(alloc);
     reader.feed(text);

@@ -1,7 +1,7 @@
 //! Why a byte of a text was refused, wherever it stands. This file knows no want of memory.
 
 ghost use Rattle.std.specs.Prelude.{◌≡◌};
-ghost use Rattle.smt_text.specs.Internal.Machine.{flaw_at};
+ghost use Rattle.smt_text.specs.Internal.LexerStates.{flaw_at};
 
 use smt_faults::TextFlaw;
 

@@ -2,8 +2,8 @@
 //! of a text is asked; this file knows no text.
 
 ghost use Rattle.std.specs.Prelude.{◌≡◌, ◌≢◌, MatchOption};
-ghost use Rattle.smt_text.specs.Internal.Machine as machine;
-ghost use Rattle.smt_text.specs.Internal.Machine.{word_named};
+ghost use Rattle.smt_text.specs.Internal.LexerStates as machine;
+ghost use Rattle.smt_text.specs.Internal.LexerStates.{word_named};
 ghost use Rattle.smt_trees.specs.Reserved.{spelling_of};
 ghost use Rattle.smt_trees.specs.declared.reserved.Word.{Word};
 

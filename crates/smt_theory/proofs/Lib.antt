@@ -7,3 +7,4 @@ pub mod DigitLemmas
 pub mod RankLemmas
 pub mod BitsRankLemmas
 pub mod RankTableLemmas
+pub mod WideLemmas

@@ -3,9 +3,9 @@
 //! The theories are Core, Ints and FixedSizeBitVectors, the last with the operators that the logic QF_BV
 //! adds. Bit vectors are up to 128 bits wide.
 //!
-//! A logic has theories (`theories_of`), a symbol with its indexes is an operator of theories (`op_of`), and
-//! an operator has a result's sort for the sorts of its arguments (`rank`). Nothing here allocates, or
-//! knows a text or a value.
+//! A logic has theories in a profile of the language (`theories_of`), a symbol with its indexes is an operator
+//! of theories (`op_of`), and an operator has a result's sort for the sorts of its arguments (`rank`). Nothing
+//! here allocates, or knows a text or a value.
 //!
 //! **The contract for the layer above**: `rank` gives a sort exactly where the table of ranks, `HasRank` of
 //! `specs/Ranks.antt`, has the operator with these arguments and that result. The table has one line for each
@@ -14,7 +14,7 @@
 //! A call, of `(< 1 2 3)` in the logic `QF_LIA`:
 //!
 //! ```text
-//! let theories = theories_of(b"QF_LIA")?;                                   // Core and Ints
+//! let theories = theories_of(Profile::Base, b"QF_LIA")?;                    // Core and Ints
 //! let op = op_of(theories, b"<", &[]).ok()?;                                // the relation <
 //! rank(op, &[Sort::Int, Sort::Int, Sort::Int])                              // Some(Sort::Bool)
 //! ```
@@ -24,10 +24,12 @@ mod index;
 pub mod laws;
 mod numbers;
 mod op;
+mod profile;
 mod ranks;
 mod sort;
 mod symbols;
 mod theories;
+mod wide;
 mod width;
 
 pub use index::Index;
@@ -37,7 +39,8 @@ pub use op::{
     Arithmetic, BitsBinary, BitsComparison, BitsFolded, BitsOp, BitsUnary, Comparison, CoreOp,
     IntsOp, Op, OpFault,
 };
+pub use profile::Profile;
 pub use ranks::rank;
 pub use sort::Sort;
-pub use theories::{Theories, theories_of};
+pub use theories::{Theories, all_theories, theories_of};
 pub use width::Width;

@@ -1,9 +1,12 @@
 //! Theories, and the logics that choose them. This file knows no operator.
 
 ghost use Rattle.std.specs.Prelude.{◌≡◌};
+ghost use Rattle.smt_theory.specs.Theories as specs;
 ghost use Rattle.smt_theory.specs.Theories.{theories_named, is_logic_of_bit_vectors, is_logic_of_integers};
 
+use crate::profile::Profile;
 use crate::symbols::is_named;
+use crate::wide::wide_theories_of;
 
 /// The theories that a logic has besides Core.
 #[derive(Clone, Copy)]
@@ -12,35 +15,67 @@ pub struct Theories {
     pub ints: bool,
     /// The theory FixedSizeBitVectors with the operators of the logic QF_BV.
     pub bits: bool,
+    /// The theory Reals, with Ints Reals_Ints; in the wide profile alone.
+    pub reals: bool,
+    /// The theory ArraysEx; in the wide profile alone.
+    pub arrays: bool,
+    /// Whether the profile is the wide one.
+    pub wide: bool,
 }
 
-/// The theories of the logic of this name; `None` where it is not supported. Which logics are supported
-/// is this project's own choice, and a logic chooses theories alone: `ALL` is all that there are.
-pub fn theories_of(logic: &[u8]) -> Option<Theories>
-    ensures { result ≡ theories_named logic.now }
+/// All theories of a profile: those before a logic is set.
+pub fn all_theories(profile: Profile) -> Theories
+    ensures { result ≡ specs.all_theories profile }
+{
+    match profile {
+        Profile::Base => base_theories(true, true),
+        Profile::Wide => Theories {
+            ints: true,
+            bits: true,
+            reals: true,
+            arrays: true,
+            wide: true,
+        },
+    }
+}
+
+/// The theories of the logic of this name in a profile; `None` where it is not supported. Which logics are
+/// supported is this project's own choice, and a logic chooses theories alone: `ALL` is all that there are.
+/// In the wide profile the names with and without `QF_` are one logic.
+pub fn theories_of(profile: Profile, logic: &[u8]) -> Option<Theories>
+    ensures { result ≡ theories_named profile logic.now }
+{
+    match profile {
+        Profile::Base => base_theories_of(logic),
+        Profile::Wide => wide_theories_of(logic),
+    }
+}
+
+fn base_theories_of(logic: &[u8]) -> Option<Theories>
+    ensures { result ≡ specs.base_theories_named logic.now }
 {
     if is_named(logic, b"QF_UF") {
-        Some(Theories {
-            ints: false,
-            bits: false,
-        })
+        Some(base_theories(false, false))
     } else if is_of_integers(logic) {
-        Some(Theories {
-            ints: true,
-            bits: false,
-        })
+        Some(base_theories(true, false))
     } else if is_of_bit_vectors(logic) {
-        Some(Theories {
-            ints: false,
-            bits: true,
-        })
+        Some(base_theories(false, true))
     } else if is_named(logic, b"ALL") {
-        Some(Theories {
-            ints: true,
-            bits: true,
-        })
+        Some(base_theories(true, true))
     } else {
         None
+    }
+}
+
+fn base_theories(ints: bool, bits: bool) -> Theories
+    ensures { result ≡ specs.base_theories ints bits }
+{
+    Theories {
+        ints,
+        bits,
+        reals: false,
+        arrays: false,
+        wide: false,
     }
 }
 

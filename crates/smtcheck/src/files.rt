@@ -86,6 +86,7 @@ fn run_open<R: AllocGlobal + Print, F: Read + Drop>(
 {
     let options = Options {
         print_success: settings.print_success,
+        profile: settings.profile,
         limit: Limit {
             steps: settings.steps,
         },
@@ -125,6 +126,7 @@ fn tell<R: AllocGlobal + Print>(
         script_name: settings.script.as_bytes(),
         answers_name: settings.answers.as_bytes(),
         prints_success: settings.print_success,
+        profile: settings.profile,
         steps: settings.steps,
     };
     let Ok(text) = explain(rt.alloc(), texts, lines) else {

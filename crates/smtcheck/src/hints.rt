@@ -34,7 +34,7 @@ impl Hint {
                 "hint: a compressed file, a byte order mark and UTF-16 are no text that is read here"
             }
             Hint::Labels => {
-                "hint: z3 prints labels and defined constants in its models: run it with model.user_functions=false"
+                "hint: z3 prints labels and defined constants in its models: take --profile wide, or run z3 with model.user_functions=false"
             }
             Hint::ModelBehindUnsat => {
                 "hint: some solvers print nothing for a (get-model) behind `unsat`: leave it out there"

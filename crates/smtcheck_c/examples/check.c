@@ -23,7 +23,7 @@ int main(int count, char **words) {
     if (count != 4) return SMTCHECK_OPTIONS;
     size_t script_length, answers_length, room = 1, wanted = 0;
     char *script = read_file(words[2], &script_length), *answers = read_file(words[3], &answers_length), *text = NULL;
-    struct smtcheck_options options = {SMTCHECK_STEPS, strcmp(words[1], "on") == 0};
+    struct smtcheck_options options = {SMTCHECK_STEPS, strcmp(words[1], "on") == 0, false};
     struct smtcheck_summary summary = {0, 0, 0, 0, 0};
     uint32_t outcome;
     do { /* once more where the text had no room */

@@ -11,7 +11,7 @@ struct Report {
 
 // The report on a dialogue whose solver prints no `success`.
 Report check(const std::string &script, const std::string &answers) {
-    smtcheck_options options = {SMTCHECK_STEPS, false};
+    smtcheck_options options = {SMTCHECK_STEPS, false, false};
     Report report = {SMTCHECK_MEMORY, {}, std::string(256, '\0')};
     size_t wanted = 0;
     for (;;) {

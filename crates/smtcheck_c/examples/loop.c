@@ -41,7 +41,7 @@ int main(int count, char **words) {
         /* every third buffer is one byte too short */
         size_t room = turn % 3 ? length : length - 1;
         char *script = copy_of(scripts[k], script_length), *answer = copy_of(answers[k], answers_length), *text = malloc(room);
-        struct smtcheck_options options = {SMTCHECK_STEPS, false};
+        struct smtcheck_options options = {SMTCHECK_STEPS, false, false};
         struct smtcheck_summary summary = {0};
         if (!text) return 70;
         memset(text, '#', room);

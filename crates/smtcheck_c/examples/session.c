@@ -25,7 +25,7 @@ int main(void) {
         {"(assert (not p))", ""},
         {"(check-sat)", "unsat\n"},
     };
-    struct smtcheck_options options = {SMTCHECK_STEPS, false};
+    struct smtcheck_options options = {SMTCHECK_STEPS, false, false};
     if (smtcheck_session_new(&options, &session) != SMTCHECK_OPEN) return SMTCHECK_MEMORY;
     for (size_t turn = 0; turn < sizeof turns / sizeof *turns; turn++) {
         smtcheck_session_script(&session, turns[turn][0], strlen(turns[turn][0]));

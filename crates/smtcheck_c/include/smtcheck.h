@@ -9,7 +9,7 @@
  *    call only writes them. No pointer is null, not even for a length of 0: of an empty text it may be any address.
  * 2. What a call may write overlaps nothing else that is passed to it, and nobody else uses it meanwhile. What it
  *    only reads is not changed meanwhile.
- * 3. No length is over PTRDIFF_MAX, and `print_success` is true or false and no other byte.
+ * 3. No length is over PTRDIFF_MAX, and `print_success` and `wide` are true or false and no other bytes.
  * 4. No call is made from a signal handler, or in the child of a fork of a process with several threads. `malloc`,
  *    `realloc` and `free` are of one allocator, which aligns a block to each power of two up to 16 that divides
  *    its size.
@@ -57,6 +57,9 @@ struct smtcheck_options {
     uint64_t steps;
     /* Whether the solver prints `success`, from the start, for each command that has no answer of its own. */
     bool print_success;
+    /* Whether the language that is taken is that of the profile `wide`, and not that of `base`: docs/LANGUAGE.md has
+       both. An initializer that leaves it out means `base`. */
+    bool wide;
 };
 
 /* The limit that the program has, if it is given none. */
@@ -150,7 +153,7 @@ void smtcheck_session_free(struct smtcheck_session *session);
 
 /*
  * Tells the version of the library, and the toolchain that proved it, as `smtcheck --version` does behind the program's
- * name: `0.6.0 (rattle-kit-13f ..)`.
+ * name: `0.7.0 (rattle-kit-13f ..)`.
  *
  * It answers the length of that text, which has no byte 0. If it has at most `room` bytes, the first bytes at `text` are
  * the text, and those behind it stay as they were; if it has more, all stay as they were.

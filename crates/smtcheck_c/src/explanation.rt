@@ -71,6 +71,7 @@ fn tell_why(
         script_name: b"script",
         answers_name: b"answers",
         prints_success: options.print_success,
+        profile: options.profile,
         steps: options.limit.steps,
     };
     let text = explain(alloc, texts, report.lines.as_slice());

@@ -1,5 +1,5 @@
 //! What an export answers: the number of a verdict, which is the program's exit status, or another where there is
-//! none.
+//! none. This file finds no verdict.
 
 ghost use Rattle.std.specs.Prelude.{◌≡◌, ◌<◌};
 ghost use Rattle.smt_report.specs.Verdict.{status_of};

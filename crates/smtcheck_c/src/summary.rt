@@ -1,4 +1,4 @@
-//! What the lines of a report come to, as C is told it.
+//! What the lines of a report come to, as C is told it. This file finds no line.
 
 ghost use Rattle.smtcheck_c.specs.Told.{IsSummaryOf};
 

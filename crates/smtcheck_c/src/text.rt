@@ -1,4 +1,4 @@
-//! The text of lines, and texts in the caller's buffer.
+//! The text of lines, and texts in the caller's buffer. This file knows nothing of what a line means.
 
 ghost use Rattle.std.specs.Prelude.{◌≡◌, ◌<◌, ◌≤◌, ◌++◌, length, drop, IfOk, string_bytes};
 ghost use Rattle.smt_dialogue.specs.Run as runs;

@@ -1,3 +1,4 @@
 pub mod ClapLemmas
 pub mod DefaultLemmas
 pub mod SettingsLemmas
+pub mod WordRuleLemmas

@@ -23,8 +23,10 @@ use Rattle.clap.specs.declared.builder.value_parser.ValueParser.TheVariants as v
 use Rattle.clap.proofs.TakesLemmas.{leaf_takes}
 use Rattle.clap.proofs.ValueTestLemmas.{Accepts-accepts}
 use Rattle.clap.proofs.OnLiterals.{clap_on_literals}
+use Rattle.smt_theory.specs.declared.profile.Profile.{Profile}
+use Rattle.smt_theory.specs.declared.profile.Profile.TheVariants.{Base, Wide}
 use Rattle.smtcheck_command_line.specs.Settings.{Places, flag_words, is_given, is_plain, most_steps}
-use Rattle.smtcheck_command_line.specs.Settings.{smtcheck_app, success_word}
+use Rattle.smtcheck_command_line.specs.Settings.{profile_word, profile_words, smtcheck_app, success_word}
 use Rattle.clap.specs.Values.{reading_of}
 use Rattle.clap.specs.declared.parser.matches.ValueSource.TheVariants.{CommandLine}
 
@@ -131,14 +133,16 @@ abbrev steps_words : Option Text → List Text
 steps_words None = []
 steps_words (Some text) = codes "--steps" ∷ text ∷ []
 
--- which of the options without a value are given, and the word of the first that has one
+-- which of the options without a value are given, and the words of the first two that have one
 pub record Given : Type 0 where
   pub explain : Bool
   pub strict : Bool
   pub success : Option Bool
+  pub profile : Option Profile
 
 abbrev given_words : Given → List Text → List Text
-given_words given rest = flag_words given.explain given.strict ++ (success_words given.success ++ rest)
+given_words given rest = flag_words given.explain given.strict
+    ++ (success_words given.success ++ (profile_words given.profile ++ rest))
 
 -- the options, and the words behind them
 abbrev with_options : Given → Option Text → List Text → List Text
@@ -169,44 +173,53 @@ flag_rows true false = flag_row (codes "explain") ∷ []
 flag_rows false true = flag_row (codes "strict") ∷ []
 flag_rows false false = []
 
--- and behind the first option
+-- and behind the first of them
 abbrev success_pending : Option Bool → Option (Text × List Text)
 success_pending None = None
 success_pending (Some prints) = Some (codes "print-success", success_word prints ∷ [])
 
-abbrev success_held : Given → Held
-success_held given = record nothing_held {
-  rows = flag_rows given.explain given.strict;
-  pending = success_pending given.success;
-}
+abbrev success_held : Bool → Bool → Option Bool → Held
+success_held explain strict success =
+    record nothing_held { rows = flag_rows explain strict; pending = success_pending success }
 
--- and behind the name of the second, and behind its word
-abbrev asked_held : Places → Held → Held
-asked_held places h = record (settled (top places).rules h) { pending = Some (codes "steps", []) }
+-- and behind the name of another, and behind its word
+abbrev asked_held : Places → Text → Held → Held
+asked_held places id h = record (settled (top places).rules h) { pending = Some (id, []) }
 
-abbrev given_held : Places → Held → Text → Held
-given_held places h text = record (settled (top places).rules h) { pending = Some (codes "steps", text ∷ []) }
+abbrev given_held : Places → Text → Held → Text → Held
+given_held places id h text = record (settled (top places).rules h) { pending = Some (id, text ∷ []) }
 
+-- and behind the second, where it is given
+abbrev profile_held : Places → Held → Option Profile → Held
+profile_held places h None = h
+profile_held places h (Some profile) = given_held places (codes "profile") h (profile_word profile)
+
+-- and behind both
+abbrev worded_held : Places → Bool → Bool → Option Bool → Option Profile → Held
+worded_held places explain strict success profile =
+    profile_held places (success_held explain strict success) profile
+
+abbrev held_of : Places → Given → Held
+held_of places given = worded_held places given.explain given.strict given.success given.profile
+
+-- and behind the third
 abbrev options_held : Places → Given → Option Text → Held
-options_held places given None = success_held given
-options_held places given (Some text) = given_held places (success_held given) text
+options_held places given None = held_of places given
+options_held places given (Some text) = given_held places (codes "steps") (held_of places given) text
 
--- a walk that waits for the number
-abbrev asking : Places → Held → Walk
-asking places h = record (standing 1 (asked_held places h)) { waiting = option (codes "steps") }
+-- a walk that waits for the word of an option
+abbrev asking : Places → Text → Held → Walk
+asking places id h = record (standing 1 (asked_held places id h)) { waiting = option id }
 
-success_walked : (places : Places) (given : Given) (rest : List Text)
-    → walk (top places).rules [] nothing_held (given_words given rest)
-    ≡ fold (walked (top places).rules []) (standing 1 (success_held given)) rest
+success_walked : (places : Places) (explain strict : Bool) (success : Option Bool) (rest : List Text)
+    → walk (top places).rules [] nothing_held (flag_words explain strict ++ (success_words success ++ rest))
+    ≡ fold (walked (top places).rules []) (standing 1 (success_held explain strict success)) rest
 unfolding smtcheck_app clap_on_literals
-success_walked places given rest = go given.explain given.strict given.success
+success_walked places explain strict success rest = go explain strict success
   where
     go : (explain strict : Bool) (success : Option Bool) → walk (top places).rules [] nothing_held
         (flag_words explain strict ++ (success_words success ++ rest))
-        ≡ fold (walked (top places).rules []) (standing 1 (record nothing_held {
-          rows = flag_rows explain strict;
-          pending = success_pending success;
-        })) rest
+        ≡ fold (walked (top places).rules []) (standing 1 (success_held explain strict success)) rest
     go true true None = refl
     go true true (Some true) = refl
     go true true (Some false) = refl
@@ -220,42 +233,76 @@ success_walked places given rest = go given.explain given.strict given.success
     go false false (Some true) = refl
     go false false (Some false) = refl
 
-asked : (places : Places) (h : Held)
-    → walked (top places).rules [] (standing 1 h) (codes "--steps") ≡ asking places h
+profile_asked : (places : Places) (h : Held)
+    → walked (top places).rules [] (standing 1 h) (codes "--profile") ≡ asking places (codes "profile") h
 unfolding smtcheck_app clap_on_literals
-asked places h = refl
+profile_asked places h = refl
+
+steps_asked : (places : Places) (h : Held)
+    → walked (top places).rules [] (standing 1 h) (codes "--steps") ≡ asking places (codes "steps") h
+unfolding smtcheck_app clap_on_literals
+steps_asked places h = refl
+
+word_walked : (places : Places) (h : Held) (text : Text) → is_plain text ≡ true
+    → walked (top places).rules [] (asking places (codes "profile") h) text
+    ≡ standing 1 (given_held places (codes "profile") h text)
+unfolding smtcheck_app walked
+word_walked places h text e =
+    ap (λ m. after_step (top places).rules text (asking places (codes "profile") h) m.0 m.1)
+    (plain_met (top places).rules (option (codes "profile")) 1 text
+    (asked_held places (codes "profile") h) e)
 
 number_walked : (places : Places) (h : Held) (text : Text) → is_plain text ≡ true
-    → walked (top places).rules [] (asking places h) text ≡ standing 1 (given_held places h text)
+    → walked (top places).rules [] (asking places (codes "steps") h) text
+    ≡ standing 1 (given_held places (codes "steps") h text)
 unfolding smtcheck_app walked
 number_walked places h text e =
-    ap (λ m. after_step (top places).rules text (asking places h) m.0 m.1)
-    (plain_met (top places).rules (option (codes "steps")) 1 text (asked_held places h) e)
+    ap (λ m. after_step (top places).rules text (asking places (codes "steps") h) m.0 m.1)
+    (plain_met (top places).rules (option (codes "steps")) 1 text (asked_held places (codes "steps") h) e)
+
+plain_profile : (profile : Profile) → is_plain (profile_word profile) ≡ true
+plain_profile Base = refl
+plain_profile Wide = refl
+
+profile_walked : (places : Places) (h : Held) (profile : Option Profile) (rest : List Text)
+    → fold (walked (top places).rules []) (standing 1 h) (profile_words profile ++ rest)
+    ≡ fold (walked (top places).rules []) (standing 1 (profile_held places h profile)) rest
+profile_walked places h None rest = refl
+profile_walked places h (Some profile) rest =
+    ap (λ w. fold (walked (top places).rules []) (walked (top places).rules [] w (profile_word profile)) rest)
+    (profile_asked places h)
+    ∙ ap (λ w. fold (walked (top places).rules []) w rest)
+    (word_walked places h (profile_word profile) (plain_profile profile))
+
+given_walked : (places : Places) (given : Given) (rest : List Text)
+    → walk (top places).rules [] nothing_held (given_words given rest)
+    ≡ fold (walked (top places).rules []) (standing 1 (held_of places given)) rest
+given_walked places given rest =
+    success_walked places given.explain given.strict given.success (profile_words given.profile ++ rest)
+    ∙ profile_walked places (success_held given.explain given.strict given.success) given.profile rest
 
 options_walked : (places : Places) (given : Given) (steps : Option Text) (rest : List Text)
     → IsTaken steps → walk (top places).rules [] nothing_held (with_options given steps rest)
     ≡ fold (walked (top places).rules []) (standing 1 (options_held places given steps)) rest
-options_walked places given None rest taken = success_walked places given rest
+options_walked places given None rest taken = given_walked places given rest
 options_walked places given (Some text) rest taken =
-    let h = success_held given in
-    success_walked places given (codes "--steps" ∷ text ∷ rest)
+    let h = held_of places given in
+    given_walked places given (codes "--steps" ∷ text ∷ rest)
     ∙ ap (λ w. fold (walked (top places).rules []) (walked (top places).rules [] w text) rest)
-    (asked places h)
+    (steps_asked places h)
     ∙ ap (λ w. fold (walked (top places).rules []) w rest)
     (number_walked places h text (plain_number 0 most_steps text taken))
 
-success_passes : (places : Places) (given : Given) (rest : List Text)
-    → walk_passes (top places) [] (walk_from nothing_held) (given_words given rest)
-    ≡ walk_passes (top places) [] (standing 1 (success_held given)) rest
+success_passes : (places : Places) (explain strict : Bool) (success : Option Bool) (rest : List Text)
+    → walk_passes (top places) [] (walk_from nothing_held)
+    (flag_words explain strict ++ (success_words success ++ rest))
+    ≡ walk_passes (top places) [] (standing 1 (success_held explain strict success)) rest
 unfolding smtcheck_app clap_on_literals
-success_passes places given rest = go given.explain given.strict given.success
+success_passes places explain strict success rest = go explain strict success
   where
     go : (explain strict : Bool) (success : Option Bool) → walk_passes (top places) []
         (walk_from nothing_held) (flag_words explain strict ++ (success_words success ++ rest))
-        ≡ walk_passes (top places) [] (standing 1 (record nothing_held {
-          rows = flag_rows explain strict;
-          pending = success_pending success;
-        })) rest
+        ≡ walk_passes (top places) [] (standing 1 (success_held explain strict success)) rest
     go true true None = refl
     go true true (Some true) = refl
     go true true (Some false) = refl
@@ -269,17 +316,14 @@ success_passes places given rest = go given.explain given.strict given.success
     go false false (Some true) = refl
     go false false (Some false) = refl
 
--- what is held settles before the number is asked for
-asked_turn : (places : Places) (given : Given)
-    → turn_passes (top places) [] (standing 1 (success_held given)) (codes "--steps") ≡ true
+-- what is held settles before the language is asked for
+profile_turn : (places : Places) (explain strict : Bool) (success : Option Bool)
+    → turn_passes (top places) [] (standing 1 (success_held explain strict success)) (codes "--profile") ≡ true
 unfolding smtcheck_app clap_on_literals
-asked_turn places given = go given.explain given.strict given.success
+profile_turn places = go
   where
-    go : (explain strict : Bool) (success : Option Bool) → turn_passes (top places) [] (standing 1
-        (record nothing_held {
-          rows = flag_rows explain strict;
-          pending = success_pending success;
-        })) (codes "--steps") ≡ true
+    go : (explain strict : Bool) (success : Option Bool) → turn_passes (top places) []
+        (standing 1 (success_held explain strict success)) (codes "--profile") ≡ true
     go true true None = refl
     go true true (Some true) = refl
     go true true (Some false) = refl
@@ -292,33 +336,109 @@ asked_turn places given = go given.explain given.strict given.success
     go false false None = refl
     go false false (Some true) = refl
     go false false (Some false) = refl
+
+-- and before the number is
+steps_turn : (places : Places) (given : Given)
+    → turn_passes (top places) [] (standing 1 (held_of places given)) (codes "--steps") ≡ true
+unfolding smtcheck_app clap_on_literals
+steps_turn places given = go given.explain given.strict given.success given.profile
+  where
+    go : (explain strict : Bool) (success : Option Bool) (profile : Option Profile)
+        → turn_passes (top places) [] (standing 1 (worded_held places explain strict success profile))
+        (codes "--steps") ≡ true
+    go true true None None = refl
+    go true true (Some true) None = refl
+    go true true (Some false) None = refl
+    go true true None (Some Base) = refl
+    go true true None (Some Wide) = refl
+    go true true (Some prints) (Some Base) = refl
+    go true true (Some prints) (Some Wide) = refl
+    go true false None None = refl
+    go true false (Some true) None = refl
+    go true false (Some false) None = refl
+    go true false None (Some Base) = refl
+    go true false None (Some Wide) = refl
+    go true false (Some prints) (Some Base) = refl
+    go true false (Some prints) (Some Wide) = refl
+    go false true None None = refl
+    go false true (Some true) None = refl
+    go false true (Some false) None = refl
+    go false true None (Some Base) = refl
+    go false true None (Some Wide) = refl
+    go false true (Some prints) (Some Base) = refl
+    go false true (Some prints) (Some Wide) = refl
+    go false false None None = refl
+    go false false (Some true) None = refl
+    go false false (Some false) None = refl
+    go false false None (Some Base) = refl
+    go false false None (Some Wide) = refl
+    go false false (Some prints) (Some Base) = refl
+    go false false (Some prints) (Some Wide) = refl
+
+word_turn : (places : Places) (h : Held) (text : Text) → is_plain text ≡ true
+    → turn_passes (top places) [] (asking places (codes "profile") h) text ≡ true
+unfolding smtcheck_app
+word_turn places h text e =
+    let waiting = option (codes "profile") in
+    let asked = asked_held places (codes "profile") h in
+    let passes = word_passes (top places) [] false waiting text asked in
+    ap (λ m. passes && step_passes (top places) 1 m.0 m.1)
+    (plain_met (top places).rules waiting 1 text asked e)
+    ∙ ap (λ b. b && true) (plain_passes (top places) waiting text asked e)
 
 number_turn : (places : Places) (h : Held) (text : Text) → is_plain text ≡ true
-    → turn_passes (top places) [] (asking places h) text ≡ true
+    → turn_passes (top places) [] (asking places (codes "steps") h) text ≡ true
 unfolding smtcheck_app
 number_turn places h text e =
     let waiting = option (codes "steps") in
-    let passes = word_passes (top places) [] false waiting text (asked_held places h) in
+    let asked = asked_held places (codes "steps") h in
+    let passes = word_passes (top places) [] false waiting text asked in
     ap (λ m. passes && step_passes (top places) 1 m.0 m.1)
-    (plain_met (top places).rules waiting 1 text (asked_held places h) e)
-    ∙ ap (λ b. b && true) (plain_passes (top places) waiting text (asked_held places h) e)
+    (plain_met (top places).rules waiting 1 text asked e)
+    ∙ ap (λ b. b && true) (plain_passes (top places) waiting text asked e)
+
+profile_passes : (places : Places) (explain strict : Bool) (success : Option Bool) (profile : Option Profile)
+    (rest : List Text)
+    → walk_passes (top places) [] (standing 1 (success_held explain strict success))
+    (profile_words profile ++ rest)
+    ≡ walk_passes (top places) [] (standing 1 (worded_held places explain strict success profile)) rest
+unfolding walk_passes
+profile_passes places explain strict success None rest = refl
+profile_passes places explain strict success (Some profile) rest =
+    let h = success_held explain strict success in
+    let text = profile_word profile in
+    let plain = plain_profile profile in
+    let behind = λ (w : Walk). turn_passes (top places) [] w text
+    && walk_passes (top places) [] (walked (top places).rules [] w text) rest in
+    let more = λ (w : Walk). walk_passes (top places) [] w rest in
+    ap (λ b. b && behind (walked (top places).rules [] (standing 1 h) (codes "--profile")))
+    (profile_turn places explain strict success) ∙ ap behind (profile_asked places h)
+    ∙ ap (λ b. b && more (walked (top places).rules [] (asking places (codes "profile") h) text))
+    (word_turn places h text plain) ∙ ap more (word_walked places h text plain)
+
+given_passes : (places : Places) (given : Given) (rest : List Text)
+    → walk_passes (top places) [] (walk_from nothing_held) (given_words given rest)
+    ≡ walk_passes (top places) [] (standing 1 (held_of places given)) rest
+given_passes places given rest =
+    success_passes places given.explain given.strict given.success (profile_words given.profile ++ rest)
+    ∙ profile_passes places given.explain given.strict given.success given.profile rest
 
 options_pass : (places : Places) (given : Given) (steps : Option Text) (rest : List Text)
     → IsTaken steps
     → walk_passes (top places) [] (walk_from nothing_held) (with_options given steps rest)
     ≡ walk_passes (top places) [] (standing 1 (options_held places given steps)) rest
 unfolding walk_passes
-options_pass places given None rest taken = success_passes places given rest
+options_pass places given None rest taken = given_passes places given rest
 options_pass places given (Some text) rest taken =
-    let h = success_held given in
+    let h = held_of places given in
     let plain = plain_number 0 most_steps text taken in
     let behind = λ (w : Walk). turn_passes (top places) [] w text
     && walk_passes (top places) [] (walked (top places).rules [] w text) rest in
     let more = λ (w : Walk). walk_passes (top places) [] w rest in
-    success_passes places given (codes "--steps" ∷ text ∷ rest)
+    given_passes places given (codes "--steps" ∷ text ∷ rest)
     ∙ ap (λ b. b && behind (walked (top places).rules [] (standing 1 h) (codes "--steps")))
-    (asked_turn places given) ∙ ap behind (asked places h)
-    ∙ ap (λ b. b && more (walked (top places).rules [] (asking places h) text))
+    (steps_turn places given) ∙ ap behind (steps_asked places h)
+    ∙ ap (λ b. b && more (walked (top places).rules [] (asking places (codes "steps") h) text))
     (number_turn places h text plain) ∙ ap more (number_walked places h text plain)
 
 -- ---- the two words
@@ -357,96 +477,116 @@ line_walked places given steps script answers taken p q =
     options_walked places given steps (script ∷ answers ∷ []) taken
     ∙ both_walked places (options_held places given steps) script answers p q
 
--- the second option settles, since its number is in its range
+-- the number settles, since it is in its range
 number_settles : (places : Places) (given : Given) (text : Text) → IsUnsignedIn 0 most_steps text
     → settle_passes (top places).rules (top places).args_override_self
-    (given_held places (success_held given) text) ≡ true
+    (given_held places (codes "steps") (held_of places given) text) ≡ true
 unfolding smtcheck_app
-number_settles places given text is = go given.explain given.strict given.success
+number_settles places given text is = go given.explain given.strict given.success given.profile
   where
-    go : (explain strict : Bool) (success : Option Bool)
+    go : (explain strict : Bool) (success : Option Bool) (profile : Option Profile)
         → settle_passes (top places).rules (top places).args_override_self
-        (given_held places (record nothing_held {
-          rows = flag_rows explain strict;
-          pending = success_pending success;
-        }) text) ≡ true
-    go true true None = ap (λ b. b && true) (Accepts-accepts false (Unsigned 0 most_steps) text is)
-    go true true (Some true) = ap (λ b. b && true) (Accepts-accepts false (Unsigned 0 most_steps) text is)
-    go true true (Some false) = ap (λ b. b && true) (Accepts-accepts false (Unsigned 0 most_steps) text is)
-    go true false None = ap (λ b. b && true) (Accepts-accepts false (Unsigned 0 most_steps) text is)
-    go true false (Some true) = ap (λ b. b && true) (Accepts-accepts false (Unsigned 0 most_steps) text is)
-    go true false (Some false) = ap (λ b. b && true) (Accepts-accepts false (Unsigned 0 most_steps) text is)
-    go false true None = ap (λ b. b && true) (Accepts-accepts false (Unsigned 0 most_steps) text is)
-    go false true (Some true) = ap (λ b. b && true) (Accepts-accepts false (Unsigned 0 most_steps) text is)
-    go false true (Some false) = ap (λ b. b && true) (Accepts-accepts false (Unsigned 0 most_steps) text is)
-    go false false None = ap (λ b. b && true) (Accepts-accepts false (Unsigned 0 most_steps) text is)
-    go false false (Some true) = ap (λ b. b && true) (Accepts-accepts false (Unsigned 0 most_steps) text is)
-    go false false (Some false) = ap (λ b. b && true) (Accepts-accepts false (Unsigned 0 most_steps) text is)
+        (given_held places (codes "steps") (worded_held places explain strict success profile) text) ≡ true
+    go true true None None = ap (λ b. b && true) (Accepts-accepts false (Unsigned 0 most_steps) text is)
+    go true true None (Some profile) = ap (λ b. b && true) (Accepts-accepts false (Unsigned 0 most_steps) text is)
+    go true true (Some prints) None = ap (λ b. b && true) (Accepts-accepts false (Unsigned 0 most_steps) text is)
+    go true true (Some prints) (Some profile) = ap (λ b. b && true) (Accepts-accepts false (Unsigned 0 most_steps) text is)
+    go true false None None = ap (λ b. b && true) (Accepts-accepts false (Unsigned 0 most_steps) text is)
+    go true false None (Some profile) = ap (λ b. b && true) (Accepts-accepts false (Unsigned 0 most_steps) text is)
+    go true false (Some prints) None = ap (λ b. b && true) (Accepts-accepts false (Unsigned 0 most_steps) text is)
+    go true false (Some prints) (Some profile) = ap (λ b. b && true) (Accepts-accepts false (Unsigned 0 most_steps) text is)
+    go false true None None = ap (λ b. b && true) (Accepts-accepts false (Unsigned 0 most_steps) text is)
+    go false true None (Some profile) = ap (λ b. b && true) (Accepts-accepts false (Unsigned 0 most_steps) text is)
+    go false true (Some prints) None = ap (λ b. b && true) (Accepts-accepts false (Unsigned 0 most_steps) text is)
+    go false true (Some prints) (Some profile) = ap (λ b. b && true) (Accepts-accepts false (Unsigned 0 most_steps) text is)
+    go false false None None = ap (λ b. b && true) (Accepts-accepts false (Unsigned 0 most_steps) text is)
+    go false false None (Some profile) = ap (λ b. b && true) (Accepts-accepts false (Unsigned 0 most_steps) text is)
+    go false false (Some prints) None = ap (λ b. b && true) (Accepts-accepts false (Unsigned 0 most_steps) text is)
+    go false false (Some prints) (Some profile) = ap (λ b. b && true) (Accepts-accepts false (Unsigned 0 most_steps) text is)
 
 first_passes : (places : Places) (given : Given) (steps : Option Text) → IsTaken steps
     → step_passes (top places) 1 (options_held places given steps) value ≡ true
 unfolding smtcheck_app
-first_passes places given None taken = go given.explain given.strict given.success
+first_passes places given None taken = go given.explain given.strict given.success given.profile
   where
-    go : (explain strict : Bool) (success : Option Bool) → step_passes (top places) 1 (record nothing_held {
-      rows = flag_rows explain strict;
-      pending = success_pending success;
-    }) value ≡ true
-    go true true None = refl
-    go true true (Some true) = refl
-    go true true (Some false) = refl
-    go true false None = refl
-    go true false (Some true) = refl
-    go true false (Some false) = refl
-    go false true None = refl
-    go false true (Some true) = refl
-    go false true (Some false) = refl
-    go false false None = refl
-    go false false (Some true) = refl
-    go false false (Some false) = refl
+    go : (explain strict : Bool) (success : Option Bool) (profile : Option Profile)
+        → step_passes (top places) 1 (worded_held places explain strict success profile) value ≡ true
+    go true true None None = refl
+    go true true (Some true) None = refl
+    go true true (Some false) None = refl
+    go true true None (Some Base) = refl
+    go true true None (Some Wide) = refl
+    go true true (Some prints) (Some Base) = refl
+    go true true (Some prints) (Some Wide) = refl
+    go true false None None = refl
+    go true false (Some true) None = refl
+    go true false (Some false) None = refl
+    go true false None (Some Base) = refl
+    go true false None (Some Wide) = refl
+    go true false (Some prints) (Some Base) = refl
+    go true false (Some prints) (Some Wide) = refl
+    go false true None None = refl
+    go false true (Some true) None = refl
+    go false true (Some false) None = refl
+    go false true None (Some Base) = refl
+    go false true None (Some Wide) = refl
+    go false true (Some prints) (Some Base) = refl
+    go false true (Some prints) (Some Wide) = refl
+    go false false None None = refl
+    go false false (Some true) None = refl
+    go false false (Some false) None = refl
+    go false false None (Some Base) = refl
+    go false false None (Some Wide) = refl
+    go false false (Some prints) (Some Base) = refl
+    go false false (Some prints) (Some Wide) = refl
 first_passes places given (Some text) taken = number_settles places given text taken
 
 second_passes : (places : Places) (given : Given) (steps : Option Text) (script : Text)
     → step_passes (top places) 2 (first_held places (options_held places given steps) script) value ≡ true
 unfolding smtcheck_app
-second_passes places given None script = go given.explain given.strict given.success
+second_passes places given None script = go given.explain given.strict given.success given.profile
   where
-    go : (explain strict : Bool) (success : Option Bool) → step_passes (top places) 2 (first_held places
-        (record nothing_held {
-          rows = flag_rows explain strict;
-          pending = success_pending success;
-        }) script) value ≡ true
-    go true true None = refl
-    go true true (Some true) = refl
-    go true true (Some false) = refl
-    go true false None = refl
-    go true false (Some true) = refl
-    go true false (Some false) = refl
-    go false true None = refl
-    go false true (Some true) = refl
-    go false true (Some false) = refl
-    go false false None = refl
-    go false false (Some true) = refl
-    go false false (Some false) = refl
-second_passes places given (Some text) script = go given.explain given.strict given.success
+    go : (explain strict : Bool) (success : Option Bool) (profile : Option Profile)
+        → step_passes (top places) 2
+        (first_held places (worded_held places explain strict success profile) script) value ≡ true
+    go true true None None = refl
+    go true true None (Some profile) = refl
+    go true true (Some prints) None = refl
+    go true true (Some prints) (Some profile) = refl
+    go true false None None = refl
+    go true false None (Some profile) = refl
+    go true false (Some prints) None = refl
+    go true false (Some prints) (Some profile) = refl
+    go false true None None = refl
+    go false true None (Some profile) = refl
+    go false true (Some prints) None = refl
+    go false true (Some prints) (Some profile) = refl
+    go false false None None = refl
+    go false false None (Some profile) = refl
+    go false false (Some prints) None = refl
+    go false false (Some prints) (Some profile) = refl
+second_passes places given (Some text) script = go given.explain given.strict given.success given.profile
   where
-    go : (explain strict : Bool) (success : Option Bool) → step_passes (top places) 2 (first_held places
-        (given_held places (record nothing_held {
-          rows = flag_rows explain strict;
-          pending = success_pending success;
-        }) text) script) value ≡ true
-    go true true None = refl
-    go true true (Some true) = refl
-    go true true (Some false) = refl
-    go true false None = refl
-    go true false (Some true) = refl
-    go true false (Some false) = refl
-    go false true None = refl
-    go false true (Some true) = refl
-    go false true (Some false) = refl
-    go false false None = refl
-    go false false (Some true) = refl
-    go false false (Some false) = refl
+    go : (explain strict : Bool) (success : Option Bool) (profile : Option Profile)
+        → step_passes (top places) 2 (first_held places
+        (given_held places (codes "steps") (worded_held places explain strict success profile) text) script)
+        value ≡ true
+    go true true None None = refl
+    go true true None (Some profile) = refl
+    go true true (Some prints) None = refl
+    go true true (Some prints) (Some profile) = refl
+    go true false None None = refl
+    go true false None (Some profile) = refl
+    go true false (Some prints) None = refl
+    go true false (Some prints) (Some profile) = refl
+    go false true None None = refl
+    go false true None (Some profile) = refl
+    go false true (Some prints) None = refl
+    go false true (Some prints) (Some profile) = refl
+    go false false None None = refl
+    go false false None (Some profile) = refl
+    go false false (Some prints) None = refl
+    go false false (Some prints) (Some profile) = refl
 
 both_pass : (places : Places) (given : Given) (steps : Option Text) (script answers : Text)
     → IsTaken steps → is_plain script ≡ true → is_plain answers ≡ true
@@ -472,44 +612,50 @@ end_passes places h = settle_passes (top places).rules (top places).args_overrid
 end_holds : (places : Places) (given : Given) (steps : Option Text) (script answers : Text)
     → end_passes places (both_held places (options_held places given steps) script answers) ≡ true
 unfolding smtcheck_app
-end_holds places given None script answers = go given.explain given.strict given.success
+end_holds places given None script answers = go given.explain given.strict given.success given.profile
   where
-    go : (explain strict : Bool) (success : Option Bool) → end_passes places (both_held places
-        (record nothing_held {
-          rows = flag_rows explain strict;
-          pending = success_pending success;
-        }) script answers) ≡ true
-    go true true None = refl
-    go true true (Some true) = refl
-    go true true (Some false) = refl
-    go true false None = refl
-    go true false (Some true) = refl
-    go true false (Some false) = refl
-    go false true None = refl
-    go false true (Some true) = refl
-    go false true (Some false) = refl
-    go false false None = refl
-    go false false (Some true) = refl
-    go false false (Some false) = refl
-end_holds places given (Some text) script answers = go given.explain given.strict given.success
+    go : (explain strict : Bool) (success : Option Bool) (profile : Option Profile)
+        → end_passes places
+        (both_held places (worded_held places explain strict success profile) script answers) ≡ true
+    go true true None None = refl
+    go true true None (Some profile) = refl
+    go true true (Some prints) None = refl
+    go true true (Some prints) (Some profile) = refl
+    go true false None None = refl
+    go true false None (Some profile) = refl
+    go true false (Some prints) None = refl
+    go true false (Some prints) (Some profile) = refl
+    go false true None None = refl
+    go false true None (Some profile) = refl
+    go false true (Some prints) None = refl
+    go false true (Some prints) (Some profile) = refl
+    go false false None None = refl
+    go false false None (Some profile) = refl
+    go false false (Some prints) None = refl
+    go false false (Some prints) (Some profile) = refl
+end_holds places given (Some text) script answers =
+    go given.explain given.strict given.success given.profile
   where
-    go : (explain strict : Bool) (success : Option Bool) → end_passes places (both_held places
-        (given_held places (record nothing_held {
-          rows = flag_rows explain strict;
-          pending = success_pending success;
-        }) text) script answers) ≡ true
-    go true true None = refl
-    go true true (Some true) = refl
-    go true true (Some false) = refl
-    go true false None = refl
-    go true false (Some true) = refl
-    go true false (Some false) = refl
-    go false true None = refl
-    go false true (Some true) = refl
-    go false true (Some false) = refl
-    go false false None = refl
-    go false false (Some true) = refl
-    go false false (Some false) = refl
+    go : (explain strict : Bool) (success : Option Bool) (profile : Option Profile)
+        → end_passes places (both_held places
+        (given_held places (codes "steps") (worded_held places explain strict success profile) text) script
+        answers) ≡ true
+    go true true None None = refl
+    go true true None (Some profile) = refl
+    go true true (Some prints) None = refl
+    go true true (Some prints) (Some profile) = refl
+    go true false None None = refl
+    go true false None (Some profile) = refl
+    go true false (Some prints) None = refl
+    go true false (Some prints) (Some profile) = refl
+    go false true None None = refl
+    go false true None (Some profile) = refl
+    go false true (Some prints) None = refl
+    go false true (Some prints) (Some profile) = refl
+    go false false None None = refl
+    go false false None (Some profile) = refl
+    go false false (Some prints) None = refl
+    go false false (Some prints) (Some profile) = refl
 
 pub line-taken : (places : Places) (name : Text) (given : Given) (steps : Option Text)
     (script answers : Text) → IsTaken steps → is_plain script ≡ true → is_plain answers ≡ true
@@ -535,73 +681,85 @@ pub record HasValues (given : Given) (steps : Option Text) (script answers : Tex
   pub of_answers : first_of (codes "ANSWERS") rows ≡ Some answers
   pub of_success : first_of (codes "print-success") rows
       ≡ Some (success_word (unwrap_or given.success true))
+  pub of_profile : first_of (codes "profile") rows ≡ Some (profile_word (unwrap_or given.profile Base))
   pub of_steps : one_of (codes "steps") rows ≡ Some (unwrap_or steps (codes "10000000"))
   pub of_explain : is_given (first_of (codes "explain") rows) ≡ given.explain
   pub of_strict : is_given (first_of (codes "strict") rows) ≡ given.strict
+
+-- what is given, one by one
+abbrev pub given_as : Bool → Bool → Option Bool → Option Profile → Given
+given_as explain strict success profile =
+    record { explain = explain; strict = strict; success = success; profile = profile }
 
 end_values : (places : Places) (given : Given) (steps : Option Text) (script answers : Text)
     → HasValues given steps script answers (finished (top places).rules
     (both_held places (options_held places given steps) script answers))
 unfolding smtcheck_app clap_on_literals
 end_values places given None script answers =
-    let g = go given.explain given.strict given.success in
+    let g = go given.explain given.strict given.success given.profile in
     record {
       of_script = g.of_script;
       of_answers = g.of_answers;
       of_success = g.of_success;
+      of_profile = g.of_profile;
       of_steps = g.of_steps;
       of_explain = g.of_explain;
       of_strict = g.of_strict;
     }
   where
-    go : (explain strict : Bool) (success : Option Bool)
-        → HasValues (record { explain = explain; strict = strict; success = success }) None script answers
-        (finished (top places).rules (both_held places (record nothing_held {
-          rows = flag_rows explain strict;
-          pending = success_pending success;
-        }) script answers))
-    go true true None = record { of_script = refl; of_answers = refl; of_success = refl; of_steps = refl; of_explain = refl; of_strict = refl }
-    go true true (Some true) = record { of_script = refl; of_answers = refl; of_success = refl; of_steps = refl; of_explain = refl; of_strict = refl }
-    go true true (Some false) = record { of_script = refl; of_answers = refl; of_success = refl; of_steps = refl; of_explain = refl; of_strict = refl }
-    go true false None = record { of_script = refl; of_answers = refl; of_success = refl; of_steps = refl; of_explain = refl; of_strict = refl }
-    go true false (Some true) = record { of_script = refl; of_answers = refl; of_success = refl; of_steps = refl; of_explain = refl; of_strict = refl }
-    go true false (Some false) = record { of_script = refl; of_answers = refl; of_success = refl; of_steps = refl; of_explain = refl; of_strict = refl }
-    go false true None = record { of_script = refl; of_answers = refl; of_success = refl; of_steps = refl; of_explain = refl; of_strict = refl }
-    go false true (Some true) = record { of_script = refl; of_answers = refl; of_success = refl; of_steps = refl; of_explain = refl; of_strict = refl }
-    go false true (Some false) = record { of_script = refl; of_answers = refl; of_success = refl; of_steps = refl; of_explain = refl; of_strict = refl }
-    go false false None = record { of_script = refl; of_answers = refl; of_success = refl; of_steps = refl; of_explain = refl; of_strict = refl }
-    go false false (Some true) = record { of_script = refl; of_answers = refl; of_success = refl; of_steps = refl; of_explain = refl; of_strict = refl }
-    go false false (Some false) = record { of_script = refl; of_answers = refl; of_success = refl; of_steps = refl; of_explain = refl; of_strict = refl }
+    go : (explain strict : Bool) (success : Option Bool) (profile : Option Profile)
+        → HasValues (given_as explain strict success profile) None script answers
+        (finished (top places).rules
+        (both_held places (worded_held places explain strict success profile) script answers))
+    go true true None None = record { of_script = refl; of_answers = refl; of_success = refl; of_profile = refl; of_steps = refl; of_explain = refl; of_strict = refl }
+    go true true None (Some profile) = record { of_script = refl; of_answers = refl; of_success = refl; of_profile = refl; of_steps = refl; of_explain = refl; of_strict = refl }
+    go true true (Some prints) None = record { of_script = refl; of_answers = refl; of_success = refl; of_profile = refl; of_steps = refl; of_explain = refl; of_strict = refl }
+    go true true (Some prints) (Some profile) = record { of_script = refl; of_answers = refl; of_success = refl; of_profile = refl; of_steps = refl; of_explain = refl; of_strict = refl }
+    go true false None None = record { of_script = refl; of_answers = refl; of_success = refl; of_profile = refl; of_steps = refl; of_explain = refl; of_strict = refl }
+    go true false None (Some profile) = record { of_script = refl; of_answers = refl; of_success = refl; of_profile = refl; of_steps = refl; of_explain = refl; of_strict = refl }
+    go true false (Some prints) None = record { of_script = refl; of_answers = refl; of_success = refl; of_profile = refl; of_steps = refl; of_explain = refl; of_strict = refl }
+    go true false (Some prints) (Some profile) = record { of_script = refl; of_answers = refl; of_success = refl; of_profile = refl; of_steps = refl; of_explain = refl; of_strict = refl }
+    go false true None None = record { of_script = refl; of_answers = refl; of_success = refl; of_profile = refl; of_steps = refl; of_explain = refl; of_strict = refl }
+    go false true None (Some profile) = record { of_script = refl; of_answers = refl; of_success = refl; of_profile = refl; of_steps = refl; of_explain = refl; of_strict = refl }
+    go false true (Some prints) None = record { of_script = refl; of_answers = refl; of_success = refl; of_profile = refl; of_steps = refl; of_explain = refl; of_strict = refl }
+    go false true (Some prints) (Some profile) = record { of_script = refl; of_answers = refl; of_success = refl; of_profile = refl; of_steps = refl; of_explain = refl; of_strict = refl }
+    go false false None None = record { of_script = refl; of_answers = refl; of_success = refl; of_profile = refl; of_steps = refl; of_explain = refl; of_strict = refl }
+    go false false None (Some profile) = record { of_script = refl; of_answers = refl; of_success = refl; of_profile = refl; of_steps = refl; of_explain = refl; of_strict = refl }
+    go false false (Some prints) None = record { of_script = refl; of_answers = refl; of_success = refl; of_profile = refl; of_steps = refl; of_explain = refl; of_strict = refl }
+    go false false (Some prints) (Some profile) = record { of_script = refl; of_answers = refl; of_success = refl; of_profile = refl; of_steps = refl; of_explain = refl; of_strict = refl }
 end_values places given (Some text) script answers =
-    let g = go given.explain given.strict given.success in
+    let g = go given.explain given.strict given.success given.profile in
     record {
       of_script = g.of_script;
       of_answers = g.of_answers;
       of_success = g.of_success;
+      of_profile = g.of_profile;
       of_steps = g.of_steps;
       of_explain = g.of_explain;
       of_strict = g.of_strict;
     }
   where
-    go : (explain strict : Bool) (success : Option Bool)
-        → HasValues (record { explain = explain; strict = strict; success = success }) (Some text) script
-        answers (finished (top places).rules (both_held places (given_held places (record nothing_held {
-          rows = flag_rows explain strict;
-          pending = success_pending success;
-        }) text) script
+    go : (explain strict : Bool) (success : Option Bool) (profile : Option Profile)
+        → HasValues (given_as explain strict success profile) (Some text) script answers
+        (finished (top places).rules (both_held places
+        (given_held places (codes "steps") (worded_held places explain strict success profile) text) script
         answers))
-    go true true None = record { of_script = refl; of_answers = refl; of_success = refl; of_steps = refl; of_explain = refl; of_strict = refl }
-    go true true (Some true) = record { of_script = refl; of_answers = refl; of_success = refl; of_steps = refl; of_explain = refl; of_strict = refl }
-    go true true (Some false) = record { of_script = refl; of_answers = refl; of_success = refl; of_steps = refl; of_explain = refl; of_strict = refl }
-    go true false None = record { of_script = refl; of_answers = refl; of_success = refl; of_steps = refl; of_explain = refl; of_strict = refl }
-    go true false (Some true) = record { of_script = refl; of_answers = refl; of_success = refl; of_steps = refl; of_explain = refl; of_strict = refl }
-    go true false (Some false) = record { of_script = refl; of_answers = refl; of_success = refl; of_steps = refl; of_explain = refl; of_strict = refl }
-    go false true None = record { of_script = refl; of_answers = refl; of_success = refl; of_steps = refl; of_explain = refl; of_strict = refl }
-    go false true (Some true) = record { of_script = refl; of_answers = refl; of_success = refl; of_steps = refl; of_explain = refl; of_strict = refl }
-    go false true (Some false) = record { of_script = refl; of_answers = refl; of_success = refl; of_steps = refl; of_explain = refl; of_strict = refl }
-    go false false None = record { of_script = refl; of_answers = refl; of_success = refl; of_steps = refl; of_explain = refl; of_strict = refl }
-    go false false (Some true) = record { of_script = refl; of_answers = refl; of_success = refl; of_steps = refl; of_explain = refl; of_strict = refl }
-    go false false (Some false) = record { of_script = refl; of_answers = refl; of_success = refl; of_steps = refl; of_explain = refl; of_strict = refl }
+    go true true None None = record { of_script = refl; of_answers = refl; of_success = refl; of_profile = refl; of_steps = refl; of_explain = refl; of_strict = refl }
+    go true true None (Some profile) = record { of_script = refl; of_answers = refl; of_success = refl; of_profile = refl; of_steps = refl; of_explain = refl; of_strict = refl }
+    go true true (Some prints) None = record { of_script = refl; of_answers = refl; of_success = refl; of_profile = refl; of_steps = refl; of_explain = refl; of_strict = refl }
+    go true true (Some prints) (Some profile) = record { of_script = refl; of_answers = refl; of_success = refl; of_profile = refl; of_steps = refl; of_explain = refl; of_strict = refl }
+    go true false None None = record { of_script = refl; of_answers = refl; of_success = refl; of_profile = refl; of_steps = refl; of_explain = refl; of_strict = refl }
+    go true false None (Some profile) = record { of_script = refl; of_answers = refl; of_success = refl; of_profile = refl; of_steps = refl; of_explain = refl; of_strict = refl }
+    go true false (Some prints) None = record { of_script = refl; of_answers = refl; of_success = refl; of_profile = refl; of_steps = refl; of_explain = refl; of_strict = refl }
+    go true false (Some prints) (Some profile) = record { of_script = refl; of_answers = refl; of_success = refl; of_profile = refl; of_steps = refl; of_explain = refl; of_strict = refl }
+    go false true None None = record { of_script = refl; of_answers = refl; of_success = refl; of_profile = refl; of_steps = refl; of_explain = refl; of_strict = refl }
+    go false true None (Some profile) = record { of_script = refl; of_answers = refl; of_success = refl; of_profile = refl; of_steps = refl; of_explain = refl; of_strict = refl }
+    go false true (Some prints) None = record { of_script = refl; of_answers = refl; of_success = refl; of_profile = refl; of_steps = refl; of_explain = refl; of_strict = refl }
+    go false true (Some prints) (Some profile) = record { of_script = refl; of_answers = refl; of_success = refl; of_profile = refl; of_steps = refl; of_explain = refl; of_strict = refl }
+    go false false None None = record { of_script = refl; of_answers = refl; of_success = refl; of_profile = refl; of_steps = refl; of_explain = refl; of_strict = refl }
+    go false false None (Some profile) = record { of_script = refl; of_answers = refl; of_success = refl; of_profile = refl; of_steps = refl; of_explain = refl; of_strict = refl }
+    go false false (Some prints) None = record { of_script = refl; of_answers = refl; of_success = refl; of_profile = refl; of_steps = refl; of_explain = refl; of_strict = refl }
+    go false false (Some prints) (Some profile) = record { of_script = refl; of_answers = refl; of_success = refl; of_profile = refl; of_steps = refl; of_explain = refl; of_strict = refl }
 
 pub line-values : (places : Places) (name : Text) (given : Given) (steps : Option Text)
     (script answers : Text) → IsTaken steps → is_plain script ≡ true → is_plain answers ≡ true

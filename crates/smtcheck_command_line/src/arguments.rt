@@ -6,10 +6,11 @@ ghost use Rattle.smtcheck_command_line.specs.Settings.{asks_for_version};
 
 use clap::Error;
 use clap::error::ErrorKind;
+use smt_theory::Profile;
 use std::{error, fmt};
 
 /// What the command line asks for.
-#[derive(Clone, Copy, Debug, PartialEq, Eq)]
+#[derive(Clone, Copy)]
 pub struct Settings<'a> {
     /// The file with the script.
     pub script: &'a str,
@@ -17,6 +18,8 @@ pub struct Settings<'a> {
     pub answers: &'a str,
     /// Whether the solver prints `success` before the script sets `:print-success`.
     pub print_success: bool,
+    /// Which language is taken.
+    pub profile: Profile,
     /// How many steps the evaluation of a model may take, from 0 to 2^64 - 2: what its assertions cost.
     pub steps: u64,
     /// Whether the report is followed by an explanation of what is not confirmed.

@@ -4,19 +4,21 @@
 ghost use Rattle.std.specs.Prelude.{◌≡◌, ◌<◌, ◌-◌, ◌^◌, IfErr, IfOk, None, [], true, false};
 ghost use Rattle.clap.specs.Walk.{texts};
 ghost use Rattle.clap.specs.Words.{IsPlainArg, app_of, first_value, found_of, rule_of, takes};
-ghost use Rattle.smtcheck_command_line.specs.Settings.{AreSettings, HasSteps, HasSuccessWord, IsFaultOf};
-ghost use Rattle.smtcheck_command_line.specs.Settings.{NeedsFiles, OfCommand, Places, TakesBoth, TakesOption};
-ghost use Rattle.smtcheck_command_line.specs.Settings.{TakesSteps, TakesTwo, file_rule, flag_rule};
-ghost use Rattle.smtcheck_command_line.specs.Settings.{is_given, steps_rule, success_rule};
+ghost use Rattle.smtcheck_command_line.specs.Settings.{AreSettings, HasProfileWord, HasSteps, HasSuccessWord};
+ghost use Rattle.smtcheck_command_line.specs.Settings.{IsFaultOf, NeedsFiles, OfCommand, PlacesOfTwo, TakesAll};
+ghost use Rattle.smtcheck_command_line.specs.Settings.{TakesOption, TakesSteps, TakesTwo, file_rule, flag_rule};
+ghost use Rattle.smtcheck_command_line.specs.Settings.{is_given, profile_named, profile_rule, steps_rule};
+ghost use Rattle.smtcheck_command_line.specs.Settings.{success_rule};
 
 use crate::arguments::{LineFault, Settings};
 use clap::builder::ValueParser;
 use clap::error::ErrorKind;
 use clap::{Arg, ArgAction, ArgMatches, Command};
+use smt_theory::Profile;
 use std::alloc::{AllocError, Global};
 
 /// The version of the program and the kit that proves it, which `--version` prints behind the program's name.
-const VERSION: &str = "0.6.0 (rattle-kit-13f logic dac8208d650f15bf)";
+const VERSION: &str = "0.7.0 (rattle-kit-13f logic dac8208d650f15bf)";
 
 const ABOUT: &str = "Checks the models that an SMT solver printed.
 
@@ -32,6 +34,13 @@ on:  for SMTInterpol and others that keep to the default of SMT-LIB, and for a r
 it, such as `z3 smtlib2_compliant=true` or `cvc5 --print-success`
 
 A script's own (set-option :print-success ..) is followed from there on.";
+
+const PROFILE: &str = "Which language is taken; docs/LANGUAGE.md has both.
+
+base: scripts over truth values, integers and bit vectors, in the forms of SMT-LIB 2.6
+wide: the same, and forms that real scripts and models have besides: (push) and (pop) without a numeral, \
+define-const, terms as assumptions, the names of more logics, `unsupported` as answer to set-logic, and items of \
+a model that repeat a label or a definition of the script, as z3 prints them";
 
 const STEPS: &str =
     "How many steps the evaluation of a model may take, from 0 to 18446744073709551614. All assertions in \
@@ -72,6 +81,7 @@ pub(crate) fn smtcheck_command<'a>(alloc: Global) -> Result<Command<'a>, AllocEr
     ensures app { IfOk result (λ c. OfCommand (λ a. app_of c ≡ a)) }
     ensures needs { IfOk result NeedsFiles }
     ensures success { IfOk result HasSuccessWord }
+    ensures profile { IfOk result HasProfileWord }
     ensures steps { IfOk result HasSteps }
 {
     let script = file(alloc, "SCRIPT", "the script that the solver read");
@@ -96,6 +106,7 @@ pub(crate) fn smtcheck_command<'a>(alloc: Global) -> Result<Command<'a>, AllocEr
         .arg(script)?
         .arg(answers)?
         .arg(print_success(alloc))?
+        .arg(profile(alloc))?
         .arg(steps(alloc))?
         .arg(explain)?
         .arg(strict)
@@ -129,7 +140,7 @@ fn flag<'a>(alloc: Global, id: &'a str, help: &'a str, long_help: &'a str) -> Ar
 
 // The option that says whether the solver prints `success` before the script sets `:print-success`.
 fn print_success<'a>(alloc: Global) -> Arg<'a>
-    ensures rule { (places : Places) × (rule_of result ≡ success_rule places) }
+    ensures rule { (places : PlacesOfTwo) × (rule_of result ≡ success_rule places) }
     ensures plain { IsPlainArg result }
     ensures local { result.global ≡ false }
     ensures undivided { result.val_delim ≡ None }
@@ -145,6 +156,26 @@ fn print_success<'a>(alloc: Global) -> Arg<'a>
         .hide_possible_values(true)
         .help("whether the solver printed `success` from the start")
         .long_help(PRINT_SUCCESS)
+}
+
+// The option that says which language is taken.
+fn profile<'a>(alloc: Global) -> Arg<'a>
+    ensures rule { (places : PlacesOfTwo) × (rule_of result ≡ profile_rule places) }
+    ensures plain { IsPlainArg result }
+    ensures local { result.global ≡ false }
+    ensures undivided { result.val_delim ≡ None }
+    ensures unconditional { result.default_vals_ifs.items ≡ [] }
+{
+    let choices: &'a [&'a str] = &["base", "wide"];
+    Arg::new(alloc, "profile")
+        .long("profile")
+        .action(ArgAction::Set)
+        .value_name("base|wide")
+        .value_parser(choices)
+        .default_value("base")
+        .hide_possible_values(true)
+        .help("which language is taken")
+        .long_help(PROFILE)
 }
 
 // The option that says how many steps the evaluation of a model may take.
@@ -171,7 +202,7 @@ pub fn settings<'a>(alloc: Global, words: &'a [&'a str]) -> Result<Settings<'a>,
     ensures two_words { TakesTwo (texts words.entry.now) result }
     ensures option { TakesOption (texts words.entry.now) result }
     ensures steps { TakesSteps (texts words.entry.now) result }
-    ensures both { TakesBoth (texts words.entry.now) result }
+    ensures all { TakesAll (texts words.entry.now) result }
     ensures limited { IfOk result (λ s. s.steps < 2 ^ 64 - 1) }
     ensures taken { IfOk result (λ _. OfCommand (λ a. takes a (texts words.entry.now) ≡ true)) }
     ensures refused { IfErr result (λ f. OfCommand (IsFaultOf (texts words.entry.now) f)) }
@@ -190,10 +221,22 @@ pub fn settings<'a>(alloc: Global, words: &'a [&'a str]) -> Result<Settings<'a>,
         script: matches.get_str("SCRIPT").unwrap(),
         answers: matches.get_str("ANSWERS").unwrap(),
         print_success: matches.get_str("print-success").unwrap() == "on",
+        profile: profile_of(matches.get_str("profile").unwrap()),
         steps: matches.get_one::<u64>("steps").unwrap(),
         explain: is_given_in(&matches, "explain"),
         strict: is_given_in(&matches, "strict"),
     })
+}
+
+// The language that a word of the option names.
+fn profile_of(word: &str) -> Profile
+    ensures { result ≡ profile_named word.now }
+{
+    if word == "wide" {
+        Profile::Wide
+    } else {
+        Profile::Base
+    }
 }
 
 // Whether an option without a value is given. The contract of `get_flag` says nothing of other values than the

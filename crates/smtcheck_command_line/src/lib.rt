@@ -1,9 +1,9 @@
 //! The command line of the program: what it may say, and what it asks for. This crate opens no file, and
-//! knows no dialogue.
+//! knows no dialogue; the languages that a user can choose are those of `smt_theory`.
 //!
 //! ```text
-//! let words = ["smtcheck", "--print-success", "off", "--steps", "500", "script.smt2", "answers.txt"];
-//! settings(alloc, &words)?                   // these two files, `print_success: false` and `steps: 500`
+//! let words = ["smtcheck", "--print-success", "off", "--profile", "wide", "script.smt2", "answers.txt"];
+//! settings(alloc, &words)?                   // these two files, `print_success: false`, `profile: Profile::Wide`
 //! settings(alloc, &["smtcheck", "a", "b"])?  // the files `a` and `b`, and the default of each option
 //! settings(alloc, &["smtcheck"])             // Err(LineFault::Refused(..)), with the text of `clap`
 //! ```

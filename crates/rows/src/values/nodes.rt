@@ -1,4 +1,4 @@
-//! Terms as the nodes of a library, in which the names of a model are declared.
+//! Terms as the nodes of a library, in which the names of a model are declared. This file prints nothing.
 
 ghost use Rattle.std.specs.Prelude.{◌<◌, ◌-◌, ◌^◌};
 ghost use Rattle.smt_trees.specs.Sexp.{Sexp};

@@ -1,4 +1,4 @@
-//! The definitions of a model as their trees.
+//! The definitions of a model as their trees. This file knows no nodes.
 
 use smt_eval::Memory;
 use smt_eval::plain::Definition;

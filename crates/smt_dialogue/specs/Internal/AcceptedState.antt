@@ -2,12 +2,13 @@
 use Rattle.std.specs.Prelude.{◌≡◌, ◌≤◌, ℕ, ◌+◌, List, [], ◌++◌, length, Bool, true, false, ◌||◌, Option, None}
 use Rattle.std.specs.List.{list_any}
 use Rattle.std.specs.Prelude.{option_map, if◌then◌else◌}
+use Rattle.smt_theory.specs.declared.profile.Profile.{Profile}
 use Rattle.smt_script.specs.Command.{Command}
 use Rattle.smt_script.specs.CommandView.{command_view}
 use Rattle.smt_script.specs.declared.command.Command as code
 use Rattle.smt_script.specs.Stack.{Numbered, flaw_of_effect}
 use Rattle.smt_script.specs.StackView as stacks
-use Rattle.smt_script.specs.StackView.{initial_print_success_of, last_of}
+use Rattle.smt_script.specs.StackView.{last_of, profile_of, start_of}
 use Rattle.smt_faults.specs.declared.command_flaw.CommandFlaw.{CommandFlaw}
 use Rattle.smt_script.specs.declared.stack.Stack.{Stack}
 use Rattle.smt_dialogue.specs.InForce.{signature_after}
@@ -47,15 +48,19 @@ state_behind taken d = record {
 
 -- what a dialogue was begun with
 abbrev pub options_of : AcceptedPairs → Options
-options_of d = record { print_success = initial_print_success_of d.stack; limit = d.checks.limit }
+options_of d = record {
+  print_success = (start_of d.stack).print_success;
+  profile = (start_of d.stack).profile;
+  limit = d.checks.limit;
+}
 
 -- the pair of a command and what it took of the answers
 abbrev pub answered : code.Command → Option TakenAnswer → Pair
 answered command answer = pair_of (command_view command) (option_map tree_of answer)
 
 -- the fault of a command's effect, if it took effect
-abbrev pub flaw_if : Bool → List Numbered → ℕ → Command → Option CommandFlaw
-flaw_if effective before n command = if effective then flaw_of_effect before n command else None
+abbrev pub flaw_if : Profile → Bool → List Numbered → ℕ → Command → Option CommandFlaw
+flaw_if profile effective before n command = if effective then flaw_of_effect profile before n command else None
 
 -- every window is closed at once: the first of the pairs that come closes it, or none comes and all are closed
 pub record Closing (ended : Bool) (after : List Pair) : Type 0 where
@@ -73,9 +78,9 @@ pub record Fits (early : Bool) (s : State) (pairs : List Pair) : Type 0 where
   pub checks : s.checks.count ≡ checks_in pairs
   pub tally : s.tally ≡ tally_of s.lines
   pub lines : (closed : Bool) (after : List Pair) → (early ≡ true → Closing closed after)
-      → lines_in s.checks.limit closed [] pairs after
-      ≡ s.lines ++ pending_lines s.checks.limit closed s.checks.pending (signature_after pairs)
-      (claims_after pairs) (length pairs + 1) after
+      → lines_in (profile_of s.stack) s.checks.limit closed [] pairs after
+      ≡ s.lines ++ pending_lines s.checks.limit closed s.checks.pending
+      (signature_after (profile_of s.stack) pairs) (claims_after (profile_of s.stack) pairs) (length pairs + 1) after
 
 abbrev pub StandsFor : State → List Pair → Type 0
 StandsFor s pairs = Fits false s pairs

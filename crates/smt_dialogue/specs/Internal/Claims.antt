@@ -1,5 +1,6 @@
 -- The claims of the check whose window is open, as they are taken one after another.
 use Rattle.std.specs.Prelude.{◌≡◌, ℕ, ◌+◌, List, [], ◌∷◌, ◌++◌, drop, map}
+use Rattle.smt_theory.specs.declared.profile.Profile.{Profile}
 use Rattle.smt_script.specs.Stack.{Numbered, assertions_in_force, assumptions_in_force}
 use Rattle.smt_script.specs.declared.stack.Assertion.{Assertion}
 use Rattle.smt_report.specs.declared.claim.Claim.TheVariants as claiming
@@ -11,11 +12,11 @@ use Rattle.smt_dialogue.specs.declared.claims.Claims.{Claims}
 use Rattle.smt_dialogue.specs.declared.claims.ReadClaim.{ReadClaim}
 
 -- what the last check claims behind commands or pairs
-abbrev pub claims_in_force : List Numbered → List Claimed
-claims_in_force commands = all_claims (assertions_in_force commands) (assumptions_in_force commands)
+abbrev pub claims_in_force : Profile → List Numbered → List Claimed
+claims_in_force profile commands = all_claims (assertions_in_force profile commands) (assumptions_in_force commands)
 
-abbrev pub claims_after : List Pair → List Claimed
-claims_after pairs = all_claims (assertions_after pairs) (assumptions_after pairs)
+abbrev pub claims_after : Profile → List Pair → List Claimed
+claims_after profile pairs = all_claims (assertions_after profile pairs) (assumptions_after pairs)
 
 abbrev pub of_assertions : List Assertion → List ReadClaim
 of_assertions assertions =

@@ -2,14 +2,15 @@
 use Rattle.std.specs.Prelude.{◌≡◌, ◌<◌, ◌^◌, ℕ, List, [], ◌∷◌, ◌++◌, Bool, Option, Some, None, false, true, is_some, Ok}
 use Rattle.std.specs.List.{list_any}
 use Rattle.smt_trees.specs.Sexp.{Sexp, Sexps, Nil, Cons}
+use Rattle.smt_theory.specs.declared.profile.Profile.{Profile}
 use Rattle.smt_script.specs.Command.{command_of, is_check}
 use Rattle.smt_script.specs.CommandView.{command_view}
 use Rattle.smt_script.specs.declared.command.Command.{Command}
-use Rattle.smt_script.specs.StackView.{initial_print_success_of}
+use Rattle.smt_script.specs.StackView.{profile_of, start_of}
 use Rattle.smt_dialogue.specs.FirstFault.{TextSoFar, turn_after}
 use Rattle.smt_dialogue.specs.FirstFault as first_fault
 use Rattle.smt_dialogue.specs.History.{of_side}
-use Rattle.smt_dialogue.specs.InForce.{has_exited_after}
+use Rattle.smt_dialogue.specs.InForce.{has_exited_after, start_by}
 use Rattle.smt_dialogue.specs.Pairs.{Pair}
 use Rattle.smt_dialogue.specs.Lines.{lines_in}
 use Rattle.smt_dialogue.specs.Report.{ArePaired, IsRead, IsTurn, lines_at_end, lines_of_end}
@@ -52,10 +53,10 @@ abbrev pub queue_at : Side → Pairing → TreeQueue
 queue_at side x = of_side side x.script x.answers
 
 -- the command in turn, if it was read, is the first of the trees that are left, and no `exit` came before it
-abbrev pub IsInTurn : Option Command → List Pair → (later left : Sexps) → Type 0
-IsInTurn None pairs later left = later ≡ left
-IsInTurn (Some command) pairs later left =
-    (tree : Sexp) × (later ≡ Cons tree left) × (command_of tree ≡ Ok (command_view command))
+abbrev pub IsInTurn : Profile → Option Command → List Pair → (later left : Sexps) → Type 0
+IsInTurn profile None pairs later left = later ≡ left
+IsInTurn profile (Some command) pairs later left =
+    (tree : Sexp) × (later ≡ Cons tree left) × (command_of profile tree ≡ Ok (command_view command))
     × (has_exited_after pairs ≡ false)
 
 -- what comes next closes every window: the command in turn is a check, or no command comes
@@ -66,13 +67,13 @@ IsClosing None texts later = (later ≡ Nil) × (texts.script.fault ≡ None) ×
 -- these pairs were taken up, and these trees and answers are left
 pub record IsUnderWay (x : Pairing) (texts : Texts) (pairs : List Pair) (later rest : Sexps) : Type 0 where
   pub left : Sexps
-  pub in_turn : IsInTurn x.command pairs later left
+  pub in_turn : IsInTurn (profile_of x.dialogue.stack) x.command pairs later left
   pub script_front : HasQueue x.script texts.script_bytes texts.script left
   pub answers_front : HasQueue x.answers texts.answers_bytes texts.answers rest
   pub early : Bool
   pub stands : Fits early (state_behind texts.taken x.dialogue) pairs
   pub closing : early ≡ true → IsClosing x.command texts later
-  pub paired : ArePaired (initial_print_success_of x.dialogue.stack) texts.script texts.answers pairs later rest
+  pub paired : ArePaired (start_of x.dialogue.stack) texts.script texts.answers pairs later rest
 
 -- it goes on as this comes of a text
 abbrev pub GoesOnWith : Side → (x y : Pairing) → Texts → (told : Bool) → (bytes : List ℕ) → Type 0
@@ -83,7 +84,7 @@ GoesOnWith side x y texts told bytes =
 
 -- the turn of what is left
 abbrev pub turn_of : Pairing → Texts → List Pair → (later rest : Sexps) → first_fault.Turn
-turn_of x texts pairs later rest = turn_after (initial_print_success_of x.dialogue.stack) pairs
+turn_of x texts pairs later rest = turn_after (start_of x.dialogue.stack) pairs
     (record texts.script { trees = later }) (record texts.answers { trees = rest })
 
 -- what a turn came to: one more pair; or it waits, with what was left; or the dialogue ends behind the pairs
@@ -115,12 +116,12 @@ HasRested None options new texts =
     (closed : Bool) × (pairs : List Pair) × (later : Sexps) × (rest : Sexps)
     × IsUnderWay new texts pairs later rest × (options_of new.dialogue ≡ options)
     × (turn_of new texts pairs later rest ≡ first_fault.Waits closed)
-    × (texts.taken ++ waiting new ≡ lines_at options.limit.steps pairs (first_fault.Waits closed))
+    × (texts.taken ++ waiting new ≡ lines_at options.profile options.limit.steps pairs (first_fault.Waits closed))
 HasRested (Some verdict) options new texts =
     (fault : Option Line) × (pairs : List Pair)
-    × IsTurn options.print_success texts.script texts.answers pairs (first_fault.Ends fault)
-    × (texts.taken ++ waiting new ≡ lines_at_end options.limit.steps pairs fault)
-    × (verdict ≡ verdict_of (lines_in options.limit.steps true [] pairs [] ++ lines_of_end fault))
+    × IsTurn (start_by options) texts.script texts.answers pairs (first_fault.Ends fault)
+    × (texts.taken ++ waiting new ≡ lines_at_end options.profile options.limit.steps pairs fault)
+    × (verdict ≡ verdict_of (lines_in options.profile options.limit.steps true [] pairs [] ++ lines_of_end fault))
 
 -- turns were taken: more are left, since lines are to be handed out before; or they came to rest
 abbrev pub HasAdvanced : Advance → Options → Pairing → Texts → Type 0

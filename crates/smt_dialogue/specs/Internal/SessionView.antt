@@ -3,6 +3,7 @@ use Rattle.std.specs.Prelude.{◌≡◌, List, [], ◌++◌, true, Option, Some,
 use Rattle.smt_trees.specs.Sexp.{Sexps}
 use Rattle.smt_dialogue.specs.FirstFault.{Ends, TextSoFar}
 use Rattle.smt_dialogue.specs.History.{History, Told}
+use Rattle.smt_dialogue.specs.InForce.{start_by}
 use Rattle.smt_dialogue.specs.Lines.{lines_in}
 use Rattle.smt_dialogue.specs.Pairs.{Pair}
 use Rattle.smt_dialogue.specs.Report.{IsRead, IsTurn, lines_at_end, lines_of_end}
@@ -50,9 +51,10 @@ pub record HasEnded (verdict : Verdict) (h : History) (ls : List Line) : Type 0 
   pub read : AreRead h script answers
   pub pairs : List Pair
   pub fault : Option Line
-  pub ends : IsTurn h.options.print_success script answers pairs (Ends fault)
-  pub lines_are : ls ≡ lines_at_end h.options.limit.steps pairs fault
-  pub verdict_is : verdict ≡ verdict_of (lines_in h.options.limit.steps true [] pairs [] ++ lines_of_end fault)
+  pub ends : IsTurn (start_by h.options) script answers pairs (Ends fault)
+  pub lines_are : ls ≡ lines_at_end h.options.profile h.options.limit.steps pairs fault
+  pub verdict_is : verdict
+      ≡ verdict_of (lines_in h.options.profile h.options.limit.steps true [] pairs [] ++ lines_of_end fault)
 
 -- it has ended, or is under way; or a call has failed before, and it goes no further
 abbrev pub GoesOn : Option Verdict → Option Failed → Pairing → History → Type 0

@@ -1,6 +1,6 @@
 -- What is left of a text so far, whose trees are taken as its pieces come.
 use Rattle.std.specs.Prelude.{◌≡◌, ℕ, Bool, List, Option, Some, None, false, true}
-use Rattle.smt_text.specs.Grammar.{limit}
+use Rattle.smt_text.specs.Grammar.{max_depth}
 use Rattle.smt_text.specs.Reader as readers
 use Rattle.smt_text.specs.Reader.{is_finished}
 use Rattle.smt_text.specs.Reading.{Reads}
@@ -24,7 +24,7 @@ pub record HasQueue (front : TreeQueue) (bytes : List ℕ) (text : TextSoFar) (r
   pub taken : Sexps
   pub stands : readers.StandsFor front.reader bytes (append taken (next_trees front.next))
   pub told : text.told ≡ is_finished front.reader
-  pub reads : Reads limit text.told bytes text.trees text.fault
+  pub reads : Reads max_depth text.told bytes text.trees text.fault
   pub trees : text.trees ≡ append taken rest
   pub behind : Sexps
   pub begins : rest ≡ append (next_trees front.next) behind

@@ -1,7 +1,9 @@
 -- What one turn of a dialogue comes to.
 use Rattle.std.specs.Prelude.{◌≡◌, ℕ, ◌+◌, List, [], ◌∷◌, ◌++◌, length, Bool, Option, Some, None}
 use Rattle.smt_trees.specs.Sexp.{Sexp, Sexps}
+use Rattle.smt_theory.specs.declared.profile.Profile.{Profile}
 use Rattle.smt_script.specs.Command.{Command}
+use Rattle.smt_script.specs.declared.stack.Start.{Start}
 use Rattle.smt_dialogue.specs.Answers.{Taken, Takes, taken}
 use Rattle.smt_dialogue.specs.FirstFault as first_fault
 use Rattle.smt_dialogue.specs.FirstFault.{TextSoFar, is_over, turn_of_flaw, turn_of_taken}
@@ -26,37 +28,37 @@ turn_of_line None = turns.GoesOn
 turn_of_line (Some line) = turns.Ends (Some line)
 
 -- what the command takes of these answers
-abbrev pub taken_for : Bool → List Pair → Command → TextSoFar → Sexps → Taken
-taken_for initial pairs command text rest =
-    taken (is_over text) (need_after initial pairs command) (next_of rest)
+abbrev pub taken_for : Start → List Pair → Command → TextSoFar → Sexps → Taken
+taken_for start pairs command text rest =
+    taken (is_over text) (need_after start pairs command) (next_of rest)
 
 -- the command was taken up with an answer, or with none, and the others are left
-pub record GoesOn (initial : Bool) (pairs : List Pair) (command : Command) (text : TextSoFar) (rest : Sexps)
+pub record GoesOn (start : Start) (pairs : List Pair) (command : Command) (text : TextSoFar) (rest : Sexps)
     (bytes : List ℕ) (front : TreeQueue) (new : State) : Type 0 where
   pub answer : Option Sexp
   pub left : Sexps
   pub front_is : HasQueue front bytes text left
   pub next : rest ≡ with_answer answer left
-  pub taken_so : taken_for initial pairs command text rest ≡ Takes answer
-  pub faultless : flaw_of_pair pairs (pair_of command answer) ≡ None
+  pub taken_so : taken_for start pairs command text rest ≡ Takes answer
+  pub faultless : flaw_of_pair start.profile pairs (pair_of command answer) ≡ None
   pub stands : StandsFor new (pairs ++ pair_of command answer ∷ [])
 
 -- the turn of the command behind pairs: it was taken up; or it waits, and nothing is taken; or the dialogue
 -- ends with it. `early` says that windows were ended before
-abbrev pub IsTakenUp : Turn → (early initial : Bool) → List Pair → Command → TextSoFar → Sexps → List ℕ → TreeQueue
+abbrev pub IsTakenUp : Turn → (early : Bool) → Start → List Pair → Command → TextSoFar → Sexps → List ℕ → TreeQueue
     → State → Type 0
-IsTakenUp turns.GoesOn early initial pairs command text rest bytes front new =
-    GoesOn initial pairs command text rest bytes front new
-IsTakenUp (turns.Waits closed) early initial pairs command text rest bytes front new =
-    (turn_of_taken pairs command text.fault (taken_for initial pairs command text rest)
+IsTakenUp turns.GoesOn early start pairs command text rest bytes front new =
+    GoesOn start pairs command text rest bytes front new
+IsTakenUp (turns.Waits closed) early start pairs command text rest bytes front new =
+    (turn_of_taken start.profile pairs command text.fault (taken_for start pairs command text rest)
     ≡ first_fault.Waits closed) × HasQueue front bytes text rest × Fits early new pairs
-IsTakenUp (turns.Ends fault) early initial pairs command text rest bytes front new =
-    (turn_of_taken pairs command text.fault (taken_for initial pairs command text rest)
+IsTakenUp (turns.Ends fault) early start pairs command text rest bytes front new =
+    (turn_of_taken start.profile pairs command text.fault (taken_for start pairs command text rest)
     ≡ first_fault.Ends fault) × Fits early new pairs
 
 -- the pair was accepted, or its command has a fault, with this line
-abbrev pub IsDone : Option Line → Bool → List Pair → Pair → State → Type 0
-IsDone None early pairs pair new = (flaw_of_pair pairs pair ≡ None) × StandsFor new (pairs ++ pair ∷ [])
-IsDone (Some line) early pairs pair new =
-    (turn_of_flaw (length pairs + 1) (flaw_of_pair pairs pair) ≡ first_fault.Ends (Some line))
+abbrev pub IsDone : Profile → Option Line → Bool → List Pair → Pair → State → Type 0
+IsDone profile None early pairs pair new = (flaw_of_pair profile pairs pair ≡ None) × StandsFor new (pairs ++ pair ∷ [])
+IsDone profile (Some line) early pairs pair new =
+    (turn_of_flaw (length pairs + 1) (flaw_of_pair profile pairs pair) ≡ first_fault.Ends (Some line))
     × Fits early new pairs

@@ -3,6 +3,8 @@
 
 ghost use Rattle.std.specs.Prelude.{◌≡◌, ◌⊎◌, ◌↔◌, ℕ, List, [], ◌∷◌, true, false, codes, map};
 ghost use Rattle.smt_trees.specs.Sexp.{Atom, Cons, Items, Nil, Sexp, Sexps, Symbol, Text};
+ghost use Rattle.smt_theory.specs.declared.profile.Profile.{Profile};
+ghost use Rattle.smt_theory.specs.declared.profile.Profile.TheVariants.{Base, Wide};
 ghost use Rattle.smt_script.specs.declared.command.Kind.TheVariants as kinds;
 ghost use Rattle.smt_dialogue.specs.Answers.{has_form, is_refusal, need_of_kind};
 ghost use Rattle.smt_dialogue.specs.declared.need.AnswerForm.TheVariants as forms;
@@ -47,18 +49,25 @@ pub fn answers_have_their_forms()
 
 /// What a command of each kind needs of the answers where `success` is printed, and where it is not: in this
 /// order `check-sat`, `get-model`, `echo`, other queries, `exit`, the option set to true and to false, other
-/// settings, the logic, changes and `reset`.
+/// settings, the logic, changes and `reset`. In the profile Wide a solver may say of a logic that it is not
+/// known.
 pub fn needs_go_by_the_kind()
-    ensures printed { map (need_of_kind true)
+    ensures printed { (profile : Profile) → map (need_of_kind profile true)
         (kinds.Check ∷ kinds.Model ∷ kinds.Echo ∷ kinds.Query ∷ kinds.Exit ∷ kinds.PrintSuccess true
         ∷ kinds.PrintSuccess false ∷ kinds.Setting ∷ kinds.Logic ∷ kinds.Change ∷ kinds.Reset ∷ [])
         ≡ Needed forms.Check ∷ Needed forms.Model ∷ Needed forms.Echo ∷ Needed forms.Other
         ∷ Optional forms.Success ∷ Needed forms.General ∷ Optional forms.General ∷ Needed forms.General
         ∷ Needed forms.General ∷ Needed forms.General ∷ Needed forms.General ∷ [] }
-    ensures silent { map (need_of_kind false)
+    ensures silent { map (need_of_kind Base false)
         (kinds.Check ∷ kinds.Model ∷ kinds.Echo ∷ kinds.Query ∷ kinds.Exit ∷ kinds.PrintSuccess true
         ∷ kinds.PrintSuccess false ∷ kinds.Setting ∷ kinds.Logic ∷ kinds.Change ∷ kinds.Reset ∷ [])
         ≡ Needed forms.Check ∷ Needed forms.Model ∷ Needed forms.Echo ∷ Needed forms.Other
         ∷ Optional forms.Success ∷ Needed forms.General ∷ Optional forms.General
         ∷ Optional forms.Unsupported ∷ Nothing ∷ Nothing ∷ Nothing ∷ [] }
+    ensures silent_wide { map (need_of_kind Wide false)
+        (kinds.Check ∷ kinds.Model ∷ kinds.Echo ∷ kinds.Query ∷ kinds.Exit ∷ kinds.PrintSuccess true
+        ∷ kinds.PrintSuccess false ∷ kinds.Setting ∷ kinds.Logic ∷ kinds.Change ∷ kinds.Reset ∷ [])
+        ≡ Needed forms.Check ∷ Needed forms.Model ∷ Needed forms.Echo ∷ Needed forms.Other
+        ∷ Optional forms.Success ∷ Needed forms.General ∷ Optional forms.General
+        ∷ Optional forms.Unsupported ∷ Optional forms.Unsupported ∷ Nothing ∷ Nothing ∷ [] }
 {}

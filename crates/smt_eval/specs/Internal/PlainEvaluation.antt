@@ -5,7 +5,7 @@ use Rattle.smt_trees.specs.Tree.{sexp_of}
 use Rattle.smt_values.specs.Element.{Element, known_element}
 use Rattle.smt_values.specs.declared.value.Value.{Value}
 use Rattle.smt_faults.specs.declared.memory.Memory.{Memory}
-use Rattle.smt_forms.specs.declared.scope.Variable.{Variable}
+use Rattle.smt_forms.specs.declared.variable.Variable.{Variable}
 use Rattle.smt_eval.specs.Known.{KnownMeaning, known_after, known_operators}
 use Rattle.smt_eval.specs.PlainTerm.{entries_of}
 use Rattle.smt_eval.specs.declared.plain.Definition.{Definition}

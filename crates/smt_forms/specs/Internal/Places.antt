@@ -2,11 +2,10 @@
 -- what a name stands for.
 use Rattle.std.specs.Prelude.{◌≡◌, ℕ, suc, List, [], ◌∷◌, ◌++◌, map, drop, Option, Some, None, bytes_eq}
 use Rattle.std.specs.Prelude.{if◌then◌else◌}
-use Rattle.std.specs.Borrow.{Bor}
-use Rattle.std.specs.Option.{option_or}
-use Rattle.std.specs.Ordering.{nat_cmp}
-use Rattle.std.specs.Cmp.Lexicographic.{slice_cmp}
-use Rattle.std.specs.BTreeMap.{BTreeMap, get_by}
+use Rattle.std.specs.Option.{option_flatten, option_or}
+use Rattle.smt_theory.specs.Words.{look_up}
+use Rattle.smt_names.specs.Entries.{entries_of}
+use Rattle.smt_names.specs.declared.map.NameMap.{NameMap}
 use Rattle.smt_forms.specs.declared.places.Placed.{Placed}
 
 -- the place of the last of these names that is this one, where the first of them stands at this place
@@ -26,10 +25,10 @@ AreHiding few before (n ∷ ns) =
     (n.hidden ≡ place_from few (drop few before) n.name.now) × AreHiding few (before ++ n.name.now ∷ []) ns
 
 -- the place that a map has of a name
-abbrev pub place_in : BTreeMap (Bor (List ℕ)) ℕ → List ℕ → Option ℕ
-place_in map name = get_by (λ k. slice_cmp nat_cmp name k.now) map
+abbrev pub place_in : NameMap (Option ℕ) → List ℕ → Option ℕ
+place_in map name = option_flatten (look_up (entries_of map) name)
 
 -- a map has the place of the last of each name behind the first few, and these keep the places that they hide
-pub record IsIndexed (few : ℕ) (names : List Placed) (map : BTreeMap (Bor (List ℕ)) ℕ) : Type 0 where
+pub record IsIndexed (few : ℕ) (names : List Placed) (map : NameMap (Option ℕ)) : Type 0 where
   pub found : (name : List ℕ) → place_in map name ≡ place_from few (drop few (names_of names)) name
   pub hiding : AreHiding few [] names

@@ -24,7 +24,6 @@ around_of _ = 0
 abbrev pub row_view : List StoredRow → Lists → StoredRow → Row
 row_view rows t row = record {
   node = node_of t (source rows row).ends (source rows row).stored;
-  sort = row.sort;
   around = around_of row.stored;
 }
 

@@ -15,7 +15,7 @@ use Rattle.smt_script.specs.Command.{Assumes, Command, Effect, Nothing, Removing
 use Rattle.smt_script.specs.Stack.{Numbered, flaw_of_effect, is_exit, is_late_after, is_set_after, trees_of}
 use Rattle.smt_script.specs.Stack.{ends_assumptions, global_after, print_success_after}
 use Rattle.smt_script.specs.StackView.{AreNamesAlike, AreTerms, HasInForce, contents_left}
-use Rattle.smt_script.specs.StackView.{initial_print_success_of}
+use Rattle.smt_script.specs.StackView.{profile_of, start_of}
 use Rattle.smt_faults.specs.declared.command_fault.CommandFault.{CommandFault}
 use Rattle.smt_faults.specs.Outcome.{TellsCommand}
 use Rattle.smt_script.specs.declared.stack.LogicState.{LogicState}
@@ -49,30 +49,30 @@ abbrev pub with_notes : Command → Stack → Stack
 with_notes command stack = record stack {
   logic = logic_after stack.logic command;
   global = global_after stack.global command;
-  print_success = print_success_after stack.initial_print_success stack.print_success command;
+  print_success = print_success_after stack.start.print_success stack.print_success command;
   exited = stack.exited || is_exit command;
 }
 
 -- command n took effect, but for that note
 pub record HasEffect (old new : Stack) (n : ℕ) (command : Command) : Type 0 where
   pub faultless : (commands : List Numbered) → HasInForce old commands
-      → flaw_of_effect commands n command ≡ None
-  pub stands : (commands : List Numbered) → HasInForce old commands → AreNamesAlike commands
+      → flaw_of_effect (profile_of old) commands n command ≡ None
+  pub stands : (commands : List Numbered) → HasInForce old commands → AreNamesAlike (profile_of old) commands
       → HasInForce (with_notes command new) (commands ++ record { number = n; command = command } ∷ [])
-  pub start : initial_print_success_of new ≡ initial_print_success_of old
+  pub start : start_of new ≡ start_of old
 
 -- it was refused
 abbrev pub IsRefused : Stack → ℕ → Command → CommandFault → Type 0
 IsRefused old n command fault =
     (commands : List Numbered) → HasInForce old commands
-    → TellsCommand (flaw_of_effect commands n command) fault
+    → TellsCommand (flaw_of_effect (profile_of old) commands n command) fault
 
 -- what is noted of the commands is the same
 pub record HasNotesOf (old new : Stack) : Type 0 where
   pub logic : new.logic ≡ old.logic
   pub global : new.global ≡ old.global
   pub print_success : new.print_success ≡ old.print_success
-  pub start : new.initial_print_success ≡ old.initial_print_success
+  pub start : new.start ≡ old.start
   pub exited : new.exited ≡ old.exited
   pub last : new.last ≡ old.last
 

@@ -6,6 +6,7 @@ ghost use Rattle.std.specs.Str.Parse.{digits_value};
 ghost use Rattle.smt_trees.specs.Tree.{sexp_of, sexps_of};
 ghost use Rattle.smt_forms.specs.Bindings.{named_trees};
 ghost use Rattle.smt_script.specs.Command as commands;
+ghost use Rattle.smt_script.specs.CommandView.{levels_in};
 ghost use Rattle.smt_script.specs.Internal.PartsView.{parts_view};
 ghost use Rattle.smt_script.specs.Parts as shapes;
 
@@ -37,6 +38,17 @@ pub(crate) fn one_numeral(mut parts: Parts) -> Option<Bytes>
         return None;
     };
     only(digits, parts)
+}
+
+/// The digits of one numeral, or none where nothing stands there.
+pub(crate) fn numeral_or_none(mut parts: Parts) -> Option<Option<Bytes>>
+    ensures { option_map levels_in result ≡ shapes.numeral_or_one (parts_view parts) }
+{
+    match parts.next() {
+        None => Some(None),
+        Some(Tree::Numeral(digits)) => Some(Some(only(digits, parts)?)),
+        Some(_) => None,
+    }
 }
 
 pub(crate) fn one_text(mut parts: Parts) -> Option<Bytes>
@@ -88,6 +100,16 @@ pub(crate) fn one_list_of_literals(mut parts: Parts) -> Option<Trees>
         return None;
     }
     Some(trees)
+}
+
+/// The trees of one list, which may have none.
+pub(crate) fn any_list(mut parts: Parts) -> Option<Trees>
+    ensures { result ≡ shapes.any_list (parts_view parts) }
+{
+    let Some(Tree::List(trees)) = parts.next() else {
+        return None;
+    };
+    if parts.is_empty() { Some(trees) } else { None }
 }
 
 fn are_literals(trees: &[Tree]) -> bool
@@ -184,6 +206,18 @@ fn two_trees(mut parts: Parts) -> Option<(Tree, Tree)>
     let first = parts.next()?;
     let second = one_tree(parts)?;
     Some((first, second))
+}
+
+/// A name, and two more trees.
+pub(crate) fn name_and_two(mut parts: Parts) -> Option<(Bytes, Tree, Tree)>
+    ensures { option_map (λ p. (p.0, (sexp_of p.1, sexp_of p.2))) result
+        ≡ shapes.name_and_two (parts_view parts) }
+{
+    let Some(Tree::Symbol(name)) = parts.next() else {
+        return None;
+    };
+    let (first, second) = two_trees(parts)?;
+    Some((name, first, second))
 }
 
 fn parameters_and_two(mut parts: Parts) -> Option<(Trees, Tree, Tree)>

@@ -1,8 +1,10 @@
 //! Laws of single commands: what a check assumes, and which commands are checks or change what is in force.
 //! Nothing here does anything.
 
-ghost use Rattle.std.specs.Prelude.{◌≡◌, ◌≢◌, ℕ, List, [], ◌∷◌, Bool, true, false, Err, Option, All};
-ghost use Rattle.smt_faults.specs.declared.command_flaw.CommandFlaw.TheVariants.{Unsupported};
+ghost use Rattle.std.specs.Prelude.{◌≡◌, ◌≢◌, ℕ, List, [], ◌∷◌, Bool, true, false, Ok, Err, Option, All, codes};
+ghost use Rattle.smt_faults.specs.declared.command_flaw.CommandFlaw.TheVariants.{Form, Unsupported};
+ghost use Rattle.smt_theory.specs.declared.profile.Profile.{Profile};
+ghost use Rattle.smt_theory.specs.declared.profile.Profile.TheVariants.{Base, Wide};
 ghost use Rattle.smt_trees.specs.Sexp.{Sexp, Sexps, Atom, Cons, Items, Nil, Reserved, Symbol};
 ghost use Rattle.smt_trees.specs.declared.reserved.Word.TheVariants as words;
 ghost use Rattle.smt_script.specs.Command.{Assert, CheckSat, CheckSatAssuming, Command, DeclareConst};
@@ -10,6 +12,7 @@ ghost use Rattle.smt_script.specs.Command.{DeclareFun, DefineFun, DefineSort, Ec
 ghost use Rattle.smt_script.specs.Command.{Push, Query, Reset, ResetAssertions, SetGlobalDeclarations};
 ghost use Rattle.smt_script.specs.Command.{SetInfo, SetLogic, SetOption, SetPrintSuccess, closes_window};
 ghost use Rattle.smt_script.specs.Command.{command_of, is_check};
+ghost use Rattle.smt_script.specs.Parts.{are_literals};
 ghost use Rattle.smt_script.specs.Stack.{literals_of};
 
 /// The literals of a `check-sat-assuming` are those of its list, one by one, and no other command assumes any
@@ -41,9 +44,41 @@ pub fn commands_are_checks_or_changes()
 /// datatypes, of sorts or of recursive functions whatever stands behind its word, and of a `define-sort` with
 /// parameters.
 pub fn unsupported_commands_are_told_by_their_words()
-    ensures words { (parts : Sexps) → All (λ w. command_of (Items (Cons (Reserved w) parts)) ≡ Err Unsupported)
+    ensures words { (profile : Profile) (parts : Sexps)
+        → All (λ w. command_of profile (Items (Cons (Reserved w) parts)) ≡ Err Unsupported)
         (words.DeclareDatatype ∷ words.DeclareDatatypes ∷ words.DeclareSort ∷ words.DefineFunRec
         ∷ words.DefineFunsRec ∷ []) }
-    ensures sorts { (x : List ℕ) (p sort : Sexp) (ps : Sexps) → command_of (Items (Cons (Reserved words.DefineSort)
+    ensures sorts { (profile : Profile) (x : List ℕ) (p sort : Sexp) (ps : Sexps)
+        → command_of profile (Items (Cons (Reserved words.DefineSort)
         (Cons (Atom Symbol x) (Cons (Items (Cons p ps)) (Cons sort Nil))))) ≡ Err Unsupported }
+{}
+
+/// Whatever is a command in the profile Base is the same command in the profile Wide.
+pub fn wide_reads_what_base_reads()
+    ensures { (tree : Sexp) (command : Command) → command_of Base tree ≡ Ok command
+        → command_of Wide tree ≡ Ok command }
+{}
+
+/// What is a command in Wide alone: `(push)` and `(pop)` without a numeral mean one level, a constant may be
+/// defined, and any terms may be assumed (SMT-LIB 2.7).
+pub fn wide_has_more_forms()
+    ensures levels { (command_of Wide (Items (Cons (Reserved words.Push) Nil)) ≡ Ok (Push 1))
+        × (command_of Wide (Items (Cons (Reserved words.Pop) Nil)) ≡ Ok (Pop 1)) }
+    ensures constants { (x : List ℕ) (sort body : Sexp)
+        → command_of Wide (Items (Cons (Atom Symbol (codes "define-const"))
+        (Cons (Atom Symbol x) (Cons sort (Cons body Nil))))) ≡ Ok (DefineFun x [] sort body) }
+    ensures assumptions { (terms : Sexps)
+        → command_of Wide (Items (Cons (Reserved words.CheckSatAssuming) (Cons (Items terms) Nil)))
+        ≡ Ok (CheckSatAssuming terms) }
+{}
+
+/// In Base these are refused for their form: `(push)` and `(pop)`, whatever defines a constant, and assumptions
+/// of which one is no literal (SMT-LIB 2.6, sections 4.2.2 and 4.2.5).
+pub fn base_has_none_of_them()
+    ensures levels { All (λ w. command_of Base (Items (Cons (Reserved w) Nil)) ≡ Err Form)
+        (words.Push ∷ words.Pop ∷ []) }
+    ensures constants { (parts : Sexps)
+        → command_of Base (Items (Cons (Atom Symbol (codes "define-const")) parts)) ≡ Err Form }
+    ensures assumptions { (terms : Sexps) → are_literals terms ≡ false
+        → command_of Base (Items (Cons (Reserved words.CheckSatAssuming) (Cons (Items terms) Nil))) ≡ Err Form }
 {}

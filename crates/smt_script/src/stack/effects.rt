@@ -1,5 +1,5 @@
 //! What each command does to what is in force, and the fault of its effect. What levels do stands in
-//! `levels`; this file knows no trees of commands.
+//! `levels`; this file is handed a command's parts, and does not know how it was written.
 
 ghost use Rattle.std.specs.Prelude.{◌≡◌, ◌∷◌, ◌||◌, ℕ, List, [], None, IfErr, MatchResult, OnOk, OnErr};
 ghost use Rattle.std.specs.Str.Parse.{digits_value};
@@ -10,7 +10,7 @@ ghost use Rattle.smt_script.specs.Command as commands;
 ghost use Rattle.smt_script.specs.Command.{SetLogic, DeclareConst, DeclareFun, DefineFun, DefineSort, Assert};
 ghost use Rattle.smt_script.specs.Command.{CheckSatAssuming, Push, Pop, SetGlobalDeclarations, SetsGlobal};
 ghost use Rattle.smt_script.specs.Command.{effect_of};
-ghost use Rattle.smt_script.specs.CommandView.{command_view};
+ghost use Rattle.smt_script.specs.CommandView.{command_view, levels_in};
 ghost use Rattle.smt_faults.specs.Outcome.{TellsCommand};
 ghost use Rattle.smt_terms.specs.Contents.{Extends, contents_of};
 ghost use Rattle.smt_terms.specs.Library as libraries;
@@ -19,18 +19,18 @@ ghost use Rattle.smt_script.specs.Stack as stack;
 ghost use Rattle.smt_script.specs.Stack.{flaw_of_formula, flaw_of_literals, trees_of};
 ghost use Rattle.smt_terms.specs.Checking.{sort_in};
 ghost use Rattle.smt_terms.specs.Library.{IsTerm, terms_of, transient_of};
-ghost use Rattle.smt_script.specs.StackView.{AreTerms, HoldsAfter, initial_print_success_of, last_of};
+ghost use Rattle.smt_script.specs.StackView.{AreTerms, HoldsAfter, last_of};
 ghost use Rattle.smt_script.specs.Internal.Effect.{ContentsAreKept, HasAssumed, HasEffect, HasMore, HasNotesOf};
 ghost use Rattle.smt_script.specs.Internal.Effect.{IsEnded, IsRefused, IsUnchanged, with_notes};
 
 use crate::command::{Command, Kind};
-use crate::stack::{Assertion, LogicState, Stack, all_theories};
+use crate::stack::{Assertion, LogicState, Stack};
 use smt_faults::{CommandFault, TermFault};
 use smt_forms::params_of;
 use smt_terms::laws::{marks_are_kept, terms_are_kept};
 use smt_terms::{Library, TermId};
 use smt_theory::{Sort, theories_of};
-use smt_trees::{Tree, split_first};
+use smt_trees::{Bytes, Tree, split_first};
 use std::alloc::Global;
 
 // What a mark counts, and each term, is the same in longer contents.
@@ -90,10 +90,13 @@ impl Stack {
                 sort,
                 body,
             } => self.define(name.as_slice(), params.as_slice(), sort, body),
+            Command::DefineConst { name, sort, body } => {
+                self.define(name.as_slice(), &[], sort, body)
+            }
             Command::DefineSort { name, sort } => self.define_sort(name.as_slice(), sort),
             Command::Assert { term } => self.assert(number, term),
-            Command::Push { levels } => self.push(levels.as_slice()),
-            Command::Pop { levels } => self.pop(levels.as_slice()),
+            Command::Push { levels } => self.push(digits_of(levels)),
+            Command::Pop { levels } => self.pop(digits_of(levels)),
             Command::Reset => self.reset(),
             Command::ResetAssertions => self.reset_assertions(),
             Command::SetPrintSuccess { .. } => Ok(()),
@@ -121,7 +124,7 @@ impl Stack {
         };
         self.global = global_after(self.global, command);
         self.print_success = print_success_after(
-            self.initial_print_success,
+            self.start.print_success,
             self.print_success,
             kind,
         );
@@ -165,7 +168,7 @@ impl Stack {
         if self.logic.is_fixed() {
             return Err(CommandFault::Logic);
         }
-        let Some(theories) = theories_of(name) else {
+        let Some(theories) = theories_of(self.start.profile, name) else {
             return Err(CommandFault::Logic);
         };
         self.library = Library::new(self.alloc, theories);
@@ -296,6 +299,16 @@ impl Stack {
             Ok(()) => Ok(()),
             Err(_) => Err(CommandFault::Memory),
         }
+    }
+}
+
+// The digits of a number of levels, where none stand for one.
+fn digits_of(levels: &Option<Bytes>) -> &[u8]
+    ensures { digits_value 10 result.now ≡ levels_in levels.now }
+{
+    match levels {
+        Some(digits) => digits.as_slice(),
+        None => b"1",
     }
 }
 

@@ -4,11 +4,11 @@
 ghost use Rattle.std.specs.Prelude.{◌≡◌, ◌≤◌, IfErr, MatchOption, OnErr, OnOk};
 ghost use Rattle.std.specs.Str.Parse.{digits_value};
 
-use crate::stack::{Stack, all_theories};
+use crate::stack::Stack;
 use smt_faults::CommandFault;
 use smt_terms::laws::{earlier_marks_are_kept, needed_nodes_are_enough, terms_have_nodes};
 use smt_terms::{Library, Mark};
-use smt_theory::number;
+use smt_theory::{all_theories, number};
 
 /// What came outside a level: how much of the library, and how many assertions.
 #[derive(Clone, Copy)]
@@ -114,7 +114,7 @@ impl Stack {
         ensures refused { IfErr result (λ fault. (n : ℕ) → IsRefused self.old n commands.Reset fault) }
         ensures unchanged { OnErr result (HasMore self.old self.new) }
     {
-        self.library = Library::new(self.alloc, all_theories());
+        self.library = Library::new(self.alloc, all_theories(self.start.profile));
         self.assertions.truncate(0);
         self.levels.clear();
         Ok(())

@@ -16,17 +16,17 @@ use Rattle.smt_terms.specs.Internal.LibraryView.{names_for, names_of_library}
 use Rattle.smt_terms.specs.Labels.{Labels}
 use Rattle.smt_terms.specs.Signature.{Names, unlabelled}
 use Rattle.smt_terms.specs.declared.library.Library.{Library}
-use Rattle.smt_terms.specs.declared.library.draft.Checked.{Checked}
+use Rattle.smt_terms.specs.declared.library.draft.CheckedTerm.{CheckedTerm}
 use Rattle.smt_terms.specs.declared.library.draft.Draft.{Draft}
 
 -- the result is the sort of the term, which may give labels behind those of the draft, or its first flaw
-abbrev pub HasSort : Library → Draft → Sexp → Result Checked TermFault → Type 0
+abbrev pub HasSort : Library → Draft → Sexp → Result CheckedTerm TermFault → Type 0
 HasSort library draft term result =
     IsOutcome (λ c. c.sort) (sort_in (names_for library (labels_view draft.labels)) (sorts_seen draft) term)
     result
 
 -- where a sort is answered, the labels of the term were given behind the old ones
-abbrev pub GivesLabels : Library → (old new : Draft) → Sexp → Result Checked TermFault → Type 0
+abbrev pub GivesLabels : Library → (old new : Draft) → Sexp → Result CheckedTerm TermFault → Type 0
 GivesLabels library old new term result =
     OnOk result (AreGiven (names_of_library library) old.labels new.labels (labels_in term))
 
@@ -47,7 +47,7 @@ has_labels [] = false
 has_labels (x ∷ xs) = true
 
 -- a term that uses no variable from outside has its sort without any
-abbrev pub IsSortedUnlessOpen : Library → Checked → Sexp → Type 0
+abbrev pub IsSortedUnlessOpen : Library → CheckedTerm → Sexp → Type 0
 IsSortedUnlessOpen library checked term =
     checked.is_open ≡ false → sort_in (unlabelled (names_of_library library)) [] term ≡ Ok checked.sort
 

@@ -1,5 +1,6 @@
 -- The names that a library's fields hold.
 use Rattle.std.specs.Prelude.{ℕ, List, map}
+use Rattle.smt_names.specs.Entries.{entries_of}
 use Rattle.smt_theory.specs.declared.sort.Sort.{Sort}
 use Rattle.smt_terms.specs.Labels.{Labels, Refused}
 use Rattle.smt_terms.specs.Signature.{Names, Rank}
@@ -15,15 +16,15 @@ rank_of e = record { parameters = e.parameters.items; sort = e.sort }
 
 -- the names in order, with their ranks
 abbrev pub ranks_of_library : Library → List (List ℕ × Rank)
-ranks_of_library library = map (λ p. (p.0.items, rank_of p.1)) library.names.entries
+ranks_of_library library = map (λ p. (p.0, rank_of p.1)) (entries_of library.names)
 
 -- the names in order, with where they stand
 abbrev pub places_of_library : Library → List (List ℕ × Found)
-places_of_library library = map (λ p. (p.0.items, p.1.place)) library.names.entries
+places_of_library library = map (λ p. (p.0, p.1.place)) (entries_of library.names)
 
 -- the abbreviations of sorts, in order
 abbrev pub abbreviations_of : SortNames → List (List ℕ × Sort)
-abbreviations_of sorts = map (λ p. (p.0.items, p.1)) sorts.abbreviations.entries
+abbreviations_of sorts = entries_of sorts.abbreviations
 
 -- what names sorts
 abbrev pub sort_names : SortNames → trees.SortNames

@@ -14,7 +14,7 @@ use Rattle.smt_terms.specs.Internal.TableView.{AreNamed, IsReady, places_seen, r
 use Rattle.smt_terms.specs.Internal.TableView.{table_in, table_of}
 use Rattle.smt_terms.specs.declared.labels.Labels.{Labels}
 use Rattle.smt_terms.specs.declared.library.Library.{Library}
-use Rattle.smt_terms.specs.declared.library.draft.Checked.{Checked}
+use Rattle.smt_terms.specs.declared.library.draft.CheckedTerm.{CheckedTerm}
 use Rattle.smt_terms.specs.declared.library.draft.Draft.{Draft}
 
 -- no name in force is a plain operator's
@@ -27,9 +27,9 @@ abbrev pub IsNodeOf : Library → Identifier → List Sort → List ℕ → Node
 IsNodeOf library f sorts args node = AreFree (table_of library) → length args ≡ length sorts
     → node_of (table_of library) f args ≡ Some node
 
--- a node of a sort, without annotations
-abbrev pub bare_row : Node → Sort → Row
-bare_row node sort = record { node = node; sort = sort; around = 0 }
+-- a node without annotations
+abbrev pub bare_row : Node → Row
+bare_row node = record { node = node; around = 0 }
 
 -- the nodes of the labels that were given
 abbrev pub nodes_given : Labels → List ℕ
@@ -40,14 +40,14 @@ abbrev pub GrowsTo : (old new : Draft) → Type 0
 GrowsTo old new = (library : Library) → IsLonger (table_in library old) (table_in library new)
 
 -- the answer is this node, which is added alone, where the draft's nodes stand behind those of a table
-pub record AddsNode (before : Nodes) (old new : Draft) (node : Node) (c : Checked) : Type 0 where
-  pub rows : rows_behind before new ≡ rows_behind before old ++ bare_row node c.sort ∷ []
+pub record AddsNode (before : Nodes) (old new : Draft) (node : Node) (c : CheckedTerm) : Type 0 where
+  pub rows : rows_behind before new ≡ rows_behind before old ++ bare_row node ∷ []
   pub number : c.node ≡ length (rows_behind before old)
   pub labels : new.labels ≡ old.labels
 
 -- the answer is the node of an identifier applied to these arguments, which is added alone
 pub record AddsApplied (library : Library) (old new : Draft) (f : Identifier) (sorts : List Sort)
-    (args : List ℕ) (c : Checked) : Type 0 where
+    (args : List ℕ) (c : CheckedTerm) : Type 0 where
   pub node : Node
   pub added : AddsNode library.nodes old new node c
   pub is : IsNodeOf library f sorts args node
@@ -67,7 +67,7 @@ KeepsNamed library old new = IsReady (table_in library old)
 
 -- the node that was found is one of the draft's own, and stands for the term, unless that uses a variable from
 -- outside
-pub record Stands (library : Library) (old new : Draft) (term : Sexp) (c : Checked) : Type 0 where
+pub record Stands (library : Library) (old new : Draft) (term : Sexp) (c : CheckedTerm) : Type 0 where
   pub own : length (rows_of library.nodes) ≤ c.node
   pub number : c.node < length (rows_in library new)
   pub denotes : IsReady (table_in library old) → c.is_open ≡ false

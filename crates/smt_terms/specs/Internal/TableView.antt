@@ -1,5 +1,6 @@
 -- The table of terms that a library holds, where labels may have been given.
 use Rattle.std.specs.Prelude.{◌≡◌, ◌<◌, ◌-◌, ℕ, List, [], ◌∷◌, ◌++◌, Some, length, map, slice_get, false}
+use Rattle.smt_names.specs.Entries.{entries_of}
 use Rattle.smt_nodes.specs.Node.{Row}
 use Rattle.smt_nodes.specs.Nodes.{rows_of}
 use Rattle.smt_nodes.specs.declared.table.Nodes.{Nodes}
@@ -21,7 +22,7 @@ head_of e = record { place = e.place; arity = length e.parameters.items }
 
 -- the names in order, with where they stand, and how many arguments they take
 abbrev pub heads_of_library : Library → List (List ℕ × Head)
-heads_of_library library = map (λ p. (p.0.items, head_of p.1)) library.names.entries
+heads_of_library library = map (λ p. (p.0, head_of p.1)) (entries_of library.names)
 
 abbrev pub table_of : Library → Table
 table_of library = record {

@@ -23,7 +23,7 @@ ghost use Rattle.smt_faults.specs.Outcome.{IsOutcome};
 use crate::labels::Labels;
 use crate::library::Library;
 use crate::library::checker::FEW;
-use crate::library::draft::{Checked, Draft};
+use crate::library::draft::{CheckedTerm, Draft};
 use crate::library::scope::push_variable;
 use smallvec::SmallVec;
 use smt_faults::TermFault;
@@ -40,7 +40,7 @@ impl Library {
         &self,
         draft: &mut Draft<'a>,
         args: &'a [Tree],
-    ) -> Result<Checked, TermFault>
+    ) -> Result<CheckedTerm, TermFault>
         requires { IsPlaced (seen_by draft.old) draft.old.base }
         ensures sort { HasSort self.now draft.old (Items (Cons (Reserved Let) (sexps_of args.now))) result }
         ensures labels { GivesLabels self.now draft.old draft.new
@@ -119,7 +119,7 @@ impl Library {
         &self,
         draft: &mut Draft<'a>,
         args: &'a [Tree],
-    ) -> Result<Checked, TermFault>
+    ) -> Result<CheckedTerm, TermFault>
         requires { IsPlaced (seen_by draft.old) draft.old.base }
         ensures sort { HasSort self.now draft.old (Items (Cons (Reserved Bang) (sexps_of args.now))) result }
         ensures labels { GivesLabels self.now draft.old draft.new
@@ -153,7 +153,7 @@ impl Library {
         draft: &mut Draft<'a>,
         term: &'a Tree,
         attributes: &'a [Tree],
-    ) -> Result<Checked, TermFault>
+    ) -> Result<CheckedTerm, TermFault>
         requires placed { IsPlaced (seen_by draft.old) draft.old.base }
         requires form { bindings.are_attributes (sexps_of attributes.now) ≡ true }
         requires labelled { has_labels (labels_among (sexps_of attributes.now)) ≡ true }
@@ -187,7 +187,7 @@ impl Library {
         &self,
         labels: &mut Labels<'a>,
         term: &'a Tree,
-        checked: &Checked,
+        checked: &CheckedTerm,
         attributes: &'a [Tree],
     ) -> Result<(), TermFault>
         requires { IsSortedUnlessOpen self.now checked.now (sexp_of term.now) }
@@ -216,7 +216,7 @@ impl Library {
         &self,
         labels: &mut Labels<'a>,
         term: &'a Tree,
-        checked: &Checked,
+        checked: &CheckedTerm,
         tree: &'a Tree,
         rest: &'a [Tree],
     ) -> Result<(), TermFault>
@@ -243,7 +243,7 @@ impl Library {
         &self,
         labels: &mut Labels<'a>,
         term: &'a Tree,
-        checked: &Checked,
+        checked: &CheckedTerm,
         name: &'a [u8],
     ) -> Result<(), TermFault>
         requires { IsSortedUnlessOpen self.now checked.now (sexp_of term.now) }

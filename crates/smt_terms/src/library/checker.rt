@@ -28,7 +28,7 @@ ghost use Rattle.smt_terms.specs.Internal.TableView.{head_of};
 ghost use Rattle.smt_terms.specs.SortTrees.{bit_vectors, integers};
 ghost use Rattle.smt_faults.specs.Outcome.{IsOutcome};
 
-use crate::library::draft::{Bound, Checked, Draft};
+use crate::library::draft::{Bound, CheckedTerm, Draft};
 use crate::library::{Entry, Found, Library};
 use crate::sorts;
 use smallvec::SmallVec;
@@ -52,7 +52,7 @@ impl Library {
         &self,
         draft: &mut Draft<'a>,
         term: &'a Tree,
-    ) -> Result<Checked, TermFault>
+    ) -> Result<CheckedTerm, TermFault>
         requires { IsPlaced (seen_by draft.old) draft.old.base }
         ensures sort { HasSort self.now draft.old (sexp_of term.now) result }
         ensures labels { GivesLabels self.now draft.old draft.new (sexp_of term.now) result }
@@ -69,7 +69,11 @@ impl Library {
 
     // The same, out of line: most terms are symbols.
     #[cycle(check)]
-    fn sort_of_other<'a>(&self, draft: &mut Draft<'a>, term: &'a Tree) -> Result<Checked, TermFault>
+    fn sort_of_other<'a>(
+        &self,
+        draft: &mut Draft<'a>,
+        term: &'a Tree,
+    ) -> Result<CheckedTerm, TermFault>
         requires { IsPlaced (seen_by draft.old) draft.old.base }
         ensures sort { HasSort self.now draft.old (sexp_of term.now) result }
         ensures labels { GivesLabels self.now draft.old draft.new (sexp_of term.now) result }
@@ -91,7 +95,7 @@ impl Library {
 
     // The sort of a numeral, whose node is added. (The toolchain proves a function that lends a node only if it
     // names the type of nodes' numbers: hence the empty list, here and below.)
-    fn push_numeral(&self, draft: &mut Draft<'_>, digits: &[u8]) -> Result<Checked, TermFault>
+    fn push_numeral(&self, draft: &mut Draft<'_>, digits: &[u8]) -> Result<CheckedTerm, TermFault>
         ensures sort { IsOutcome (λ c. c.sort) (integers (names_of_library self.now).theories) result }
         ensures open { IfOk result (λ c. c.is_open ≡ false) }
         ensures node { IfOk result (Stands self.now draft.old draft.new (Atom Numeral digits.now)) }
@@ -110,7 +114,7 @@ impl Library {
     }
 
     // The sort of a hexadecimal literal, whose node is added.
-    fn push_hex(&self, draft: &mut Draft<'_>, digits: &[u8]) -> Result<Checked, TermFault>
+    fn push_hex(&self, draft: &mut Draft<'_>, digits: &[u8]) -> Result<CheckedTerm, TermFault>
         ensures sort { IsOutcome (λ c. c.sort) (bit_vectors (names_of_library self.now).theories
             (width_of (4 * length digits.now))) result }
         ensures open { IfOk result (λ c. c.is_open ≡ false) }
@@ -130,7 +134,7 @@ impl Library {
     }
 
     // The sort of a binary literal, whose node is added.
-    fn push_bin(&self, draft: &mut Draft<'_>, digits: &[u8]) -> Result<Checked, TermFault>
+    fn push_bin(&self, draft: &mut Draft<'_>, digits: &[u8]) -> Result<CheckedTerm, TermFault>
         ensures sort { IsOutcome (λ c. c.sort) (bit_vectors (names_of_library self.now).theories
             (width_of (1 * length digits.now))) result }
         ensures open { IfOk result (λ c. c.is_open ≡ false) }
@@ -173,7 +177,7 @@ impl Library {
         &self,
         draft: &mut Draft<'a>,
         parts: &'a Trees,
-    ) -> Result<Checked, TermFault>
+    ) -> Result<CheckedTerm, TermFault>
         requires { IsPlaced (seen_by draft.old) draft.old.base }
         ensures sort { HasSort self.now draft.old (Items parts.now) result }
         ensures labels { GivesLabels self.now draft.old draft.new (Items parts.now) result }
@@ -246,7 +250,7 @@ impl Library {
     // The sort and the node of a symbol alone: those of a variable, or else of a name or an operator without
     // arguments.
     #[inline(always)]
-    fn sort_of_symbol(&self, draft: &mut Draft<'_>, name: &[u8]) -> Result<Checked, TermFault>
+    fn sort_of_symbol(&self, draft: &mut Draft<'_>, name: &[u8]) -> Result<CheckedTerm, TermFault>
         requires { IsPlaced (seen_by draft.old) draft.old.base }
         ensures sort { IsOutcome (λ c. c.sort) (checking.sort_of_symbol (names_of_library self.now) name.now
             (look_up (sorts_seen draft.old) name.now)) result }
@@ -277,7 +281,7 @@ impl Library {
         sorts: &[Sort],
         args: &[TermId],
         is_open: bool,
-    ) -> Result<Checked, TermFault>
+    ) -> Result<CheckedTerm, TermFault>
         ensures sort { IsOutcome (λ c. c.sort) (checking.sort_of_call (names_of_library self.now)
             (sorts_seen draft.old) (identifier_view identifier.now) sorts.now) result }
         ensures open { IfOk result (λ c. c.is_open ≡ is_open) }
@@ -303,7 +307,7 @@ impl Library {
         sorts: &[Sort],
         args: &[TermId],
         is_open: bool,
-    ) -> Result<Checked, TermFault>
+    ) -> Result<CheckedTerm, TermFault>
         ensures sort { IsOutcome (λ c. c.sort) (checking.sort_applied (names_of_library self.now)
             (identifier_view identifier.now) sorts.now) result }
         ensures open { IfOk result (λ c. c.is_open ≡ is_open) }
@@ -455,7 +459,7 @@ fn push_literal(
     draft: &mut Draft<'_>,
     node: &Node<'_>,
     sort: Result<Sort, TermFlaw>,
-) -> Result<Checked, TermFault>
+) -> Result<CheckedTerm, TermFault>
     ensures sort { IsOutcome (λ c. c.sort) sort result }
     ensures open { IfOk result (λ c. c.is_open ≡ false) }
     ensures added { IfOk result (λ c. AddsNode before.now draft.old draft.new (node_view node.now) c) }

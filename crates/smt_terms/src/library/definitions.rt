@@ -1,5 +1,5 @@
 //! Definitions of names, by a script or by a model: the body is checked, and the name added. Whether a name
-//! is fresh is said in `freshness`.
+//! is fresh is said in `freshness`; this file knows nothing of commands and models.
 
 ghost use Rattle.std.specs.Prelude.{◌≡◌, ◌⊎◌, ◌∷◌, ◌++◌, ◌-◌, ℕ, List, [], None, Ok, Err, length, map, take};
 ghost use Rattle.std.specs.Prelude.{OnOk, OnErr, IfErr, false};

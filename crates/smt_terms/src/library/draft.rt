@@ -38,7 +38,7 @@ pub(crate) struct Draft<'a> {
 /// What was found of a term: its sort, its node, and whether it uses a variable that stands outside; then the
 /// node stands for nothing.
 #[derive(Clone, Copy)]
-pub(crate) struct Checked {
+pub(crate) struct CheckedTerm {
     pub(crate) sort: Sort,
     pub(crate) node: TermId,
     pub(crate) is_open: bool,
@@ -101,7 +101,7 @@ impl<'a> Draft<'a> {
         node: &Node<'_>,
         sort: &Sort,
         is_open: bool,
-    ) -> Result<Checked, Memory>
+    ) -> Result<CheckedTerm, Memory>
         ensures sort { IfOk result (λ c. c.sort ≡ sort.now) }
         ensures open { IfOk result (λ c. c.is_open ≡ is_open) }
         ensures added { IfOk result (λ c. AddsNode before.now self.old self.new (node_view node.now) c) }
@@ -110,9 +110,9 @@ impl<'a> Draft<'a> {
         ensures base { self.new.base ≡ self.old.base }
         ensures labels { self.new.labels ≡ self.old.labels }
     {
-        let own = self.nodes.push(node, *sort)?;
+        let own = self.nodes.push(node)?;
         let node = own.behind(before.len())?;
-        Ok(Checked {
+        Ok(CheckedTerm {
             sort: *sort,
             node,
             is_open,
@@ -120,7 +120,11 @@ impl<'a> Draft<'a> {
     }
 
     /// Adds the node of a term of this draft with one annotation more round it, behind the nodes of a table.
-    pub(crate) fn annotate(&mut self, before: &Nodes, term: Checked) -> Result<Checked, Memory>
+    pub(crate) fn annotate(
+        &mut self,
+        before: &Nodes,
+        term: CheckedTerm,
+    ) -> Result<CheckedTerm, Memory>
         requires own { length (rows_of before.now) ≤ term.node }
         requires below { term.node < length (rows_behind before.now self.old) }
         ensures sort { IfOk result (λ c. c.sort ≡ term.sort) }
@@ -134,7 +138,7 @@ impl<'a> Draft<'a> {
         let count = before.len();
         let own = self.nodes.annotate(term.node.after(count))?;
         let node = own.behind(count)?;
-        Ok(Checked {
+        Ok(CheckedTerm {
             sort: term.sort,
             node,
             is_open: term.is_open,

@@ -24,7 +24,7 @@ impl Library {
     }
 
     // Whether a name stands for something.
-    fn has_entry(&self, name: &[u8]) -> bool
+    pub(super) fn has_entry(&self, name: &[u8]) -> bool
         ensures { result ≡ is_some (look_up (names_of_library self.now).ranks name.now) }
     {
         self.get(name).is_some()
@@ -61,7 +61,7 @@ impl Library {
     }
 
     // Whether a command declared the name.
-    fn is_declared(&self, name: &[u8]) -> bool
+    pub(super) fn is_declared(&self, name: &[u8]) -> bool
         ensures { (s : Signature) → StandsFor self.now s
             → result ≡ is_some (declared_named s.entries name.now) }
     {

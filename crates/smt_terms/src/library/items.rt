@@ -1,18 +1,20 @@
 //! Items of models: what an item may define beside the names of a script. This file knows no values, and not
 //! which names a model lacks.
 
-ghost use Rattle.std.specs.Prelude.{◌≡◌, ◌&&◌, map, option_map, None, Some, Ok, Err, OnOk, OnErr, IfErr};
+ghost use Rattle.std.specs.Prelude.{◌≡◌, ◌&&◌, map, option_map, None, Some, Ok, Err, Option, OnOk, OnErr, IfErr};
 ghost use Rattle.std.specs.Prelude.{IfOk};
 ghost use Rattle.smt_trees.specs.Tree.{sexp_of};
 ghost use Rattle.smt_theory.specs.Ranks.{are_exactly};
 ghost use Rattle.smt_theory.specs.Sort.{is_same_sort};
 ghost use Rattle.smt_terms.specs.Contents.{Extends, contents_of};
 ghost use Rattle.smt_terms.specs.Internal.LibraryView.{rank_of};
-ghost use Rattle.smt_terms.specs.Items.{has_rank_of, item_in};
+ghost use Rattle.smt_forms.specs.ItemView.{item_view};
+ghost use Rattle.smt_terms.specs.Items.{form_in, has_rank_of, item_in, list_of};
 ghost use Rattle.smt_terms.specs.Library.{HasTheoriesOf, IsUnchanged, StandsFor};
 ghost use Rattle.smt_forms.specs.ScopeView.{scope_view};
 ghost use Rattle.smt_terms.specs.Signature as signature;
-ghost use Rattle.smt_terms.specs.Signature.{Signature, declared_named, no_names, rank_of_entry, with_entry};
+ghost use Rattle.smt_terms.specs.Signature.{Signature, declared_named, no_names, rank_of_entry};
+ghost use Rattle.smt_terms.specs.Signature.{with_entries, with_entry};
 ghost use Rattle.smt_faults.specs.Outcome.{Tells};
 
 use crate::library::checker::are_same;
@@ -20,7 +22,7 @@ use crate::library::params::{sorted_params_of, sorts_of_variables};
 use crate::library::{Entry, Found, Library};
 use crate::sorts::are_equal;
 use smt_faults::{Memory, TermFault};
-use smt_forms::{Variable, item_form};
+use smt_forms::{ItemForm, Variable, item_form};
 use smt_theory::Sort;
 use smt_trees::Tree;
 
@@ -46,12 +48,16 @@ impl Library {
     /// fault; another rank than the declared one (`IllSorted`); a body with a fault over the earlier items
     /// and the parameters, with the first (any label is one); a body of another sort (`IllSorted`). Then, and
     /// where memory is refused (`Memory`), no name is added; a term that nothing names may be.
+    ///
+    /// In the wide profile an item of a name that the script defines, by a definition or a label, is set aside:
+    /// nothing is added, and its body is not looked at. It is refused for its form, its parameters and its sort
+    /// like others, and for another rank than the definition's (`IllSorted`).
     #[tactic(auto, using(crate::proofs::ContentsLemmas::extends_itself))]
     pub fn define_item(&mut self, script: &Library, item: &Tree) -> Result<(), TermFault>
         requires { HasTheoriesOf self.old script.now }
         ensures defined { OnOk result ((s m : Signature) → StandsFor script.now s → StandsFor self.old m
-            → (e : signature.Entry) × (item_in s m.entries (sexp_of item.now) ≡ Ok e)
-            × StandsFor self.new (with_entry m e)) }
+            → (o : Option signature.Entry) × (item_in s m.entries (sexp_of item.now) ≡ Ok o)
+            × StandsFor self.new (with_entries m (list_of o))) }
         ensures refused { IfErr result
             (λ fault. (s m : Signature) → StandsFor script.now s → StandsFor self.old m
             → Tells (item_in s m.entries (sexp_of item.now)) fault) }
@@ -60,6 +66,27 @@ impl Library {
         ensures theories { HasTheoriesOf self.new script.now }
     {
         let form = item_form(item)?;
+        if script.sets_aside(form.name) {
+            script.check_repeated(form)
+        } else {
+            self.add_item(script, form)
+        }
+    }
+
+    // Adds what an item of these parts defines, or changes no name.
+    #[tactic(auto, using(crate::proofs::ContentsLemmas::extends_itself))]
+    fn add_item(&mut self, script: &Library, form: ItemForm<'_>) -> Result<(), TermFault>
+        requires { HasTheoriesOf self.old script.now }
+        ensures defined { OnOk result ((s m : Signature) → StandsFor script.now s → StandsFor self.old m
+            → (e : signature.Entry) × (form_in s m.entries (item_view form.entry) ≡ Ok e)
+            × StandsFor self.new (with_entry m e)) }
+        ensures refused { IfErr result
+            (λ fault. (s m : Signature) → StandsFor script.now s → StandsFor self.old m
+            → Tells (form_in s m.entries (item_view form.entry)) fault) }
+        ensures unchanged { OnErr result (IsUnchanged self.old self.new) }
+        ensures grown { Extends (contents_of self.old) (contents_of self.new) }
+        ensures theories { HasTheoriesOf self.new script.now }
+    {
         self.check_name(script, form.name)?;
         let parameters = sorted_params_of(self.alloc, &script.sorts, form.parameters)?;
         let sort = script.sorts.sort_of(form.sort)?;
@@ -113,7 +140,7 @@ impl Library {
 }
 
 // Whether a name stands for a function of this rank.
-fn has_rank(entry: &Entry, parameters: &[Sort], sort: Sort) -> bool
+pub(super) fn has_rank(entry: &Entry, parameters: &[Sort], sort: Sort) -> bool
     ensures { result ≡ are_exactly entry.now.parameters.items parameters.now
         && is_same_sort entry.now.sort sort }
 {

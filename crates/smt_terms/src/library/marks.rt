@@ -1,4 +1,5 @@
-//! Marks, which say how much a library held, and to which it can be cut again.
+//! Marks, which say how much a library held, and to which it can be cut again. This file adds nothing, and reads no
+//! tree.
 
 ghost use Rattle.std.specs.Prelude.{◌≡◌};
 ghost use Rattle.smt_terms.specs.declared.library.marks.Mark as declared;

@@ -8,8 +8,8 @@ use Rattle.smt_faults.specs.declared.text_flaw.TextFlaw.TheVariants.{End}
 use Rattle.smt_text.specs.declared.refusal.Refusal.{Refusal}
 use Rattle.smt_text.specs.declared.reader.TheConstants.{MAX_DEPTH}
 use Rattle.smt_text.specs.Internal.OpenLists.{lists_of}
-use Rattle.smt_text.specs.Internal.Machine.{Leaves, Levels, On, State, At, blame, depth_in, finished, lex}
-use Rattle.smt_text.specs.Internal.Machine.{levels_in, may_end, refusal_of, run, separated, step, token_in}
+use Rattle.smt_text.specs.Internal.LexerStates.{Leaves, Levels, On, State, At, blame, depth_in, finished, lex}
+use Rattle.smt_text.specs.Internal.LexerStates.{levels_in, may_end, refusal_of, run, separated, step, token_in}
 use Rattle.smt_text.specs.Lexical.{ends_token}
 use Rattle.smt_text.specs.declared.lexer.AtomState.{AtomState}
 use Rattle.smt_text.specs.declared.lexer.LexerStep.TheVariants.{Push}

@@ -5,7 +5,7 @@ ghost use Rattle.std.specs.Prelude.{◌≡◌, ◌↔◌, ℕ, List, [], ◌∷�
 ghost use Rattle.std.specs.Prelude.{◌⊎◌, codes};
 ghost use Rattle.smt_theory.specs.Index.{Number};
 ghost use Rattle.smt_theory.specs.Operators.{op_by};
-ghost use Rattle.smt_theory.specs.Theories.{theories_named};
+ghost use Rattle.smt_theory.specs.Theories.{AreWideLogicsOf, all_theories, theories_named};
 ghost use Rattle.smt_theory.specs.declared.op.Arithmetic.TheVariants as arithmetic;
 ghost use Rattle.smt_theory.specs.declared.op.BitsBinary.TheVariants as binary;
 ghost use Rattle.smt_theory.specs.declared.op.BitsComparison.TheVariants as compare;
@@ -19,16 +19,18 @@ ghost use Rattle.smt_theory.specs.declared.op.CoreOp.TheVariants as core;
 ghost use Rattle.smt_theory.specs.declared.op.IntsOp.{IntsOp};
 ghost use Rattle.smt_theory.specs.declared.op.IntsOp.TheVariants as ints;
 ghost use Rattle.smt_theory.specs.declared.op.Op.TheVariants.{Core, Ints, Bits};
+ghost use Rattle.smt_theory.specs.declared.profile.Profile.TheVariants.{Base, Wide};
+ghost use Rattle.smt_theory.specs.declared.theories.Theories.{Theories};
 
 /// What a symbol without indexes is, of the theories Core and Ints (SMT-LIB 2.6).
 pub fn plain_names_are_the_standards()
-    ensures core { All (λ (row : List ℕ × CoreOp). op_by record { ints = true; bits = true } row.0 []
+    ensures core { All (λ (row : List ℕ × CoreOp). op_by (all_theories Base) row.0 []
         ≡ Ok (Core row.1))
         ((codes "true", core.True) ∷ (codes "false", core.False) ∷ (codes "not", core.Not)
         ∷ (codes "and", core.And) ∷ (codes "or", core.Or) ∷ (codes "xor", core.Xor)
         ∷ (codes "=>", core.Implies) ∷ (codes "=", core.Equal) ∷ (codes "distinct", core.Distinct)
         ∷ (codes "ite", core.Ite) ∷ []) }
-    ensures ints { All (λ (row : List ℕ × IntsOp). op_by record { ints = true; bits = true } row.0 []
+    ensures ints { All (λ (row : List ℕ × IntsOp). op_by (all_theories Base) row.0 []
         ≡ Ok (Ints row.1))
         ((codes "+", ints.Arithmetic arithmetic.Plus) ∷ (codes "-", ints.Arithmetic arithmetic.Minus)
         ∷ (codes "*", ints.Arithmetic arithmetic.Times) ∷ (codes "div", ints.Arithmetic arithmetic.Div)
@@ -41,7 +43,7 @@ pub fn plain_names_are_the_standards()
 /// What a symbol without indexes is, of the operators on bit vectors (SMT-LIB 2.6, theory
 /// FixedSizeBitVectors and logic QF_BV).
 pub fn plain_names_of_vectors_are_the_standards()
-    ensures arithmetic { All (λ (row : List ℕ × BitsOp). op_by record { ints = true; bits = true } row.0 []
+    ensures arithmetic { All (λ (row : List ℕ × BitsOp). op_by (all_theories Base) row.0 []
         ≡ Ok (Bits row.1))
         ((codes "bvadd", bits.Folded folded.Add) ∷ (codes "bvsub", bits.Binary binary.Subtract)
         ∷ (codes "bvneg", bits.Unary unary.Negate) ∷ (codes "bvmul", bits.Folded folded.Multiply)
@@ -50,7 +52,7 @@ pub fn plain_names_of_vectors_are_the_standards()
         ∷ (codes "bvsdiv", bits.Binary binary.DivideSigned)
         ∷ (codes "bvsrem", bits.Binary binary.RemainderSigned)
         ∷ (codes "bvsmod", bits.Binary binary.ModuloSigned) ∷ []) }
-    ensures bitwise { All (λ (row : List ℕ × BitsOp). op_by record { ints = true; bits = true } row.0 []
+    ensures bitwise { All (λ (row : List ℕ × BitsOp). op_by (all_theories Base) row.0 []
         ≡ Ok (Bits row.1))
         ((codes "bvnot", bits.Unary unary.Not) ∷ (codes "bvand", bits.Folded folded.And)
         ∷ (codes "bvnand", bits.Binary binary.Nand) ∷ (codes "bvor", bits.Folded folded.Or)
@@ -58,7 +60,7 @@ pub fn plain_names_of_vectors_are_the_standards()
         ∷ (codes "bvxnor", bits.Binary binary.Xnor) ∷ (codes "bvshl", bits.Binary binary.ShiftLeft)
         ∷ (codes "bvlshr", bits.Binary binary.ShiftRight)
         ∷ (codes "bvashr", bits.Binary binary.ShiftRightSigned) ∷ (codes "concat", bits.Concat) ∷ []) }
-    ensures comparisons { All (λ (row : List ℕ × BitsOp). op_by record { ints = true; bits = true } row.0 []
+    ensures comparisons { All (λ (row : List ℕ × BitsOp). op_by (all_theories Base) row.0 []
         ≡ Ok (Bits row.1))
         ((codes "bvult", bits.Comparison compare.UnsignedLess)
         ∷ (codes "bvule", bits.Comparison compare.UnsignedAtMost)
@@ -72,28 +74,104 @@ pub fn plain_names_of_vectors_are_the_standards()
 
 /// What a symbol with indexes is (SMT-LIB 2.6, theory Ints and logic QF_BV).
 pub fn indexed_names_are_the_standards()
-    ensures divisible { op_by record { ints = true; bits = true } (codes "divisible") (Number 3 ∷ [])
+    ensures divisible { op_by (all_theories Base) (codes "divisible") (Number 3 ∷ [])
         ≡ Ok (Ints (ints.Divisible 3)) }
-    ensures extract { op_by record { ints = true; bits = true } (codes "extract") (Number 7 ∷ Number 4 ∷ [])
+    ensures extract { op_by (all_theories Base) (codes "extract") (Number 7 ∷ Number 4 ∷ [])
         ≡ Ok (Bits (bits.Extract 7 4)) }
-    ensures constant { op_by record { ints = true; bits = true } (codes "bv10") (Number 4 ∷ [])
+    ensures constant { op_by (all_theories Base) (codes "bv10") (Number 4 ∷ [])
         ≡ Ok (Bits (bits.Constant 10 4)) }
-    ensures by_one { All (λ (row : List ℕ × BitsOp). op_by record { ints = true; bits = true } row.0
+    ensures by_one { All (λ (row : List ℕ × BitsOp). op_by (all_theories Base) row.0
         (Number 3 ∷ []) ≡ Ok (Bits row.1))
         ((codes "repeat", bits.Repeat 3) ∷ (codes "zero_extend", bits.ZeroExtend 3)
         ∷ (codes "sign_extend", bits.SignExtend 3) ∷ (codes "rotate_left", bits.RotateLeft 3)
         ∷ (codes "rotate_right", bits.RotateRight 3) ∷ []) }
 {}
 
-/// Which logics have these theories, and no others: which are supported is this project's own choice.
+/// Which logics of the profile Base have these theories, and no others: which are supported is this project's
+/// own choice.
 pub fn logics_are_those_of_their_theories()
-    ensures core { (logic : List ℕ) → (theories_named logic ≡ Some record { ints = false; bits = false })
+    ensures core { (logic : List ℕ) → (theories_named Base logic
+        ≡ Some record { ints = false; bits = false; reals = false; arrays = false; wide = false })
         ↔ (logic ≡ codes "QF_UF") }
-    ensures ints { (logic : List ℕ) → (theories_named logic ≡ Some record { ints = true; bits = false })
+    ensures ints { (logic : List ℕ) → (theories_named Base logic
+        ≡ Some record { ints = true; bits = false; reals = false; arrays = false; wide = false })
         ↔ ((logic ≡ codes "QF_LIA") ⊎ (logic ≡ codes "QF_NIA") ⊎ (logic ≡ codes "QF_IDL")
         ⊎ (logic ≡ codes "QF_UFLIA") ⊎ (logic ≡ codes "QF_UFNIA") ⊎ (logic ≡ codes "QF_UFIDL")) }
-    ensures bits { (logic : List ℕ) → (theories_named logic ≡ Some record { ints = false; bits = true })
+    ensures bits { (logic : List ℕ) → (theories_named Base logic
+        ≡ Some record { ints = false; bits = true; reals = false; arrays = false; wide = false })
         ↔ ((logic ≡ codes "QF_BV") ⊎ (logic ≡ codes "QF_UFBV")) }
-    ensures all { (logic : List ℕ) → (theories_named logic ≡ Some record { ints = true; bits = true })
+    ensures all { (logic : List ℕ) → (theories_named Base logic
+        ≡ Some record { ints = true; bits = true; reals = false; arrays = false; wide = false })
         ↔ (logic ≡ codes "ALL") }
+{}
+
+/// Which logics of the profile Wide have these theories, and no others, where there are no arrays.
+pub fn wide_logics_are_those_of_their_theories()
+    ensures core { AreWideLogicsOf
+        (record { ints = false; bits = false; reals = false; arrays = false; wide = true })
+        (codes "UF" ∷ codes "DT" ∷ codes "UFDT" ∷ []) }
+    ensures ints { AreWideLogicsOf
+        (record { ints = true; bits = false; reals = false; arrays = false; wide = true })
+        (codes "IDL" ∷ codes "LIA" ∷ codes "NIA" ∷ codes "UFIDL" ∷ codes "UFLIA" ∷ codes "UFNIA"
+        ∷ codes "UFDTLIA" ∷ codes "UFDTNIA" ∷ []) }
+    ensures reals { AreWideLogicsOf
+        (record { ints = false; bits = false; reals = true; arrays = false; wide = true })
+        (codes "RDL" ∷ codes "LRA" ∷ codes "NRA" ∷ codes "UFRDL" ∷ codes "UFLRA" ∷ codes "UFNRA"
+        ∷ []) }
+    ensures ints_and_reals { AreWideLogicsOf
+        (record { ints = true; bits = false; reals = true; arrays = false; wide = true })
+        (codes "LIRA" ∷ codes "NIRA" ∷ codes "UFLIRA" ∷ codes "UFNIRA" ∷ codes "UFDTLIRA"
+        ∷ codes "UFDTNIRA" ∷ []) }
+    ensures bits { AreWideLogicsOf
+        (record { ints = false; bits = true; reals = false; arrays = false; wide = true })
+        (codes "BV" ∷ codes "UFBV" ∷ codes "UFBVDT" ∷ []) }
+    ensures bits_and_ints { AreWideLogicsOf
+        (record { ints = true; bits = true; reals = false; arrays = false; wide = true })
+        (codes "BVLIA" ∷ codes "BVNIA" ∷ codes "UFBVLIA" ∷ codes "UFBVNIA" ∷ []) }
+{}
+
+/// Which logics of the profile Wide have these theories, and no others, where there are arrays.
+pub fn wide_logics_of_arrays_are_those_of_their_theories()
+    ensures arrays { AreWideLogicsOf
+        (record { ints = false; bits = false; reals = false; arrays = true; wide = true })
+        (codes "AX" ∷ []) }
+    ensures ints { AreWideLogicsOf
+        (record { ints = true; bits = false; reals = false; arrays = true; wide = true })
+        (codes "ALIA" ∷ codes "ANIA" ∷ codes "AUFLIA" ∷ codes "AUFNIA" ∷ codes "AUFDTLIA"
+        ∷ codes "AUFDTNIA" ∷ []) }
+    ensures reals { AreWideLogicsOf
+        (record { ints = false; bits = false; reals = true; arrays = true; wide = true })
+        (codes "ALRA" ∷ codes "ANRA" ∷ codes "AUFLRA" ∷ codes "AUFNRA" ∷ []) }
+    ensures ints_and_reals { AreWideLogicsOf
+        (record { ints = true; bits = false; reals = true; arrays = true; wide = true })
+        (codes "ALIRA" ∷ codes "ANIRA" ∷ codes "AUFLIRA" ∷ codes "AUFNIRA" ∷ codes "AUFDTLIRA"
+        ∷ codes "AUFDTNIRA" ∷ []) }
+    ensures bits { AreWideLogicsOf
+        (record { ints = false; bits = true; reals = false; arrays = true; wide = true })
+        (codes "ABV" ∷ codes "AUFBV" ∷ codes "AUFBVDT" ∷ []) }
+    ensures bits_and_ints { AreWideLogicsOf
+        (record { ints = true; bits = true; reals = false; arrays = true; wide = true })
+        (codes "ABVLIA" ∷ codes "AUFBVLIA" ∷ codes "AUFBVNIA" ∷ codes "AUFBVDTLIA"
+        ∷ codes "AUFBVDTNIA" ∷ []) }
+    ensures all { AreWideLogicsOf
+        (record { ints = true; bits = true; reals = true; arrays = true; wide = true })
+        (codes "ALL" ∷ codes "ALL_SUPPORTED" ∷ codes "AUFBVDTNIRA" ∷ []) }
+{}
+
+/// In the profile Base there are neither reals nor arrays, and nothing is wide; in the profile Wide all is.
+pub fn base_has_no_wide_names()
+    ensures logics { (logic : List ℕ) (theories : Theories) → theories_named Base logic ≡ Some theories
+        → (theories.reals ≡ false) × (theories.arrays ≡ false) × (theories.wide ≡ false) }
+    ensures all { ((all_theories Base).reals ≡ false) × ((all_theories Base).arrays ≡ false)
+        × ((all_theories Base).wide ≡ false) }
+    ensures wide { (logic : List ℕ) (theories : Theories) → theories_named Wide logic ≡ Some theories
+        → theories.wide ≡ true }
+    ensures all_wide { (all_theories Wide).wide ≡ true }
+{}
+
+/// A logic that the profile Base takes the profile Wide takes too, with the same integers and bit vectors.
+pub fn wide_takes_the_logics_of_base()
+    ensures { (logic : List ℕ) (theories : Theories) → theories_named Base logic ≡ Some theories
+        → (more : Theories) × (theories_named Wide logic ≡ Some more)
+        × (more.ints ≡ theories.ints) × (more.bits ≡ theories.bits) }
 {}

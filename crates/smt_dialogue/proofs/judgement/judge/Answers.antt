@@ -2,14 +2,15 @@ use Rattle.std.proofs.Common.{◌≡◌, ap, sym, ◌∙◌, subst}
 use Rattle.std.proofs.lemmas.Result.{IfOk-weaker}
 use Rattle.smt_terms.specs.Library.{terms_of}
 use Rattle.smt_script.specs.Stack.{signature_in_force}
+use Rattle.smt_script.specs.StackView.{profile_of}
 use Rattle.smt_dialogue.specs.Internal.Claims.{AreClaimed, claims_in_force, claims_left}
 use Rattle.smt_dialogue.specs.Judgement.{judged_in, judgement_of}
 use Rattle.smt_dialogue.proofs.judgement.judge.Goals as goal
 
 pub returns-in-Ok : goal.returns-in-Ok
 returns-in-Ok c = λ commands stands.
-    let script = signature_in_force commands in
-    let all = claims_in_force commands in
+    let script = signature_in_force (profile_of c.args.stack.now) commands in
+    let all = claims_in_force (profile_of c.args.stack.now) commands in
     let names = c.library-library.ensures.stands commands stands in
     let read = c.in-Ok.ensures.model script names in
     let terms = subst (λ l. AreClaimed (terms_of l) (claims_left c.new-claims.result) all)
@@ -21,7 +22,7 @@ returns-in-Ok c = λ commands stands.
 
 pub judge_read-judgement-requires-clause-fits : goal.judge_read-judgement-requires-clause-fits
 judge_read-judgement-requires-clause-fits c =
-    let script = signature_in_force c.requires.0 in
+    let script = signature_in_force (profile_of c.args.stack.now) c.requires.0 in
     let names = c.library-library.ensures.stands c.requires.0 c.requires.1 in
     let read = c.in-Ok.ensures.model script names in
     record { script = script; definitions = read.0; names = names; holds = read.2 }

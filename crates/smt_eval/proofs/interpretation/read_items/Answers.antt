@@ -1,6 +1,6 @@
-use Rattle.std.proofs.Common.{◌+◌, [], ◌∷◌, ◌++◌, List, drop, Result, ap, sym, ◌∙◌, subst}
+use Rattle.std.proofs.Common.{◌+◌, [], ◌++◌, List, drop, Result, ap, sym, ◌∙◌, subst}
 use Rattle.smt_trees.specs.Tree.{sexp_of, sexps_of}
-use Rattle.smt_terms.specs.Items.{items_before}
+use Rattle.smt_terms.specs.Items.{items_before, list_of}
 use Rattle.smt_terms.specs.Signature.{Entry}
 use Rattle.smt_eval.specs.Internal.ItemFault.{model_fault_of_item}
 use Rattle.smt_eval.specs.Model.{items_from}
@@ -34,7 +34,7 @@ loop-index-preserved c = record {
       items_at c.args.items.now n c.index-items-index.result c.loop-index-test.true c.index-items-index.is
       in
       let made = c.in_default-define_item.ensures.defined s (items_before s i.0) stands i.1 in (
-        i.0 ++ made.0 ∷ [],
+        i.0 ++ list_of made.0,
         made.2,
         i.2 ∙ item_taken s i.0 (n + 1) (sexp_of c.index-items-index.result)
             (sexps_of (drop (n + 1) c.args.items.now)) (sexps_of (drop n c.args.items.now)) made.0 at made.1,

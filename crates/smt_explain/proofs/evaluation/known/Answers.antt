@@ -1,5 +1,7 @@
-use Rattle.std.proofs.Common.{[], refl, true}
+use Rattle.std.proofs.Common.{[], refl, sym}
 use Rattle.std.proofs.lemmas.Result.{IfOk-weaker}
+use Rattle.smt_theory.specs.Theories.{all_theories}
+use Rattle.smt_theory.specs.declared.profile.Profile.TheVariants.{Base}
 use Rattle.smt_eval.specs.PlainTerm.{entries_of}
 use Rattle.smt_explain.proofs.evaluation.known.Goals as goal
 
@@ -7,6 +9,6 @@ pub returns : goal.returns
 returns c =
     IfOk-weaker c.value.result _ _
     (λ v h. h
-    (record { theories = record { ints = true; bits = true }; entries = entries_of c.args.definitions.now; abbreviations = [] })
-    _ (record { theories = refl; definitions = refl; tree = refl }))
+    (record { theories = all_theories Base; entries = entries_of c.args.definitions.now; abbreviations = [] })
+    _ (record { theories = sym c.all_theories.ensures; definitions = refl; tree = refl }))
     c.value.ensures

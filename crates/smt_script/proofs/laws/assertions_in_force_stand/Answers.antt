@@ -9,15 +9,18 @@ use Rattle.smt_script.proofs.laws.assertions_in_force_stand.Goals as goal
 
 pub returns : goal.returns
 returns c = record {
-  stands = λ commands earlier d term s is.
-      let among = part_stands assertion_stands_after Stands assertions_in_words (λ (b : Brought). b.assertions)
+  stands = λ profile commands earlier d term s is.
+      let among = part_stands profile assertion_stands_after Stands (assertions_in_words profile)
+      (λ (b : Brought). b.assertions)
       commands earlier d s s.later s.place in
       (among.0, among.1, among.2 ∙ ap (λ (e : Command). among.0 ++ (assertions_by d.number e ++ among.1)) is);
-  found = λ commands first last a h.
-      let b = part_found assertion_stands_after Stands assertions_in_words (λ (b : Brought). b.assertions)
+  found = λ profile commands first last a h.
+      let b = part_found profile assertion_stands_after Stands (assertions_in_words profile)
+      (λ (b : Brought). b.assertions)
       commands a (first, last, h) in
       let own = asserted_itself b.command.number b.command.command a
       (assertion_or_not b.command.number b.command.command) b.among in
       (b.earlier, b.command, b.standing, own.0, own.1);
-  ordered = brought_in_order assertion_stands_after Stands assertions_in_words (λ (b : Brought). b.assertions);
+  ordered = λ profile. brought_in_order profile assertion_stands_after Stands (assertions_in_words profile)
+      (λ (b : Brought). b.assertions);
 }

@@ -4,8 +4,11 @@ use Rattle.smt_script.proofs.laws.names_in_force_stand.Goals as goal
 
 pub returns : goal.returns
 returns c = record {
-  stands = λ commands earlier d s. part_stands name_stands_after NamesStand names_in_words (λ (b : Brought). b.entries)
+  stands = λ profile commands earlier d s.
+      part_stands profile name_stands_after NamesStand (names_in_words profile) (λ (b : Brought). b.entries)
       commands earlier d s s.later s.place;
-  found = part_found name_stands_after NamesStand names_in_words (λ (b : Brought). b.entries);
-  ordered = brought_in_order name_stands_after NamesStand names_in_words (λ (b : Brought). b.entries);
+  found = λ profile. part_found profile name_stands_after NamesStand (names_in_words profile)
+      (λ (b : Brought). b.entries);
+  ordered = λ profile. brought_in_order profile name_stands_after NamesStand (names_in_words profile)
+      (λ (b : Brought). b.entries);
 }

@@ -3,4 +3,4 @@ use Rattle.smt_text.proofs.laws.complete_trees_stay.Goals as goal
 
 pub returns : goal.returns
 returns c =
-    record { stay = λ limit prefix more xs ys _ a b. faults.complete_trees_stay limit prefix more xs ys a b }
+    record { stay = λ max_depth prefix more xs ys _ a b. faults.complete_trees_stay max_depth prefix more xs ys a b }

@@ -1,5 +1,5 @@
 use Rattle.std.proofs.Common.{◌∙◌, sym, ap, length}
-use Rattle.smt_text.specs.Internal.Machine.{find_word, words_like}
+use Rattle.smt_text.specs.Internal.LexerStates.{find_word, words_like}
 use Rattle.smt_text.proofs.ReservedLemmas.{find_word-end, find_word-like, find_word-more, first-got}
 use Rattle.smt_text.proofs.ReservedLemmas.{word_named-none}
 use Rattle.smt_text.proofs.reserved.word_of.Goals as goal

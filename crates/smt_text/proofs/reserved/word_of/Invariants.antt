@@ -1,6 +1,6 @@
 -- the word is sought among those that are left
 use Rattle.std.proofs.Common.{◌≡◌, drop}
-use Rattle.smt_text.specs.Internal.Machine.{find_word, word_named}
+use Rattle.smt_text.specs.Internal.LexerStates.{find_word, word_named}
 use Rattle.smt_text.proofs.reserved.word_of.Given as goal
 
 abbrev pub invariant-loop-word : goal.invariant-loop-word

@@ -14,10 +14,13 @@ use Rattle.clap.specs.declared.error.kind.ErrorKind.TheVariants.{OutOfMemory}
 use Rattle.clap.proofs.OnLiterals.{clap_on_literals}
 use Rattle.clap.proofs.WalkLemmas.{first_value-rows, one_text-rows}
 use Rattle.clap.specs.Walk.{texts}
-use Rattle.smtcheck_command_line.proofs.SettingsLemmas.{Given, IsTaken, line_of, line-taken, line-values}
+use Rattle.smt_theory.specs.declared.profile.Profile.{Profile}
+use Rattle.smt_theory.specs.declared.profile.Profile.TheVariants.{Base, Wide}
+use Rattle.smtcheck_command_line.proofs.SettingsLemmas.{Given, IsTaken, given_as, line_of, line-taken}
+use Rattle.smtcheck_command_line.proofs.SettingsLemmas.{line-values}
 use Rattle.smtcheck_command_line.proofs.ClapLemmas.{takes-without_fault}
-use Rattle.smtcheck_command_line.specs.Settings.{AreSettings, Places, is_given, is_plain, most_steps, smtcheck_app}
-use Rattle.smtcheck_command_line.specs.Settings.{success_word}
+use Rattle.smtcheck_command_line.specs.Settings.{AreSettings, Places, PlacesOfTwo, is_given, is_plain, most_steps}
+use Rattle.smtcheck_command_line.specs.Settings.{profile_named, profile_word, smtcheck_app, success_word}
 use Rattle.smtcheck_command_line.specs.declared.arguments.Settings.{Settings}
 use Rattle.smtcheck_command_line.proofs.command.settings.Goals as goal
 
@@ -77,6 +80,12 @@ said : (t : Text) (prints same : Bool) → t ≡ success_word prints → same �
 said t true same e b = e ∙ ap success_word (sym (b ∙ ap (λ u. bytes_eq u (codes "on")) e))
 said t false same e b = e ∙ ap success_word (sym (b ∙ ap (λ u. bytes_eq u (codes "on")) e))
 
+-- and its other word is the language that the settings say
+said_profile : (t : Text) (profile same : Profile) → t ≡ profile_word profile → same ≡ profile_named t
+    → t ≡ profile_word same
+said_profile t Base same e b = e ∙ ap profile_word (sym (b ∙ ap profile_named e))
+said_profile t Wide same e b = e ∙ ap profile_word (sym (b ∙ ap profile_named e))
+
 -- a command without a fault takes the words
 taken : (places : Places) (a : App) (words : List Text) → a ≡ smtcheck_app places
     → (is_simple_and_free a ≡ true → fault_of a words ≡ []) → takes (smtcheck_app places) words ≡ true
@@ -101,12 +110,20 @@ same_word true false e = cc
 same_word false true e = cc
 same_word false false e = refl
 
+profile_of_word : (x : Profile) → profile_named (profile_word x) ≡ x
+profile_of_word Base = refl
+profile_of_word Wide = refl
+
+same_profile : (x y : Profile) → profile_word x ≡ profile_word y → x ≡ y
+same_profile x y e = sym (profile_of_word x) ∙ ap profile_named e ∙ profile_of_word y
+
 -- the settings of a line with two plain words, behind the options that are given
 of_line : (places : Places) (words : List Text) (s : Settings) (name : Text) (given : Given)
     (steps : Option Text) (script answers : Text) → AreSettings words s (smtcheck_app places)
     → words ≡ line_of name given steps script answers → IsTaken steps
     → is_plain script ≡ true → is_plain answers ≡ true
     → (s.script.now ≡ script) × (s.answers.now ≡ answers) × (s.print_success ≡ unwrap_or given.success true)
+    × (s.profile ≡ unwrap_or given.profile Base)
     × (s.steps ≡ number_of (unwrap_or steps (codes "10000000"))) × (s.explain ≡ given.explain)
     × (s.strict ≡ given.strict)
 of_line places words s name given steps script answers are is taken p q =
@@ -117,6 +134,7 @@ of_line places words s name given steps script answers are is taken p q =
       same_value first_of places _ _ _ _ _ are.script is values.of_script,
       same_value first_of places _ _ _ _ _ are.answers is values.of_answers,
       same_word _ _ (same_value first_of places _ _ _ _ _ are.print_success is values.of_success),
+      same_profile _ _ (same_value first_of places _ _ _ _ _ are.profile is values.of_profile),
       are.steps.2.1 ∙ ap number_of (same_value one_of places _ _ _ _ _ are.steps.1 is values.of_steps),
       are.explain ∙ same (codes "explain") ∙ values.of_explain,
       are.strict ∙ same (codes "strict") ∙ values.of_strict,
@@ -131,6 +149,11 @@ returns-clause-ok c =
     let given = ap (option_map (λ t. t.now)) c.unwrap-3.ensures in
     let word : c.unwrap-3.result.now ≡ success_word success.0 =
     ap (λ o. unwrap_or o c.unwrap-3.result.now) (sym given ∙ c.get_str-3.ensures ∙ success.1) in
+    let profile = c.in-Ok.ensures.profile c.in-Ok-try_get_matches_from.matches
+    c.in-Ok-try_get_matches_from.ensures.parsed in
+    let given_profile = ap (option_map (λ t. t.now)) c.unwrap-4.ensures in
+    let profile_is : c.unwrap-4.result.now ≡ profile_word profile.0 =
+    ap (λ o. unwrap_or o c.unwrap-4.result.now) (sym given_profile ∙ c.get_str-4.ensures ∙ profile.1) in
     let steps = c.in-Ok.ensures.steps c.in-Ok-try_get_matches_from.matches
     c.in-Ok-try_get_matches_from.ensures.parsed in
     let number = number_read steps.0 c.get_one.result (c.get_one.ensures.value steps.0 steps.2) steps.3.0 in (
@@ -140,42 +163,41 @@ returns-clause-ok c =
         answers = read app.0 _ _ _ _ _ _ app.1 matches c.get_str-2.ensures c.unwrap-2.ensures;
         print_success = read app.0 _ _ _ _ _ _ app.1 matches c.get_str-3.ensures c.unwrap-3.ensures ∙ ap Some
             (said _ success.0 _ word c.eq-2.ensures);
+        profile = read app.0 _ _ _ _ _ _ app.1 matches c.get_str-4.ensures c.unwrap-4.ensures ∙ ap Some
+            (said_profile _ profile.0 _ profile_is c.profile_of.ensures);
         steps = (
           steps.0,
           read_one app.0 _ _ _ _ _ app.1 matches steps.2,
-          (steps.3.0, ap (λ o. unwrap_or o c.unwrap-4.result) (sym c.unwrap-4.ensures ∙ number)),
+          (steps.3.0, ap (λ o. unwrap_or o c.unwrap-5.result) (sym c.unwrap-5.ensures ∙ number)),
         );
         explain = c.is_given_in.ensures ∙ ap is_given (given_read app.0 _ _ _ (codes "explain") app.1 matches);
         strict = c.is_given_in-2.ensures ∙ ap is_given (given_read app.0 _ _ _ (codes "strict") app.1 matches);
       },
     )
 
-abbrev given_as : Bool → Bool → Option Bool → Given
-given_as explain strict success = record { explain = explain; strict = strict; success = success }
-
 pub returns-clause-two_words : goal.returns-clause-two_words
-returns-clause-two_words c = λ name script answers explain strict words p q.
+returns-clause-two_words c = λ name script answers explain strict profile words p q.
     let ok = returns-clause-ok c in
-    of_line ok.0 _ _ name (given_as explain strict None) None script answers ok.1 words tt p q
+    of_line ok.0 _ _ name (given_as explain strict None profile) None script answers ok.1 words tt p q
 
 pub returns-clause-option : goal.returns-clause-option
-returns-clause-option c = λ name script answers explain strict prints words p q.
+returns-clause-option c = λ name script answers explain strict prints profile words p q.
     let ok = returns-clause-ok c in
-    of_line ok.0 _ _ name (given_as explain strict (Some prints)) None script answers ok.1 words tt p q
+    of_line ok.0 _ _ name (given_as explain strict (Some prints) profile) None script answers ok.1 words tt p q
 
 pub returns-clause-steps : goal.returns-clause-steps
-returns-clause-steps c = λ name text script answers explain strict steps words writes p q.
+returns-clause-steps c = λ name text script answers explain strict profile steps words writes p q.
     let ok = returns-clause-ok c in
-    let of = of_line ok.0 _ _ name (given_as explain strict None) (Some text) script answers ok.1 words
+    let of = of_line ok.0 _ _ name (given_as explain strict None profile) (Some text) script answers ok.1 words
     writes.0 p q in
-    (of.0, of.1, of.2, of.3 ∙ sym writes.1, of.4, of.5)
+    (of.0, of.1, of.2, of.3, of.4 ∙ sym writes.1, of.5, of.6)
 
-pub returns-clause-both : goal.returns-clause-both
-returns-clause-both c = λ name text script answers explain strict prints steps words writes p q.
+pub returns-clause-all : goal.returns-clause-all
+returns-clause-all c = λ name text script answers explain strict prints profile steps words writes p q.
     let ok = returns-clause-ok c in
-    let of = of_line ok.0 _ _ name (given_as explain strict (Some prints)) (Some text) script answers ok.1
+    let of = of_line ok.0 _ _ name (given_as explain strict (Some prints) profile) (Some text) script answers ok.1
     words writes.0 p q in
-    (of.0, of.1, of.2, of.3 ∙ sym writes.1, of.4, of.5)
+    (of.0, of.1, of.2, of.3, of.4 ∙ sym writes.1, of.5, of.6)
 
 pub returns-clause-limited : goal.returns-clause-limited
 returns-clause-limited c =
@@ -190,8 +212,11 @@ returns-clause-taken c =
     let app = c.in-Ok.ensures.app in
     (app.0, taken app.0 _ _ app.1 c.in-Ok-try_get_matches_from.ensures.kinds)
 
+abbrev anywhere : PlacesOfTwo
+anywhere = record { list = (0, 0); first = (0, 0); second = (0, 0) }
+
 pub returns-in_default-clause-memory : goal.returns-in_default-clause-memory
-returns-in_default-clause-memory c = (record { list = (0, 0); on = (0, 0); off = (0, 0) }, λ passed. refl)
+returns-in_default-clause-memory c = (record { success = anywhere; profile = anywhere }, λ passed. refl)
 
 pub returns-in-Err-2-clause-memory : goal.returns-in-Err-2-clause-memory
 returns-in-Err-2-clause-memory c =
@@ -206,28 +231,28 @@ returns-in-Err-2-clause-memory c =
     )
 
 pub returns-in-Err-2-clause-two_words : goal.returns-in-Err-2-clause-two_words
-returns-in-Err-2-clause-two_words c = λ name script answers explain strict words p q.
+returns-in-Err-2-clause-two_words c = λ name script answers explain strict profile words p q.
     let memory = returns-in-Err-2-clause-memory c in
     memory.1 (ap (takes (smtcheck_app memory.0)) words
-    ∙ line-taken memory.0 name (given_as explain strict None) None script answers tt p q)
+    ∙ line-taken memory.0 name (given_as explain strict None profile) None script answers tt p q)
 
 pub returns-in-Err-2-clause-option : goal.returns-in-Err-2-clause-option
-returns-in-Err-2-clause-option c = λ name script answers explain strict prints words p q.
+returns-in-Err-2-clause-option c = λ name script answers explain strict prints profile words p q.
     let memory = returns-in-Err-2-clause-memory c in
     memory.1 (ap (takes (smtcheck_app memory.0)) words
-    ∙ line-taken memory.0 name (given_as explain strict (Some prints)) None script answers tt p q)
+    ∙ line-taken memory.0 name (given_as explain strict (Some prints) profile) None script answers tt p q)
 
 pub returns-in-Err-2-clause-steps : goal.returns-in-Err-2-clause-steps
-returns-in-Err-2-clause-steps c = λ name text script answers explain strict steps words writes p q.
+returns-in-Err-2-clause-steps c = λ name text script answers explain strict profile steps words writes p q.
     let memory = returns-in-Err-2-clause-memory c in
     memory.1 (ap (takes (smtcheck_app memory.0)) words
-    ∙ line-taken memory.0 name (given_as explain strict None) (Some text) script answers writes.0 p q)
+    ∙ line-taken memory.0 name (given_as explain strict None profile) (Some text) script answers writes.0 p q)
 
-pub returns-in-Err-2-clause-both : goal.returns-in-Err-2-clause-both
-returns-in-Err-2-clause-both c = λ name text script answers explain strict prints steps words writes p q.
+pub returns-in-Err-2-clause-all : goal.returns-in-Err-2-clause-all
+returns-in-Err-2-clause-all c = λ name text script answers explain strict prints profile steps words writes p q.
     let memory = returns-in-Err-2-clause-memory c in
     memory.1 (ap (takes (smtcheck_app memory.0)) words
-    ∙ line-taken memory.0 name (given_as explain strict (Some prints)) (Some text) script answers writes.0 p
+    ∙ line-taken memory.0 name (given_as explain strict (Some prints) profile) (Some text) script answers writes.0 p
     q)
 
 pub returns-in-Err-2-clause-refused : goal.returns-in-Err-2-clause-refused

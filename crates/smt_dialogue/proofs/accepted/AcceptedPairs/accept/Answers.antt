@@ -16,6 +16,7 @@ returns-clause-accepted c = λ taken early pairs stands check.
     let new = new_lines c.in-Ok.lines in
     accepted early s _ new c.next_number-number.result pairs (command_view c.args.command.now)
     (option_map tree_of c.args.answer.now) c.args.kind c.next_number-number.ensures c.requires.kind check stands
+    c.apply_if.ensures.start
     (c.in_default.ensures.applied (effective_commands pairs) stands.stack)
     c.in_default.ensures.last
     c.in-Ok.ensures.checks
@@ -30,7 +31,7 @@ returns-in-Err-clause-refused c = λ flaw told taken early pairs stands.
     let commands = effective_commands pairs in
     refused_fault early s t c.next_number-number.result pairs (command_view c.args.command.now) (option_map tree_of c.args.answer.now)
     c.in-Err.fault flaw c.next_number-number.ensures stands (c.in-Err.ensures.refused commands stands.stack) told
-    (refused_stands early s t pairs stands (c.in-Err.ensures.unchanged.0 commands stands.stack)
+    (refused_stands early s t pairs stands c.apply_if.ensures.start (c.in-Err.ensures.unchanged.0 commands stands.stack)
     c.in-Err.ensures.unchanged.1 refl refl refl refl refl)
 
 pub returns-in_default-add-clause-kept : goal.returns-in_default-add-clause-kept

@@ -2,6 +2,7 @@ use Rattle.std.proofs.Common.{◌++◌, ◌∙◌, [], ◌∷◌, ◌≡◌, Lis
 use Rattle.std.proofs.lemmas.List.{append-nil}
 use Rattle.smt_dialogue.proofs.AcceptedLemmas.{begins_end, begins_trans, closed_lines, decided_silent}
 use Rattle.smt_dialogue.proofs.AcceptedLemmas.{lines_faultless, lines_silent, on_err, part_begins}
+use Rattle.smt_script.specs.StackView.{profile_of}
 use Rattle.smt_dialogue.specs.Internal.AcceptedState.{state_behind}
 use Rattle.smt_dialogue.specs.Lines.{lines_in}
 use Rattle.smt_dialogue.specs.Report.{lines_of_end}
@@ -27,10 +28,12 @@ returns-in_err-verdict-clause-cut c = on_err c.from_residual-in_err-verdict.resu
     let e = c.end_window.new.self in
     let u = state_behind taken e in
     let on = c.in_ok-end_window.ensures.stands taken early pairs stands in
-    let here : lines_in c.args.self.now.checks.limit.steps true [] pairs [] ≡ u.lines =
-    sym (ap (λ (o : Options). lines_in o.limit.steps true [] pairs []) c.end_window.ensures.start)
+    let here : lines_in (profile_of c.args.self.now.stack) c.args.self.now.checks.limit.steps true [] pairs []
+    ≡ u.lines =
+    sym (ap (λ (o : Options). lines_in o.profile o.limit.steps true [] pairs []) c.end_window.ensures.start)
     ∙ closed_lines true u pairs c.end_window.ensures.ended on in
-    let all = lines_in c.args.self.now.checks.limit.steps true [] pairs [] ++ lines_of_end c.args.fault in (
+    let all = lines_in (profile_of c.args.self.now.stack) c.args.self.now.checks.limit.steps true [] pairs []
+    ++ lines_of_end c.args.fault in (
       part_begins taken e.decided.lines.items (lines_of_end c.args.fault) c.end.new.self.lines.items all
           (lines.Verdict (verdict_of all) (tally_of all) ∷ []) c.in_err-verdict.ensures.kept
           (ap (λ xs. xs ++ lines_of_end c.args.fault) here),
@@ -42,8 +45,9 @@ pub returns-clause-ended : goal.returns-clause-ended
 returns-clause-ended c = λ taken early pairs stands.
     let u = state_behind taken c.end_window.new.self in
     let on = c.in_ok-end_window.ensures.stands taken early pairs stands in
-    let here : lines_in c.args.self.now.checks.limit.steps true [] pairs [] ≡ u.lines =
-    sym (ap (λ (o : Options). lines_in o.limit.steps true [] pairs []) c.end_window.ensures.start)
+    let here : lines_in (profile_of c.args.self.now.stack) c.args.self.now.checks.limit.steps true [] pairs []
+    ≡ u.lines =
+    sym (ap (λ (o : Options). lines_in o.profile o.limit.steps true [] pairs []) c.end_window.ensures.start)
     ∙ closed_lines true u pairs c.end_window.ensures.ended on in
     let told = c.in_ok-verdict.ensures.ended taken on.tally (lines_faultless true u pairs on) in
     let same = ap (λ xs. xs ++ lines_of_end c.args.fault) (sym here) in

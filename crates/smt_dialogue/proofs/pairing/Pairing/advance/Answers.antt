@@ -1,5 +1,5 @@
 use Rattle.std.proofs.Common.{◌++◌, ◌∙◌, [], ap, arith, refl, subst, true}
-use Rattle.smt_script.specs.StackView.{initial_print_success_of}
+use Rattle.smt_script.specs.StackView.{start_of}
 use Rattle.smt_dialogue.proofs.AdvanceLemmas.{bounded, checks_at_most, commands_at_most, cut_at, cut_ended, ends_at}
 use Rattle.smt_dialogue.proofs.AdvanceLemmas.{one_more, turned_on, waits_at}
 use Rattle.smt_dialogue.proofs.CheckLineLemmas.{IsFaultTurn, fault_turn}
@@ -118,7 +118,7 @@ end-requires-clause-fault c =
     let t = subst (λ (turn : Turn). IsTurned turn x y texts h.0 h.1 h.2) c.in-Ends.is
     (c.in_ok-take_turn.ensures.turn texts h.0 h.1 h.2 h.3) in
     subst IsFaultTurn t.2
-    (fault_turn (initial_print_success_of x.dialogue.stack) h.0 (record texts.answers { trees = h.2 })
+    (fault_turn (start_of x.dialogue.stack) h.0 (record texts.answers { trees = h.2 })
     texts.script.told texts.script.fault h.1)
 
 pub end-requires-clause-few : goal.end-requires-clause-few
@@ -151,7 +151,7 @@ returns-in_err-verdict-in-Ends-clause-cut c =
     cut_ended texts h.0 c.in-Ends.fault c.end.new.self.decided.lines.items start
     (ends_at x y texts h.0 h.1 h.2 start c.in-Ends.fault c.loop-self.invariant.start h.3 t) (
       subst (λ (o : Options). IsBeginning (texts.taken ++ c.end.new.self.decided.lines.items)
-          (lines_at_end o.limit.steps h.0 c.in-Ends.fault))
+          (lines_at_end o.profile o.limit.steps h.0 c.in-Ends.fault))
           (c.in_ok-take_turn.ensures.start ∙ c.loop-self.invariant.start) cut.0,
       cut.1,
     ))
@@ -169,8 +169,9 @@ returns-in-Ends-clause-advanced c = λ texts pairs later rest first.
       c.in-Ends.fault,
       h.0,
       ends_at x y texts h.0 h.1 h.2 start c.in-Ends.fault c.loop-self.invariant.start h.3 t,
-      done.0 ∙ ap (λ (o : Options). lines_at_end o.limit.steps h.0 c.in-Ends.fault) same,
-      done.1 ∙ ap (λ (o : Options). verdict_of (lines_in o.limit.steps true [] h.0 [] ++ lines_of_end c.in-Ends.fault))
+      done.0 ∙ ap (λ (o : Options). lines_at_end o.profile o.limit.steps h.0 c.in-Ends.fault) same,
+      done.1 ∙ ap (λ (o : Options). verdict_of
+          (lines_in o.profile o.limit.steps true [] h.0 [] ++ lines_of_end c.in-Ends.fault))
           same,
     )
 

@@ -10,7 +10,7 @@ returns-in-Some c =
     let name = c.args.name.now in
     sym (ap (λ ns. place_from 0 ns name) (sym c.self.view_is)
     ∙ found-late FEW c.self.inside.names.items c.self.inside.last name c.in-Some.place (omega arith)
-    c.self.invariant (sym c.get.ensures.value ∙ sym c.copied.ensures ∙ c.in-Some.is))
+    c.self.invariant (sym c.last_place.ensures ∙ c.in-Some.is))
 
 pub returns-in-None : goal.returns-in-None
 returns-in-None c =
@@ -19,4 +19,4 @@ returns-in-None c =
     ∙ ap (λ (ns : List Placed). place_from 0 (names_of (take FEW ns)) name) c.as_slice-names.ensures.value
     ∙ sym (ap (λ ns. place_from 0 ns name) (sym c.self.view_is)
     ∙ found-early FEW c.self.inside.names.items c.self.inside.last name (omega arith) c.self.invariant
-    (sym c.get.ensures.value ∙ sym c.copied.ensures ∙ c.in-None.is))
+    (sym c.last_place.ensures ∙ c.in-None.is))

@@ -1,12 +1,11 @@
-use Rattle.std.proofs.Common.{List, Some, None, subst, arith}
-use Rattle.std.proofs.lemmas.Map.Text.{btree_map_updates_str}
-use Rattle.std.specs.BTreeMap.{Updates}
-use Rattle.std.specs.Cmp.Lexicographic.{slice_cmp}
-use Rattle.std.specs.Ordering.{nat_cmp}
-use Rattle.smt_forms.specs.Internal.Places.{IsIndexed, place_in}
+use Rattle.std.proofs.Common.{◌≡◌, ℕ, List, Some, refl, subst, arith}
+use Rattle.std.specs.Prelude.{bytes_eq, if◌then◌else◌}
+use Rattle.smt_theory.specs.Words.{look_up}
+use Rattle.smt_names.specs.Entries.{entries_of}
+use Rattle.smt_forms.specs.Internal.Places.{IsIndexed}
 use Rattle.smt_forms.specs.declared.places.Placed.{Placed}
 use Rattle.smt_forms.specs.declared.places.TheConstants.{FEW}
-use Rattle.smt_forms.proofs.PlaceLemmas.{indexed-front, indexed-pop, last-known, written}
+use Rattle.smt_forms.proofs.PlaceLemmas.{indexed-front, indexed-pop, last-known, placed_alone, written}
 use Rattle.smt_forms.proofs.places.Places.pop.Goals as goal
 
 pub invariant_of-self-then-len-lt-FEW : goal.invariant_of-self-then-len-lt-FEW
@@ -15,26 +14,15 @@ invariant_of-self-then-len-lt-FEW c =
     (subst (λ (ns : List Placed). IsIndexed FEW ns c.self.inside.last) c.in-Some.ensures.items
     c.self.invariant)
 
-pub invariant_of-self-in-Some-hidden : goal.invariant_of-self-in-Some-hidden
-invariant_of-self-in-Some-hidden c =
-    let name = c.in-Some.gone.name.now in
-    let before = subst (λ (ns : List Placed). IsIndexed FEW ns c.self.inside.last) c.in-Some.ensures.items
-    c.self.invariant in
-    let updates = written
-    {P = Updates (λ x y. slice_cmp nat_cmp x.now y.now) c.self.inside.last c.insert.new.self
-    c.in-Some.gone.name (Some c.in-Some-hidden.place)}
-    c.insert.result (place_in c.self.inside.last name) _ c.insert.ensures.updates c.insert.ensures.absent
-    (last-known FEW c.pop.new.self.items c.in-Some.gone c.self.inside.last (omega arith) before) in
-    indexed-pop FEW c.pop.new.self.items c.in-Some.gone c.self.inside.last c.insert.new.self _ (omega arith)
-    c.in-Some-hidden.is
-    (btree_map_updates_str name c.self.inside.last c.insert.new.self (Some c.in-Some-hidden.place) updates)
-    before
-
-pub invariant_of-self-in-None : goal.invariant_of-self-in-None
-invariant_of-self-in-None c =
-    indexed-pop FEW c.pop.new.self.items c.in-Some.gone c.self.inside.last c.remove.new.self None
-    (omega arith) c.in-None.is
-    (btree_map_updates_str c.in-Some.gone.name.now c.self.inside.last c.remove.new.self None
-    c.remove.ensures.updates)
-    (subst (λ (ns : List Placed). IsIndexed FEW ns c.self.inside.last) c.in-Some.ensures.items
-    c.self.invariant)
+pub invariant_of-self-2 : goal.invariant_of-self-2
+invariant_of-self-2 c =
+    let last = c.self.inside.last in
+    let gone = c.in-Some.gone in
+    let before = subst (λ (ns : List Placed). IsIndexed FEW ns last) c.in-Some.ensures.items c.self.invariant in
+    let alone = written
+    {P = (other : List ℕ) → look_up (entries_of c.replace.new.self) other
+    ≡ (if bytes_eq gone.name.now other then Some gone.hidden else look_up (entries_of last) other)}
+    c.replace.result (look_up (entries_of last) gone.name.now) _ c.replace.ensures.alone
+    c.replace.ensures.refused (last-known FEW c.pop.new.self.items gone last (omega arith) before) in
+    indexed-pop FEW c.pop.new.self.items gone last c.replace.new.self gone.hidden (omega arith) refl
+    (placed_alone last c.replace.new.self gone.name.now gone.hidden alone) before

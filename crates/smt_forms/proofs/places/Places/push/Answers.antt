@@ -1,9 +1,9 @@
 use Rattle.std.proofs.Common.{List, None, Some, refl, ap, sym, ◌∙◌, subst, arith, ◌++◌, ◌∷◌, []}
-use Rattle.std.proofs.lemmas.Map.Text.{btree_map_updates_str}
+use Rattle.std.specs.Option.{option_flatten}
 use Rattle.smt_forms.specs.Internal.Places.{IsIndexed}
 use Rattle.smt_forms.specs.declared.places.Placed.{Placed}
 use Rattle.smt_forms.specs.declared.places.TheConstants.{FEW}
-use Rattle.smt_forms.proofs.PlaceLemmas.{indexed-few, indexed-push}
+use Rattle.smt_forms.proofs.PlaceLemmas.{indexed-few, indexed-push, placed_alone}
 use Rattle.smt_forms.proofs.places.Places.push.Goals as goal
 
 pub invariant_of-self-then-place-lt-FEW : goal.invariant_of-self-then-place-lt-FEW
@@ -14,11 +14,11 @@ invariant_of-self-then-place-lt-FEW c =
 
 pub invariant_of-self-2 : goal.invariant_of-self-2
 invariant_of-self-2 c =
-    let added : Placed = record { name = c.args.name; hidden = c.in_ok-hidden.hidden } in
-    subst (λ (ns : List Placed). IsIndexed FEW ns c.insert.new.self)
+    let added : Placed = record { name = c.args.name; hidden = c.flatten-hidden.result } in
+    subst (λ (ns : List Placed). IsIndexed FEW ns c.replace.new.self)
     (sym (c.in_ok-push-2.ensures.items ∙ ap (λ ns. ns ++ added ∷ []) c.reserve.ensures.items))
-    (indexed-push FEW c.self.inside.names.items added c.self.inside.last c.insert.new.self
-    c.len-place.result (omega arith) (omega arith) c.in_ok-hidden.ensures.old
-    (btree_map_updates_str c.args.name.now c.self.inside.last c.insert.new.self (Some c.len-place.result)
-    c.in_ok-hidden.ensures.updates)
+    (indexed-push FEW c.self.inside.names.items added c.self.inside.last c.replace.new.self
+    c.len-place.result (omega arith) (omega arith) (c.flatten-hidden.ensures ∙ ap option_flatten c.in_ok-hidden.ensures.old)
+    (placed_alone c.self.inside.last c.replace.new.self c.args.name.now (Some c.len-place.result)
+    c.in_ok-hidden.ensures.alone)
     c.self.invariant)

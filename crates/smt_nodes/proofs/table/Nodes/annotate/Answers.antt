@@ -69,7 +69,6 @@ returns-clause-pushed c =
     let row = c.index-as_slice-number.result in
     let new : StoredRow = record {
       stored = c.in_ok-stored.stored;
-      sort = row.sort;
       ends = lengths (lists_of nodes.tables);
     } in
     let at : slice_get nodes.rows.items c.args.id ≡ Some row =
@@ -83,7 +82,7 @@ returns-clause-pushed c =
       ap (λ (rows : List StoredRow). views rows (lists_of after.tables)) is
           ∙ ap (λ (t : Tables). views (nodes.rows.items ++ new ∷ []) (lists_of t)) c.push_row.ensures.tables
           ∙ annotated_pushed nodes.rows.items (lists_of nodes.tables) c.args.id row new nodes.sound at
-          c.in_ok-stored.ensures refl,
+          c.in_ok-stored.ensures,
     ))
 
 pub returns-clause-number : goal.returns-clause-number

@@ -25,7 +25,6 @@ returns-clause-pushed c =
     let after = c.push_row.new.self in
     let new : StoredRow = record {
       stored = c.in_ok-stored.stored;
-      sort = c.args.sort;
       ends = lengths (lists_of c.store.new.self);
     } in
     on_ok c.push_row.result c.push_row.ensures.pushed

@@ -17,7 +17,7 @@ pub invariant_of-self-2 : goal.invariant_of-self-2
 invariant_of-self-2 c =
     let nodes = c.args.self.now in
     let new : StoredRow =
-    record { stored = c.args.stored; sort = c.args.sort; ends = c.in_ok-ends.ends } in
+    record { stored = c.args.stored; ends = c.in_ok-ends.ends } in
     let pushed : c.push_reserved.new.self.items ≡ nodes.rows.items ++ new ∷ [] =
     c.push_reserved.ensures.items ∙ ap (λ rows. rows ++ new ∷ []) c.reserve.ensures.items in
     let kept : IsSound c.push_reserved.new.self.items (lists_of nodes.tables) =

@@ -4,6 +4,7 @@ use Rattle.smt_trees.specs.Tree.{sexp_of}
 use Rattle.smt_terms.specs.Assertions.{asserted_in}
 use Rattle.smt_terms.specs.Signature.{names_of}
 use Rattle.smt_script.specs.Stack.{signature_in_force}
+use Rattle.smt_script.specs.StackView.{profile_of}
 use Rattle.smt_script.proofs.EffectLemmas.{assert_effect, refused_by, unchanged_by}
 use Rattle.smt_script.proofs.stack.Stack.assert.Goals as goal
 
@@ -13,7 +14,7 @@ returns-in_err-term-clause-refused c =
     let term = sexp_of c.args.term.now in
     rw p.1
     (λ cs h.
-    let s = signature_in_force cs in
+    let s = signature_in_force (profile_of c.args.self.now) cs in
     refused_by (asserted_in (names_of s) term) c.in_err-term.field-0.0 p.0 p.2
     (c.in_err-term.ensures.refused s h.library))
 

@@ -3,6 +3,7 @@ use Rattle.smt_trees.specs.Tree.{sexps_of}
 use Rattle.smt_terms.specs.Contents.{Contents, Extends, contents_of}
 use Rattle.smt_terms.specs.Library.{Holds}
 use Rattle.smt_script.specs.Stack.{signature_in_force}
+use Rattle.smt_script.specs.StackView.{profile_of}
 use Rattle.smt_script.proofs.AssumptionLemmas.{assume_effect}
 use Rattle.smt_script.proofs.EffectLemmas.{extends_itself, unchanged_by}
 use Rattle.smt_script.proofs.stack.Stack.assume.Goals as goal
@@ -24,8 +25,9 @@ returns-in-Ok-clause-assumed c = λ s h.
 
 pub returns-in-Err-clause-refused : goal.returns-in-Err-clause-refused
 returns-in-Err-clause-refused c = λ number commands h.
-    c.in-Err.ensures.terms (signature_in_force commands)
-    (subst (λ (x : Contents). Holds x (signature_in_force commands)) (sym c.take_transient-before.ensures.held)
+    c.in-Err.ensures.terms (signature_in_force (profile_of c.args.self.now) commands)
+    (subst (λ (x : Contents). Holds x (signature_in_force (profile_of c.args.self.now) commands))
+    (sym c.take_transient-before.ensures.held)
     h.library)
 
 pub returns-in-Err-clause-unchanged : goal.returns-in-Err-clause-unchanged

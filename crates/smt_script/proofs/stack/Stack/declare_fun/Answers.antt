@@ -3,6 +3,7 @@ use Rattle.std.proofs.lemmas.Result.{err_from_is_err_and}
 use Rattle.smt_trees.specs.Tree.{sexp_of, sexps_of}
 use Rattle.smt_terms.specs.Declarations.{declared_in}
 use Rattle.smt_script.specs.Stack.{signature_in_force}
+use Rattle.smt_script.specs.StackView.{profile_of}
 use Rattle.smt_script.proofs.EffectLemmas.{declare_fun_effect, refused_by, unchanged_by}
 use Rattle.smt_script.proofs.stack.Stack.declare_fun.Goals as goal
 
@@ -14,7 +15,7 @@ returns-in_err-declare-clause-refused c =
     let sort = sexp_of c.args.sort.now in
     rw p.1
     (λ cs h.
-    let s = signature_in_force cs in
+    let s = signature_in_force (profile_of c.args.self.now) cs in
     refused_by (declared_in s c.args.number name params sort) c.in_err-declare.field-0.0 p.0 p.2
     (c.in_err-declare.ensures.refused s h.library))
 

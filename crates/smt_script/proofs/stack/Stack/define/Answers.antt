@@ -7,6 +7,7 @@ use Rattle.smt_terms.specs.Definitions.{defined_in}
 use Rattle.smt_forms.specs.ParamView.{param_view}
 use Rattle.smt_faults.specs.Outcome.{Tells}
 use Rattle.smt_script.specs.Stack.{signature_in_force}
+use Rattle.smt_script.specs.StackView.{profile_of}
 use Rattle.smt_script.proofs.EffectLemmas.{DefinesIn, define_effect, refused_by, unchanged_by}
 use Rattle.smt_script.proofs.stack.Stack.define.Goals as goal
 
@@ -21,7 +22,7 @@ returns-in_err-define-clause-refused c =
     let named = ap (λ qs. map param_view qs) c.as_slice.ensures.value ∙ c.in_ok-params.ensures in
     rw p.1
     (λ n cs h.
-    let s = signature_in_force cs in
+    let s = signature_in_force (profile_of c.args.self.now) cs in
     let P : List (List ℕ × Sexp) → Type 0 =
     λ ps. Tells (defined_in s name ps sort body) c.in_err-define.field-0.0 in
     refused_by (defined_in s name params sort body) c.in_err-define.field-0.0 p.0 p.2

@@ -4,6 +4,7 @@ use Rattle.smt_trees.specs.Tree.{sexp_of}
 use Rattle.smt_terms.specs.Signature.{sort_names_of}
 use Rattle.smt_terms.specs.Declarations.{abbreviated_in}
 use Rattle.smt_script.specs.Stack.{signature_in_force}
+use Rattle.smt_script.specs.StackView.{profile_of}
 use Rattle.smt_script.proofs.EffectLemmas.{define_sort_effect, refused_by, unchanged_by}
 use Rattle.smt_script.proofs.stack.Stack.define_sort.Goals as goal
 
@@ -14,7 +15,7 @@ returns-in_err-abbreviate-clause-refused c =
     let sort = sexp_of c.args.sort.now in
     rw p.1
     (λ n cs h.
-    let s = signature_in_force cs in
+    let s = signature_in_force (profile_of c.args.self.now) cs in
     refused_by (abbreviated_in (sort_names_of s) name sort) c.in_err-abbreviate.field-0.0 p.0 p.2
     (c.in_err-abbreviate.ensures.refused s h.library))
 

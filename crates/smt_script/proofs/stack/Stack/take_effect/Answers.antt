@@ -1,4 +1,4 @@
-use Rattle.std.proofs.Common.{◌≡◌, ℕ, List, Result, Ok, Err, IfErr, OnOk, refl, ap, sym, ◌∙◌}
+use Rattle.std.proofs.Common.{◌≡◌, ℕ, List, [], Result, Ok, Err, IfErr, OnOk, refl, ap, sym, ◌∙◌}
 use Rattle.std.specs.Str.Parse.{digits_value}
 use Rattle.smt_trees.specs.Tree.{sexp_of, sexps_of}
 use Rattle.smt_forms.specs.Bindings.{named_trees}
@@ -7,7 +7,7 @@ use Rattle.smt_script.specs.Command.{CheckSatAssuming, Command, DefineFun, Defin
 use Rattle.smt_script.specs.Command.{Nothing, Removing, SetGlobalDeclarations, SetLogic, effect_of}
 use Rattle.smt_script.specs.CommandView.{command_view}
 use Rattle.smt_script.specs.Internal.Effect.{HasEffect, IsRefused}
-use Rattle.smt_script.specs.StackView.{HoldsAfter}
+use Rattle.smt_script.specs.StackView.{HoldsAfter, profile_of}
 use Rattle.smt_faults.specs.declared.command_fault.CommandFault.{CommandFault}
 use Rattle.smt_script.specs.declared.stack.Stack.{Stack}
 use Rattle.smt_script.proofs.EffectLemmas.{idle_effect, no_effect_is_idle}
@@ -80,6 +80,24 @@ returns-in-DefineFun-clause-refused c =
     (sexp_of c.in-DefineFun.sort) (sexp_of c.in-DefineFun.body)) (sym c.as_slice-in-DefineFun.ensures))
     c.define.ensures.refused
 
+pub returns-in-DefineConst-clause-effect : goal.returns-in-DefineConst-clause-effect
+returns-in-DefineConst-clause-effect c =
+    effect_at c.define-in-DefineConst.result c.args.self.now c.define-in-DefineConst.new.self
+    (DefineFun c.as_slice-in-DefineConst.result.now [] (sexp_of c.in-DefineConst.sort) (sexp_of c.in-DefineConst.body))
+    (command_view c.args.command.now) c.args.number
+    (ap command_view c.in-DefineConst.is
+    ∙ ap (λ x. DefineFun x [] (sexp_of c.in-DefineConst.sort) (sexp_of c.in-DefineConst.body))
+    (sym c.as_slice-in-DefineConst.ensures)) c.define-in-DefineConst.ensures.effect
+
+pub returns-in-DefineConst-clause-refused : goal.returns-in-DefineConst-clause-refused
+returns-in-DefineConst-clause-refused c =
+    refused_at c.define-in-DefineConst.result c.args.self.now
+    (DefineFun c.as_slice-in-DefineConst.result.now [] (sexp_of c.in-DefineConst.sort) (sexp_of c.in-DefineConst.body))
+    (command_view c.args.command.now) c.args.number
+    (ap command_view c.in-DefineConst.is
+    ∙ ap (λ x. DefineFun x [] (sexp_of c.in-DefineConst.sort) (sexp_of c.in-DefineConst.body))
+    (sym c.as_slice-in-DefineConst.ensures)) c.define-in-DefineConst.ensures.refused
+
 pub returns-in-DefineSort-clause-effect : goal.returns-in-DefineSort-clause-effect
 returns-in-DefineSort-clause-effect c =
     effect_at c.define_sort.result c.args.self.now c.define_sort.new.self
@@ -101,32 +119,32 @@ returns-in-DefineSort-clause-refused c =
 pub returns-in-Push-clause-effect : goal.returns-in-Push-clause-effect
 returns-in-Push-clause-effect c =
     effect_at c.push.result c.args.self.now c.push.new.self
-    (Push (digits_value 10 c.as_slice-in-Push.result.now)) (command_view c.args.command.now) c.args.number
+    (Push (digits_value 10 c.digits_of.result.now)) (command_view c.args.command.now) c.args.number
     (ap command_view c.in-Push.is
-    ∙ ap (λ (x : List ℕ). Push (digits_value 10 x)) (sym c.as_slice-in-Push.ensures))
+    ∙ ap Push (sym c.digits_of.ensures))
     c.push.ensures.effect
 
 pub returns-in-Push-clause-refused : goal.returns-in-Push-clause-refused
 returns-in-Push-clause-refused c =
-    refused_at c.push.result c.args.self.now (Push (digits_value 10 c.as_slice-in-Push.result.now))
+    refused_at c.push.result c.args.self.now (Push (digits_value 10 c.digits_of.result.now))
     (command_view c.args.command.now) c.args.number
     (ap command_view c.in-Push.is
-    ∙ ap (λ (x : List ℕ). Push (digits_value 10 x)) (sym c.as_slice-in-Push.ensures))
+    ∙ ap Push (sym c.digits_of.ensures))
     c.push.ensures.refused
 
 pub returns-in-Pop-clause-effect : goal.returns-in-Pop-clause-effect
 returns-in-Pop-clause-effect c =
-    effect_at c.pop.result c.args.self.now c.pop.new.self (Pop (digits_value 10 c.as_slice-in-Pop.result.now))
+    effect_at c.pop.result c.args.self.now c.pop.new.self (Pop (digits_value 10 c.digits_of-in-Pop.result.now))
     (command_view c.args.command.now) c.args.number
     (ap command_view c.in-Pop.is
-    ∙ ap (λ (x : List ℕ). Pop (digits_value 10 x)) (sym c.as_slice-in-Pop.ensures)) c.pop.ensures.effect
+    ∙ ap Pop (sym c.digits_of-in-Pop.ensures)) c.pop.ensures.effect
 
 pub returns-in-Pop-clause-refused : goal.returns-in-Pop-clause-refused
 returns-in-Pop-clause-refused c =
-    refused_at c.pop.result c.args.self.now (Pop (digits_value 10 c.as_slice-in-Pop.result.now))
+    refused_at c.pop.result c.args.self.now (Pop (digits_value 10 c.digits_of-in-Pop.result.now))
     (command_view c.args.command.now) c.args.number
     (ap command_view c.in-Pop.is
-    ∙ ap (λ (x : List ℕ). Pop (digits_value 10 x)) (sym c.as_slice-in-Pop.ensures)) c.pop.ensures.refused
+    ∙ ap Pop (sym c.digits_of-in-Pop.ensures)) c.pop.ensures.refused
 
 pub returns-in-Reset-clause-effect : goal.returns-in-Reset-clause-effect
 returns-in-Reset-clause-effect c =
@@ -154,24 +172,25 @@ returns-in-ResetAssertions-clause-refused c =
 pub returns-in-Exit-clause-effect : goal.returns-in-Exit-clause-effect
 returns-in-Exit-clause-effect c =
     idle_effect c.contents_are_kept.ensures c.args.self.now c.args.number (command_view c.args.command.now)
-    (no_effect_is_idle (command_view c.args.command.now) (ap (λ d. effect_of (command_view d)) c.in-Exit.is))
+    (no_effect_is_idle (profile_of c.args.self.now) (command_view c.args.command.now)
+    (ap (λ d. effect_of (command_view d)) c.in-Exit.is))
 
 pub returns-in-CheckSat-clause-effect : goal.returns-in-CheckSat-clause-effect
 returns-in-CheckSat-clause-effect c =
     idle_effect c.contents_are_kept.ensures c.args.self.now c.args.number (command_view c.args.command.now)
-    (no_effect_is_idle (command_view c.args.command.now)
+    (no_effect_is_idle (profile_of c.args.self.now) (command_view c.args.command.now)
     (ap (λ d. effect_of (command_view d)) c.in-CheckSat.is))
 
 pub returns-in-GetModel-clause-effect : goal.returns-in-GetModel-clause-effect
 returns-in-GetModel-clause-effect c =
     idle_effect c.contents_are_kept.ensures c.args.self.now c.args.number (command_view c.args.command.now)
-    (no_effect_is_idle (command_view c.args.command.now)
+    (no_effect_is_idle (profile_of c.args.self.now) (command_view c.args.command.now)
     (ap (λ d. effect_of (command_view d)) c.in-GetModel.is))
 
 pub returns-in-SetPrintSuccess-clause-effect : goal.returns-in-SetPrintSuccess-clause-effect
 returns-in-SetPrintSuccess-clause-effect c =
     idle_effect c.contents_are_kept.ensures c.args.self.now c.args.number (command_view c.args.command.now)
-    (no_effect_is_idle (command_view c.args.command.now)
+    (no_effect_is_idle (profile_of c.args.self.now) (command_view c.args.command.now)
     (ap (λ d. effect_of (command_view d)) c.in-SetPrintSuccess.is))
 
 pub returns-in-SetGlobalDeclarations-clause-effect : goal.returns-in-SetGlobalDeclarations-clause-effect
@@ -189,24 +208,26 @@ returns-in-SetGlobalDeclarations-clause-refused c =
 pub returns-in-SetOption-clause-effect : goal.returns-in-SetOption-clause-effect
 returns-in-SetOption-clause-effect c =
     idle_effect c.contents_are_kept.ensures c.args.self.now c.args.number (command_view c.args.command.now)
-    (no_effect_is_idle (command_view c.args.command.now)
+    (no_effect_is_idle (profile_of c.args.self.now) (command_view c.args.command.now)
     (ap (λ d. effect_of (command_view d)) c.in-SetOption.is))
 
 pub returns-in-SetInfo-clause-effect : goal.returns-in-SetInfo-clause-effect
 returns-in-SetInfo-clause-effect c =
     idle_effect c.contents_are_kept.ensures c.args.self.now c.args.number (command_view c.args.command.now)
-    (no_effect_is_idle (command_view c.args.command.now)
+    (no_effect_is_idle (profile_of c.args.self.now) (command_view c.args.command.now)
     (ap (λ d. effect_of (command_view d)) c.in-SetInfo.is))
 
 pub returns-in-Echo-clause-effect : goal.returns-in-Echo-clause-effect
 returns-in-Echo-clause-effect c =
     idle_effect c.contents_are_kept.ensures c.args.self.now c.args.number (command_view c.args.command.now)
-    (no_effect_is_idle (command_view c.args.command.now) (ap (λ d. effect_of (command_view d)) c.in-Echo.is))
+    (no_effect_is_idle (profile_of c.args.self.now) (command_view c.args.command.now)
+    (ap (λ d. effect_of (command_view d)) c.in-Echo.is))
 
 pub returns-in-Get-clause-effect : goal.returns-in-Get-clause-effect
 returns-in-Get-clause-effect c =
     idle_effect c.contents_are_kept.ensures c.args.self.now c.args.number (command_view c.args.command.now)
-    (no_effect_is_idle (command_view c.args.command.now) (ap (λ d. effect_of (command_view d)) c.in-Get.is))
+    (no_effect_is_idle (profile_of c.args.self.now) (command_view c.args.command.now)
+    (ap (λ d. effect_of (command_view d)) c.in-Get.is))
 
 pub returns-in-CheckSatAssuming-clause-effect : goal.returns-in-CheckSatAssuming-clause-effect
 returns-in-CheckSatAssuming-clause-effect c =
@@ -246,6 +267,12 @@ returns-in-DefineFun-clause-held c =
     held_at c.define.result c.args.self.now _ (command_view c.args.command.now)
     (contents_of c.define.new.self.library) (ap command_view c.in-DefineFun.is) (on_ok c.define.result c.define.ensures.grown)
 
+pub returns-in-DefineConst-clause-held : goal.returns-in-DefineConst-clause-held
+returns-in-DefineConst-clause-held c =
+    held_at c.define-in-DefineConst.result c.args.self.now _ (command_view c.args.command.now)
+    (contents_of c.define-in-DefineConst.new.self.library) (ap command_view c.in-DefineConst.is)
+    (on_ok c.define-in-DefineConst.result c.define-in-DefineConst.ensures.grown)
+
 pub returns-in-DefineSort-clause-held : goal.returns-in-DefineSort-clause-held
 returns-in-DefineSort-clause-held c =
     held_at c.define_sort.result c.args.self.now _ (command_view c.args.command.now)
@@ -263,9 +290,10 @@ returns-in-Push-clause-held c =
 
 pub returns-in-Pop-clause-held : goal.returns-in-Pop-clause-held
 returns-in-Pop-clause-held c =
-    held_at c.pop.result c.args.self.now (Pop (digits_value 10 c.as_slice-in-Pop.result.now)) (command_view c.args.command.now)
+    held_at c.pop.result c.args.self.now (Pop (digits_value 10 c.digits_of-in-Pop.result.now))
+    (command_view c.args.command.now)
     (contents_of c.pop.new.self.library) (ap command_view c.in-Pop.is
-    ∙ ap (λ (x : List ℕ). Pop (digits_value 10 x)) (sym c.as_slice-in-Pop.ensures)) c.pop.ensures.held
+    ∙ ap Pop (sym c.digits_of-in-Pop.ensures)) c.pop.ensures.held
 
 pub returns-in-Reset-clause-held : goal.returns-in-Reset-clause-held
 returns-in-Reset-clause-held c =

@@ -14,8 +14,8 @@ use Rattle.smt_terms.proofs.ContentsLemmas.{extends_on, grown_by, keeps_on, noth
 use Rattle.smt_terms.proofs.DefinitionLemmas.{definition_by, fault_of_body, same_fault}
 use Rattle.smt_terms.proofs.ItemLemmas.{names_as}
 use Rattle.smt_terms.proofs.StandsLemmas.{on_err, stands_kept, stands_still, under, under_more, whole}
-use Rattle.smt_terms.proofs.WholeLemmas.{body_checked, checked_keeps, checked_longer, none_given, none_more}
-use Rattle.smt_terms.proofs.WholeLemmas.{without_labels}
+use Rattle.smt_terms.proofs.KeptTermLemmas.{body_checked, checked_keeps, checked_longer, none_given, none_more}
+use Rattle.smt_terms.proofs.KeptTermLemmas.{without_labels}
 use Rattle.smt_terms.proofs.library.Library.add_definition.Goals as goal
 
 pub returns-in_err-checked-clause-refused : goal.returns-in_err-checked-clause-refused

@@ -1,7 +1,9 @@
 use Rattle.std.proofs.Common.{◌≡◌, ◌<◌, ◌+◌, ℕ, suc, List, ◌∷◌, drop, length, get_or, ap, sym, ◌∙◌, arith, add-one}
 use Rattle.std.proofs.Math.Seq.{drop-cons}
+use Rattle.smt_terms.specs.Contents.{contents_of}
 use Rattle.smt_terms.specs.declared.labels.Label.{Label}
 use Rattle.smt_terms.proofs.AssertionLemmas.{AreAdded-next, AreAdded-none}
+use Rattle.smt_terms.proofs.ContentsLemmas.{extends_on}
 use Rattle.smt_terms.proofs.library.Library.add_labels.Goals as goal
 
 pub loop-label-init : goal.loop-label-init
@@ -28,3 +30,8 @@ returns-in_err-add_label-clause-transient c =
 
 pub returns-clause-transient : goal.returns-clause-transient
 returns-clause-transient c = c.loop-label.invariant.transient
+
+pub returns-in_err-add_label-clause-grown : goal.returns-in_err-add_label-clause-grown
+returns-in_err-add_label-clause-grown c =
+    extends_on (contents_of c.args.self.now) (contents_of c.loop-label.self) (contents_of c.add_label.new.self)
+    c.loop-label.invariant.grown c.add_label.ensures.grown

@@ -16,7 +16,7 @@ use Rattle.smt_terms.proofs.BodyLemmas.{ready}
 use Rattle.smt_terms.proofs.ContentsLemmas.{extends_on, grown_by, nothing_more}
 use Rattle.smt_terms.proofs.DenotesLemmas.{denotes_kept}
 use Rattle.smt_terms.proofs.StandsLemmas.{on_err, stands_kept, stands_still, under, under_more, whole}
-use Rattle.smt_terms.proofs.WholeLemmas.{checked_keeps, checked_longer}
+use Rattle.smt_terms.proofs.KeptTermLemmas.{checked_keeps, checked_longer}
 use Rattle.smt_terms.proofs.library.Library.assert.Goals as goal
 
 pub add_labels-requires : goal.add_labels-requires

@@ -10,7 +10,7 @@ use Rattle.smt_terms.proofs.ContentsLemmas.{grown_by, nothing_more}
 use Rattle.smt_terms.proofs.DenotesLemmas.{denotes_kept}
 use Rattle.smt_terms.proofs.ItemLemmas.{names_as}
 use Rattle.smt_terms.proofs.StandsLemmas.{stands_still}
-use Rattle.smt_terms.proofs.WholeLemmas.{checked_keeps, checked_longer, none_given, none_more, without_labels}
+use Rattle.smt_terms.proofs.KeptTermLemmas.{checked_keeps, checked_longer, none_given, none_more, without_labels}
 use Rattle.smt_terms.proofs.library.Library.check.Goals as goal
 
 pub returns-in_err-checked-clause-kept : goal.returns-in_err-checked-clause-kept

@@ -9,7 +9,7 @@ use Rattle.smt_terms.specs.Internal.TableView.{IsReady, table_in}
 use Rattle.smt_terms.proofs.DraftLemmas.{carried_sort, names_of}
 use Rattle.smt_terms.proofs.NodeLemmas.{if_both}
 use Rattle.smt_terms.proofs.TableLemmas.{grows_on, grows_same}
-use Rattle.smt_terms.proofs.ClosingLemmas.{on_answered, whole_denotes, whole_named, whole_placed, whole_sort}
+use Rattle.smt_terms.proofs.WholeTermLemmas.{on_answered, whole_denotes, whole_named, whole_placed, whole_sort}
 use Rattle.smt_terms.proofs.library.Library.check_over.Goals as goal
 
 pub sort_of-requires : goal.sort_of-requires

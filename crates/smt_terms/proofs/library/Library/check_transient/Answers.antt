@@ -16,7 +16,7 @@ use Rattle.smt_terms.proofs.ContentsLemmas.{nothing_more}
 use Rattle.smt_terms.proofs.DenotesLemmas.{denotes_kept}
 use Rattle.smt_terms.proofs.ItemLemmas.{names_as}
 use Rattle.smt_terms.proofs.TableLemmas.{ready_longer, rows_grow}
-use Rattle.smt_terms.proofs.WholeLemmas.{none_given, without_labels}
+use Rattle.smt_terms.proofs.KeptTermLemmas.{none_given, without_labels}
 use Rattle.smt_terms.proofs.library.Library.check_transient.Goals as goal
 
 pub returns-in-Ok-clause-grown : goal.returns-in-Ok-clause-grown

@@ -1,52 +1,64 @@
-use Rattle.std.proofs.Common.{ap, ◌∙◌}
+use Rattle.std.proofs.Common.{List, None, Some, Ok, ap, sym, ◌∙◌, subst}
+use Rattle.std.proofs.lemmas.List.{append-nil}
 use Rattle.std.proofs.lemmas.Result.{IfErr-weaker, on_ok_weaker}
 use Rattle.smt_trees.specs.Tree.{sexp_of}
-use Rattle.smt_terms.specs.Definitions.{definition_in}
+use Rattle.smt_theory.specs.Words.{result_and_then}
 use Rattle.smt_forms.specs.ItemView.{item_view}
-use Rattle.smt_terms.specs.Items.{item_in}
-use Rattle.smt_forms.specs.ScopeView.{scope_view}
-use Rattle.smt_terms.specs.Signature.{names_of}
+use Rattle.smt_terms.specs.Items.{form_in, item_in, repeated_in}
+use Rattle.smt_terms.specs.Library.{StandsFor}
+use Rattle.smt_terms.specs.Signature.{Entry}
 use Rattle.smt_terms.proofs.DefinitionLemmas.{same_fault}
-use Rattle.smt_terms.proofs.ItemLemmas.{item_is_free, item_step}
+use Rattle.smt_terms.proofs.RepeatedLemmas.{item_aside, item_kept, same_refusal}
 use Rattle.smt_terms.proofs.library.Library.define_item.Goals as goal
 
-pub returns-clause-defined : goal.returns-clause-defined
-returns-clause-defined c =
+pub returns-then-sets_aside-clause-defined : goal.returns-then-sets_aside-clause-defined
+returns-then-sets_aside-clause-defined c =
     let tree = sexp_of c.args.item.now in
     let form = item_view c.in_ok-form.form in
-    let ps = scope_view c.in_ok-parameters.parameters.items in
-    let rs = scope_view c.as_slice-2.result.now in
-    let sort = c.in_ok-sort.sort in
-    on_ok_weaker c.add_definition.result
-    (λ added s m stands items.
-    let more = added m items in (
-      more.0,
-      item_step c.args.self.now c.args.script.now s m tree form ps (scope_view c.as_slice.result.now) rs sort
-          c.in_ok-has_declared_rank.field-0 c.requires stands items c.in_ok-form.ensures
-          (c.in_ok-check_name.ensures.flaw s m stands items) c.in_ok-parameters.ensures c.in_ok-sort.ensures
-          (c.in_ok-has_declared_rank.ensures s stands) c.if-not-branch.false
-          (ap scope_view c.as_slice.ensures.value)
-          (ap scope_view c.as_slice-2.ensures.value)
-          ∙ more.1,
-      more.2 (item_is_free c.args.self.now c.args.script.now s m form.name c.requires stands items
-          (c.in_ok-check_name.ensures.flaw s m stands items)),
+    on_ok_weaker c.check_repeated.result
+    (λ repeated s m stands items. (
+      None,
+      item_aside s m.entries tree form c.in_ok-form.ensures
+          (sym (c.sets_aside.ensures s stands) ∙ c.if-sets_aside.true) ∙ repeated s stands,
+      subst (λ (es : List Entry). StandsFor c.args.self.now (record m { entries = es }))
+          (sym (append-nil m.entries)) items,
     ))
-    c.add_definition.ensures.added
+    c.check_repeated.ensures.repeated
 
-pub returns-clause-refused : goal.returns-clause-refused
-returns-clause-refused c =
+pub returns-then-sets_aside-clause-refused : goal.returns-then-sets_aside-clause-refused
+returns-then-sets_aside-clause-refused c =
     let tree = sexp_of c.args.item.now in
     let form = item_view c.in_ok-form.form in
-    let ps = scope_view c.in_ok-parameters.parameters.items in
-    let rs = scope_view c.as_slice-2.result.now in
-    let sort = c.in_ok-sort.sort in
-    IfErr-weaker c.add_definition.result _ _
+    IfErr-weaker c.check_repeated.result _ _
     (λ fault refused s m stands items.
-    same_fault (definition_in (names_of m) form.name rs sort form.body) (item_in s m.entries tree) fault
-    (item_step c.args.self.now c.args.script.now s m tree form ps (scope_view c.as_slice.result.now) rs sort
-    c.in_ok-has_declared_rank.field-0 c.requires stands items c.in_ok-form.ensures
-    (c.in_ok-check_name.ensures.flaw s m stands items) c.in_ok-parameters.ensures c.in_ok-sort.ensures
-    (c.in_ok-has_declared_rank.ensures s stands) c.if-not-branch.false
-    (ap scope_view c.as_slice.ensures.value)
-    (ap scope_view c.as_slice-2.ensures.value)) (refused m items))
-    c.add_definition.ensures.refused
+    same_fault (repeated_in s form) (item_in s m.entries tree) fault
+    (item_aside s m.entries tree form c.in_ok-form.ensures
+    (sym (c.sets_aside.ensures s stands) ∙ c.if-sets_aside.true)) (refused s stands))
+    c.check_repeated.ensures.refused
+
+pub returns-else-sets_aside-clause-defined : goal.returns-else-sets_aside-clause-defined
+returns-else-sets_aside-clause-defined c =
+    let tree = sexp_of c.args.item.now in
+    let form = item_view c.in_ok-form.form in
+    on_ok_weaker c.add_item.result
+    (λ defined s m stands items.
+    let made = defined s m stands items in (
+      Some made.0,
+      item_kept s m.entries tree form c.in_ok-form.ensures
+          (sym (c.sets_aside.ensures s stands) ∙ c.if-sets_aside.false)
+          ∙ ap (λ r. result_and_then r (λ e. Ok (Some e))) made.1,
+      made.2,
+    ))
+    c.add_item.ensures.defined
+
+pub returns-else-sets_aside-clause-refused : goal.returns-else-sets_aside-clause-refused
+returns-else-sets_aside-clause-refused c =
+    let tree = sexp_of c.args.item.now in
+    let form = item_view c.in_ok-form.form in
+    IfErr-weaker c.add_item.result _ _
+    (λ fault refused s m stands items.
+    same_fault (result_and_then (form_in s m.entries form) (λ e. Ok (Some e))) (item_in s m.entries tree) fault
+    (item_kept s m.entries tree form c.in_ok-form.ensures
+    (sym (c.sets_aside.ensures s stands) ∙ c.if-sets_aside.false))
+    (same_refusal (form_in s m.entries form) fault (refused s m stands items)))
+    c.add_item.ensures.refused

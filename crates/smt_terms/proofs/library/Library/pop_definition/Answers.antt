@@ -9,7 +9,6 @@ invariant_of-self c =
     let old = c.args.self.now in
     let ends = ap length old.ended ∙ length-ends 0 old.bodies.items in
     record {
-      distinct = old.distinct;
       paired = ap length c.pop-2.ensures.rest ∙ length-take _ old.bodies.items
           ∙ omega (
             arith,

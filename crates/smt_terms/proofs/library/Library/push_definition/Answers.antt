@@ -8,7 +8,6 @@ invariant_of-self-2 c =
     let old = c.args.self.now in
     let pushed = c.push_reserved.ensures.items ∙ ap (λ js. js ++ c.args.node ∷ []) c.in_ok-reserve-2.ensures.items in
     record {
-      distinct = old.distinct;
       paired = ap length pushed ∙ length-append old.bodies.items (c.args.node ∷ [])
           ∙ omega (
             arith,

@@ -13,8 +13,5 @@ returns-clause-abbreviated c =
       c.in_ok-sort.sort,
       ap (λ b. cond b (Err NotFresh) (sort_named (sort_names old) (sexp_of c.args.tree.now)))
           (sym c.if-is_taken.ensures) ∙ sym c.in_ok-sort.ensures,
-      goes_last (λ s. s) (λ s. s) old.abbreviations.entries c.insert.new.self.entries c.in-Ok.key
-          c.args.name.now c.in_ok-sort.sort
-          (not_abbreviated (sort_names old) c.args.name.now (sym c.if-is_taken.ensures)) c.in-Ok.ensures.items
-          c.in-Ok-insert.ensures.entries,
+      c.in_ok-insert.ensures.inserted,
     )

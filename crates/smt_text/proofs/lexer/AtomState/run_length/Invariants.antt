@@ -1,5 +1,5 @@
 use Rattle.std.proofs.Common.{◌≡◌, ℕ, ◌<◌, get_or}
-use Rattle.smt_text.specs.Internal.Machine.{lex}
+use Rattle.smt_text.specs.Internal.LexerStates.{lex}
 use Rattle.smt_text.specs.declared.lexer.LexerStep.TheVariants.{Push}
 use Rattle.smt_text.proofs.lexer.AtomState.run_length.Given as goal
 

@@ -1,6 +1,6 @@
 use Rattle.std.proofs.Common.{ℕ, false, List, [], None, refl, ap, ◌∙◌, rules}
 use Rattle.smt_text.proofs.ReaderLemmas.{stands_new}
-use Rattle.smt_text.specs.Internal.Machine.{At}
+use Rattle.smt_text.specs.Internal.LexerStates.{At}
 use Rattle.smt_text.specs.Internal.ReaderState.{levels_of}
 use Rattle.smt_text.specs.declared.lexer.AtomState.TheVariants.{Nothing}
 use Rattle.smt_text.proofs.reader.Reader.new.Goals as goal

@@ -1,6 +1,6 @@
 -- the reader has gone over the bytes so far
 use Rattle.std.proofs.Common.{◌≡◌, ◌≤◌, ◌-◌, length, take, Some}
-use Rattle.smt_text.specs.Internal.Machine.{run}
+use Rattle.smt_text.specs.Internal.LexerStates.{run}
 use Rattle.smt_text.specs.Internal.ReaderState.{state_of, IsBeside}
 use Rattle.smt_text.specs.declared.reader.TheConstants.{MAX_DEPTH}
 use Rattle.smt_text.proofs.reader.Reader.read.Given as goal

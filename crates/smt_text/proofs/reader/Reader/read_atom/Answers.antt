@@ -3,7 +3,7 @@ use Rattle.std.proofs.lemmas.Bool.{false≢true}
 use Rattle.smt_text.proofs.RunLemmas.{atom_white, atom_close, kept_on, over_goes, rest_of}
 use Rattle.smt_text.proofs.BuilderLemmas.{depth_of-flush}
 use Rattle.smt_text.specs.Internal.ReaderState.{levels_of, state_of, GoesOn}
-use Rattle.smt_text.specs.Internal.Machine.{At, depth_of}
+use Rattle.smt_text.specs.Internal.LexerStates.{At, depth_of}
 use Rattle.smt_text.specs.Lexical.{is_white}
 use Rattle.smt_text.specs.declared.reader.Reader.{Reader}
 use Rattle.smt_text.proofs.reader.Reader.read_atom.Goals as goal

@@ -1,0 +1,6 @@
+-- the definitions are over the theories of the declared names
+use Rattle.smt_terms.specs.Library.{HasTheoriesOf}
+use Rattle.rows.proofs.models.define_items.Given as goal
+
+abbrev pub invariant-loop-item : goal.invariant-loop-item
+invariant-loop-item l = HasTheoriesOf l.definitions l.declared

@@ -1,0 +1,178 @@
+//! The names that stand before a command, as the checker knows them, and the sorts of terms over them. This file
+//! finds no fault itself: sorts are those of the checker.
+
+ghost use Rattle.std.specs.Prelude.{◌≡◌, [], IfOk};
+ghost use Rattle.smt_trees.specs.Tree.{sexp_of};
+ghost use Rattle.smt_terms.specs.Checking.{sort_in};
+ghost use Rattle.smt_terms.specs.Contents.{contents_of};
+ghost use Rattle.smt_terms.specs.Library.{StandsFor};
+ghost use Rattle.smt_terms.specs.Signature.{Signature, names_of};
+ghost use Rattle.smt_explain.specs.Sorts.{IsSortFound};
+
+use crate::force::{Commands, Stand, has_label};
+use crate::pairs::{Head, word};
+use crate::scan::text_at;
+use crate::world::{form_of, tree_of};
+use smt_faults::Memory;
+use smt_forms::{ItemForm, Param, split_named};
+use smt_terms::{Library, TermFault};
+use smt_theory::{Sort, Theories, all_theories, theories_of};
+use smt_trees::Tree;
+use std::alloc::Global;
+
+/// The sort of a term over the names of a library; `None` where it has a fault.
+pub(crate) fn sort_over(library: &mut Library, term: &Tree) -> Result<Option<Sort>, Memory>
+    ensures sort { IfOk result (λ sort. (s : Signature) → StandsFor library.old s
+        → IsSortFound (sort_in (names_of s) [] (sexp_of term.now)) sort) }
+    ensures held { contents_of library.new ≡ contents_of library.old }
+{
+    let checked = library.check_transient(term);
+    let nodes = library.take_transient();
+    drop(nodes);
+    match checked {
+        Ok((_, sort)) => Ok(Some(sort)),
+        Err(TermFault::Memory) => Err(Memory),
+        Err(_) => Ok(None),
+    }
+}
+
+/// The sort that a tree names over the abbreviations of a library; `None` where it names none.
+pub(crate) fn sort_named(library: &mut Library, tree: &Tree) -> Result<Option<Sort>, Memory> {
+    let mark = library.mark();
+    // (No name of a script has a bar in it.)
+    let declared = library.declare(1, b"|", &[], tree);
+    let sort = match library.declared().last() {
+        Some(last) => Some(last.result),
+        None => None,
+    };
+    library.cut(mark);
+    match declared {
+        Ok(()) => Ok(sort),
+        Err(TermFault::Memory) => Err(Memory),
+        Err(_) => Ok(None),
+    }
+}
+
+/// Which of what commands brought a library holds.
+#[derive(Clone, Copy, PartialEq, Eq)]
+pub(crate) enum Held {
+    All,
+    /// Abbreviations of sorts alone.
+    Sorts,
+}
+
+/// A library of what these commands brought, of which each took effect before a place; `None` where one has a fault.
+pub(crate) fn library_of(
+    alloc: Global,
+    commands: Commands<'_>,
+    standing: &[Stand],
+    before: usize,
+    held: Held,
+) -> Result<Option<Library>, Memory> {
+    let mut library = Library::new(alloc, theories_before(commands, before));
+    for stand in standing {
+        if let Some((head, text)) = commands.at(stand.place)
+            && is_held(held, head, text)
+        {
+            match add_command(alloc, &mut library, head, text) {
+                Ok(()) => {}
+                Err(TermFault::Memory) => return Err(Memory),
+                Err(_) => return Ok(None),
+            }
+        }
+    }
+    Ok(Some(library))
+}
+
+fn is_held(held: Held, head: Head, text: &[u8]) -> bool {
+    match head {
+        Head::DefineSort => true,
+        Head::Assert => held == Held::All && has_label(text),
+        _ => held == Held::All,
+    }
+}
+
+// The theories of the logic that stands before a place: all where there is none.
+fn theories_before(commands: Commands<'_>, before: usize) -> Theories {
+    let mut theories = all_theories(commands.profile);
+    for (place, pair) in commands.pairs.iter().enumerate() {
+        if place >= before {
+            break;
+        }
+        if pair.effective && pair.head == Head::Reset {
+            theories = all_theories(commands.profile);
+        }
+        if pair.effective
+            && pair.head == Head::Logic
+            && let Some((_, text)) = commands.at(place)
+            && let Some(named) = theories_of(commands.profile, word(text, 1))
+        {
+            theories = named;
+        }
+    }
+    theories
+}
+
+fn add_command(
+    alloc: Global,
+    library: &mut Library,
+    head: Head,
+    text: &[u8],
+) -> Result<(), TermFault> {
+    let tree = match tree_of(alloc, text) {
+        Ok(Some(tree)) => tree,
+        Ok(None) => return Ok(()),
+        Err(Memory) => return Err(TermFault::Memory),
+    };
+    match (head, form_of(&tree)) {
+        (Head::Define, Some(form)) => add_form(alloc, library, &form),
+        _ => add_parts(library, head, &tree),
+    }
+}
+
+/// Adds what an item or a definition defines.
+pub(crate) fn add_form(
+    alloc: Global,
+    library: &mut Library,
+    form: &ItemForm<'_>,
+) -> Result<(), TermFault> {
+    let mut params = Vec::new(alloc);
+    let mut left = form.parameters;
+    for _ in 0..form.parameters.len() {
+        let Some((name, sort, rest)) = split_named(left) else {
+            break;
+        };
+        push_param(&mut params, Param { name, sort })?;
+        left = rest;
+    }
+    library.define(form.name, params.as_slice(), form.sort, form.body)
+}
+
+fn push_param<'a>(params: &mut Vec<Param<'a>>, param: Param<'a>) -> Result<(), TermFault> {
+    match params.push(param) {
+        Ok(()) => Ok(()),
+        Err(_) => Err(TermFault::Memory),
+    }
+}
+
+fn add_parts(library: &mut Library, head: Head, command: &Tree) -> Result<(), TermFault> {
+    let Tree::List(parts) = command else {
+        return Ok(());
+    };
+    match (head, parts.as_slice()) {
+        (Head::Declare, [_, Tree::Symbol(name), sort]) => {
+            library.declare(1, name.as_slice(), &[], sort)
+        }
+        (Head::Declare, [_, Tree::Symbol(name), Tree::List(params), sort]) => {
+            library.declare(1, name.as_slice(), params.as_slice(), sort)
+        }
+        (Head::DefineSort, [_, Tree::Symbol(name), _, sort]) => {
+            library.abbreviate(name.as_slice(), sort)
+        }
+        (Head::Assert, [_, term]) => match library.assert(term) {
+            Ok(_) => Ok(()),
+            Err(fault) => Err(fault),
+        },
+        _ => Ok(()),
+    }
+}

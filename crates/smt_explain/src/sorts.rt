@@ -1,0 +1,401 @@
+//! Which sorts differ where a term is ill sorted: the smallest part that is, the argument that does not fit, and
+//! the sort that is needed there. This file knows no values, and no command.
+
+use crate::library::sort_over;
+use crate::page::Page;
+use crate::show::{constant_of, text_of};
+use smt_faults::Memory;
+use smt_forms::{Scope, split_let, split_named};
+use smt_terms::{Found, Library};
+use smt_theory::{Sort, Width};
+use smt_trees::{Tree, Trees, Word, split_first};
+use std::alloc::Global;
+
+/// How many arguments of an operator are looked at for one that does not fit.
+const MOST_ARGUMENTS: usize = 100;
+
+/// Finds the sorts of terms, from the inside: a part is checked with a constant of its sort in the place of each
+/// of its arguments.
+#[derive(Drop)]
+pub(crate) struct Sorter<'a> {
+    pub(crate) alloc: Global,
+    pub(crate) library: Library,
+    /// The variables that a term sees.
+    pub(crate) variables: Scope<'a, Sort>,
+    /// The sorts of the arguments that were looked at before, and whose application was not.
+    sorts: Vec<Sort>,
+    /// The smallest part that is ill sorted, once it is found, and where the sorts of its arguments begin.
+    found: Option<(&'a Tree, usize)>,
+}
+
+impl<'a> Sorter<'a> {
+    /// Over the names of a library.
+    pub(crate) fn new(alloc: Global, library: Library) -> Sorter<'a> {
+        Sorter {
+            alloc,
+            library,
+            variables: Scope::new(alloc),
+            sorts: Vec::new(alloc),
+            found: None,
+        }
+    }
+
+    /// The sort of a term, which sees the variables; `None` where a part of it is ill sorted.
+    #[cycle(sort)]
+    pub(crate) fn sort_of(&mut self, term: &'a Tree) -> Result<Option<Sort>, Memory> {
+        match term {
+            Tree::Symbol(name) => match self.variables.find(name.as_slice()) {
+                Some(sort) => Ok(Some(sort)),
+                None => self.sort_of_leaf(term),
+            },
+            Tree::List(parts) => self.sort_of_list(term, parts.as_slice()),
+            _ => self.sort_of_leaf(term),
+        }
+    }
+
+    fn sort_of_leaf(&mut self, term: &'a Tree) -> Result<Option<Sort>, Memory> {
+        let sort = sort_over(&mut self.library, term)?;
+        if sort.is_none() {
+            self.found = Some((term, self.sorts.len()));
+        }
+        Ok(sort)
+    }
+
+    #[cycle(sort)]
+    fn sort_of_list(&mut self, term: &'a Tree, parts: &'a [Tree]) -> Result<Option<Sort>, Memory> {
+        match split_first(parts) {
+            Some((Tree::Reserved(Word::Bang), args)) => match split_first(args) {
+                Some((inner, _)) => self.sort_of(inner),
+                None => Ok(None),
+            },
+            Some((Tree::Reserved(Word::Let), args)) => self.sort_of_let(args),
+            Some((Tree::Reserved(_), _)) | None => self.sort_of_leaf(term),
+            Some((head, args)) => self.sort_of_application(term, head, args),
+        }
+    }
+
+    #[cycle(sort)]
+    fn sort_of_application(
+        &mut self,
+        term: &'a Tree,
+        head: &'a Tree,
+        args: &'a [Tree],
+    ) -> Result<Option<Sort>, Memory> {
+        let first = self.sorts.len();
+        let mut left = args;
+        while let Some((arg, rest)) = split_first(left) {
+            match self.sort_of(arg)? {
+                Some(sort) => self.sorts.push(sort)?,
+                None => return Ok(None),
+            }
+            left = rest;
+        }
+        let sort = if self.is_variable(head) {
+            None
+        } else {
+            let sorts = sorts_from(self.sorts.as_slice(), first);
+            sort_applied(self.alloc, &mut self.library, head, sorts)?
+        };
+        if sort.is_some() {
+            self.sorts.truncate(first);
+        } else {
+            self.found = Some((term, first));
+        }
+        Ok(sort)
+    }
+
+    #[cycle(sort)]
+    fn sort_of_let(&mut self, args: &'a [Tree]) -> Result<Option<Sort>, Memory> {
+        let Some((bindings, body)) = split_let(args) else {
+            return Ok(None);
+        };
+        let mut bound = Vec::new(self.alloc);
+        let mut left = bindings;
+        while let Some((name, term, rest)) = split_named(left) {
+            match self.sort_of(term)? {
+                Some(sort) => push_variable(&mut bound, name, sort)?,
+                None => return Ok(None),
+            }
+            left = rest;
+        }
+        let before = self.variables.len();
+        for (name, sort) in bound.as_slice() {
+            self.variables.push(name, *sort)?;
+        }
+        let sort = self.sort_of(body)?;
+        // (What a part that was found sees stays.)
+        if sort.is_some() {
+            self.variables.cut(before);
+        }
+        Ok(sort)
+    }
+
+    fn is_variable(&self, head: &Tree) -> bool {
+        match head {
+            Tree::Symbol(name) => self.variables.find(name.as_slice()).is_some(),
+            _ => false,
+        }
+    }
+
+    // The sorts of the parameters of a name.
+    fn params_of(&self, name: &[u8]) -> Result<Option<Vec<Sort>>, Memory> {
+        let mut sorts = Vec::new(self.alloc);
+        match self.library.find(name) {
+            Some(Found::Declared(place)) => {
+                if let Some(declared) = self.library.declared().get(place) {
+                    sorts.extend_from_slice(declared.params.as_slice())?;
+                }
+                Ok(Some(sorts))
+            }
+            Some(Found::Defined(place)) => {
+                if let Some(defined) = self.library.definitions().get(place) {
+                    for (_, sort) in defined.params.as_slice() {
+                        sorts.push(*sort)?;
+                    }
+                }
+                Ok(Some(sorts))
+            }
+            None => Ok(None),
+        }
+    }
+}
+
+fn sorts_from(sorts: &[Sort], first: usize) -> &[Sort] {
+    if first <= sorts.len() {
+        &sorts[first..]
+    } else {
+        &[]
+    }
+}
+
+// The sort of an application of a head to arguments of these sorts.
+fn sort_applied(
+    alloc: Global,
+    library: &mut Library,
+    head: &Tree,
+    sorts: &[Sort],
+) -> Result<Option<Sort>, Memory> {
+    let mut parts = Vec::with_capacity(alloc, sorts.len().saturating_add(1))?;
+    parts.push(head.copy(alloc)?)?;
+    for sort in sorts {
+        parts.push(constant_of(alloc, *sort)?)?;
+    }
+    sort_over(library, &Tree::List(Trees::new(parts)))
+}
+
+/// Adds a variable behind others.
+pub(crate) fn push_variable<'a>(
+    variables: &mut Vec<(&'a [u8], Sort)>,
+    name: &'a [u8],
+    sort: Sort,
+) -> Result<(), Memory> {
+    match variables.push((name, sort)) {
+        Ok(()) => Ok(()),
+        Err(_) => Err(Memory),
+    }
+}
+
+// ---- what is told
+
+/// Tells what is wrong with a term that has to be of a sort, and answers whether there was something to tell.
+pub(crate) fn tell_term_of_sort<'a>(
+    page: &mut Page,
+    sorter: &mut Sorter<'a>,
+    what: &[u8],
+    term: &'a Tree,
+    wanted: Sort,
+) -> Result<bool, Memory> {
+    match sorter.sort_of(term)? {
+        Some(sort) if sort == wanted => Ok(false),
+        Some(sort) => {
+            page.put(b"  ")?;
+            page.put(what)?;
+            tell_difference(page, sort, wanted)?;
+            Ok(true)
+        }
+        None => {
+            tell_found(page, sorter)?;
+            Ok(true)
+        }
+    }
+}
+
+/// Ends a line: one sort is there, and another is needed.
+pub(crate) fn tell_difference(page: &mut Page, sort: Sort, wanted: Sort) -> Result<(), Memory> {
+    page.put(b" is of sort ")?;
+    put_sort(page, sort)?;
+    page.put(b", and ")?;
+    put_sort(page, wanted)?;
+    page.line(b" is needed")
+}
+
+fn put_sort(page: &mut Page, sort: Sort) -> Result<(), Memory> {
+    match sort {
+        Sort::Bool => page.put(b"Bool"),
+        Sort::Int => page.put(b"Int"),
+        Sort::Bits(width) => {
+            page.put(b"(_ BitVec ")?;
+            page.put_number(width.bits())?;
+            page.put(b")")
+        }
+    }
+}
+
+/// Ends a line: so many arguments are needed, and so many are there.
+pub(crate) fn tell_counts(page: &mut Page, needed: usize, given: usize) -> Result<(), Memory> {
+    page.put_number(needed as u64)?;
+    page.put(b", and there are ")?;
+    page.put_number(given as u64)?;
+    page.end()
+}
+
+// Tells the smallest part that was found, and what does not fit in it.
+fn tell_found(page: &mut Page, sorter: &mut Sorter<'_>) -> Result<(), Memory> {
+    let Some((part, first)) = sorter.found else {
+        return Ok(());
+    };
+    page.put(b"  ill sorted: ")?;
+    page.put_cut(text_of(sorter.alloc, part)?.as_slice())?;
+    page.end()?;
+    match part {
+        Tree::List(parts) => match parts.as_slice() {
+            [Tree::Reserved(_), ..] | [] => page.line(b"    it is no constant"),
+            [head, args @ ..] => tell_application(page, sorter, head, args, first),
+        },
+        Tree::Symbol(name) => match sorter.params_of(name.as_slice())? {
+            Some(params) => {
+                page.put(b"    arguments needed: ")?;
+                tell_counts(page, params.len(), 0)
+            }
+            None => page.line(b"    it is no constant"),
+        },
+        _ => Ok(()),
+    }
+}
+
+fn tell_application(
+    page: &mut Page,
+    sorter: &mut Sorter<'_>,
+    head: &Tree,
+    args: &[Tree],
+    first: usize,
+) -> Result<(), Memory> {
+    if sorter.is_variable(head) {
+        return page.line(b"    its head is a variable, which takes no arguments");
+    }
+    let params = match head {
+        Tree::Symbol(name) => sorter.params_of(name.as_slice())?,
+        _ => None,
+    };
+    let alloc = sorter.alloc;
+    let sorts = sorts_from(sorter.sorts.as_slice(), first);
+    match params {
+        Some(params) => tell_rank(page, alloc, args, sorts, params.as_slice()),
+        None => tell_operator(page, alloc, &mut sorter.library, head, args, sorts),
+    }
+}
+
+// Which argument does not fit the rank of a name.
+fn tell_rank(
+    page: &mut Page,
+    alloc: Global,
+    args: &[Tree],
+    sorts: &[Sort],
+    params: &[Sort],
+) -> Result<(), Memory> {
+    if params.len() != sorts.len() {
+        page.put(b"    arguments needed: ")?;
+        return tell_counts(page, params.len(), sorts.len());
+    }
+    for (index, arg) in args.iter().enumerate() {
+        if let (Some(sort), Some(wanted)) = (sorts.get(index), params.get(index))
+            && sort != wanted
+        {
+            put_argument(page, alloc, index, arg)?;
+            return tell_difference(page, *sort, *wanted);
+        }
+    }
+    Ok(())
+}
+
+fn put_argument(page: &mut Page, alloc: Global, index: usize, arg: &Tree) -> Result<(), Memory> {
+    page.put(b"    argument ")?;
+    page.put_number((index as u64).saturating_add(1))?;
+    page.put(b", ")?;
+    page.put_cut(text_of(alloc, arg)?.as_slice())?;
+    page.put(b",")
+}
+
+// Which argument does not fit an operator: the last for which there is a sort that fits. Where there is none, the
+// sorts of all.
+fn tell_operator(
+    page: &mut Page,
+    alloc: Global,
+    library: &mut Library,
+    head: &Tree,
+    args: &[Tree],
+    sorts: &[Sort],
+) -> Result<(), Memory> {
+    let most = args.len().min(MOST_ARGUMENTS);
+    for (index, arg) in args.iter().enumerate().take(most).rev() {
+        if let Some(wanted) = fitting(alloc, library, head, sorts, index)?
+            && let Some(sort) = sorts.get(index)
+        {
+            put_argument(page, alloc, index, arg)?;
+            return tell_difference(page, *sort, wanted);
+        }
+    }
+    page.put(b"    the sorts of its arguments:")?;
+    for sort in sorts {
+        page.put(b" ")?;
+        put_sort(page, *sort)?;
+    }
+    page.end()
+}
+
+// The first sort that fits in the place of an argument: one of the other arguments', or else `Bool`, or `Int`, or
+// vectors of few or many bits.
+fn fitting(
+    alloc: Global,
+    library: &mut Library,
+    head: &Tree,
+    sorts: &[Sort],
+    index: usize,
+) -> Result<Option<Sort>, Memory> {
+    let candidates = candidates_of(alloc, sorts)?;
+    for candidate in candidates.as_slice() {
+        let mut changed = Vec::with_capacity(alloc, sorts.len())?;
+        for (place, sort) in sorts.iter().enumerate() {
+            changed.push(if place == index { *candidate } else { *sort })?;
+        }
+        if sort_applied(alloc, library, head, changed.as_slice())?.is_some() {
+            return Ok(Some(*candidate));
+        }
+    }
+    Ok(None)
+}
+
+fn candidates_of(alloc: Global, sorts: &[Sort]) -> Result<Vec<Sort>, Memory> {
+    let mut candidates = Vec::new(alloc);
+    for sort in sorts {
+        add_sort(&mut candidates, *sort)?;
+    }
+    add_sort(&mut candidates, Sort::Bool)?;
+    add_sort(&mut candidates, Sort::Int)?;
+    for bits in [1u64, 8, 16, 32, 64, 128] {
+        if let Some(width) = Width::new(bits) {
+            add_sort(&mut candidates, Sort::Bits(width))?;
+        }
+    }
+    Ok(candidates)
+}
+
+fn add_sort(sorts: &mut Vec<Sort>, sort: Sort) -> Result<(), Memory> {
+    for other in sorts.as_slice() {
+        if *other == sort {
+            return Ok(());
+        }
+    }
+    sorts.push(sort)?;
+    Ok(())
+}

@@ -1,0 +1,4 @@
+pub mod KeyLemmas
+pub mod ChainLemmas
+pub mod OrderLemmas
+pub mod EntryLemmas

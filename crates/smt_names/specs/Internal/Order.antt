@@ -1,0 +1,37 @@
+-- The places of names in a map by their order.
+use Rattle.std.specs.Prelude.{◌≡◌, ℕ, List, Option, Some, None, bytes_eq}
+use Rattle.std.specs.Global.{Vec}
+use Rattle.std.specs.Ordering.{nat_cmp}
+use Rattle.std.specs.Cmp.Lexicographic.{slice_cmp}
+use Rattle.std.specs.BTreeMap.{BTreeMap, get_by}
+use Rattle.std.specs.Map.{update}
+use Rattle.smt_names.specs.Places.{AreDistinct, place_of}
+
+abbrev pub PlaceMap : Type 0
+PlaceMap = BTreeMap (Vec ℕ) ℕ
+
+-- the place that a map has of a name
+abbrev pub place_in : PlaceMap → List ℕ → Option ℕ
+place_in map name = get_by (λ k. slice_cmp nat_cmp name k.items) map
+
+-- it has those of these names, and of no others
+abbrev pub HasPlaces : List (List ℕ) → PlaceMap → Type 0
+HasPlaces names map = (name : List ℕ) → place_in map name ≡ place_of names name
+
+abbrev pub HasPlacesIfAny : List (List ℕ) → Option PlaceMap → Type 0
+HasPlacesIfAny names None = Unit {0}
+HasPlacesIfAny names (Some map) = HasPlaces names map
+
+-- no name stands twice, and a map, if there is one, has their places
+pub record IsIndexed (names : List (List ℕ)) (map : Option PlaceMap) : Type 0 where
+  pub distinct : AreDistinct names
+  pub places : HasPlacesIfAny names map
+
+-- the second map has this place of the name, and those that the first has of others
+abbrev pub HasPlace : List ℕ → ℕ → (old new : PlaceMap) → Type 0
+HasPlace name place old new = (other : List ℕ)
+    → place_in new other ≡ update bytes_eq (place_in old) name (Some place) other
+
+-- two maps have the same places
+abbrev pub AreSame : (old new : PlaceMap) → Type 0
+AreSame old new = (name : List ℕ) → place_in new name ≡ place_in old name

@@ -1,0 +1,26 @@
+//! Each distinct name once, with a number by which it is known from then on: the place, from 0, at which it
+//! came. This crate knows nothing of what a name stands for.
+//!
+//! `Names::place` answers the place of a name, and adds the name where it is a new one; `Names::find` only
+//! asks. So of `x`, `y` and `x` again the places are 0, 1 and 0:
+//!
+//! ```text
+//! let mut names = Names::new(alloc);
+//! names.place(b"x")?;   // 0
+//! names.place(b"y")?;   // 1
+//! names.place(b"x")?;   // 0
+//! names.name(1)         // b"y"
+//! names.find(b"z")      // None
+//! ```
+//!
+//! A name is found by a hash, or, where too many names share one, by their order; no contract knows which.
+#![tactic(auto)]
+
+mod chains;
+mod keys;
+pub mod laws;
+mod map;
+mod names;
+
+pub use map::NameMap;
+pub use names::Names;

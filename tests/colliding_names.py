@@ -1,0 +1,91 @@
+"""Compares what names take that all have one key in `smt_names`, and so share its lists, with what names take that were drawn at random.
+
+python3 tests/colliding_names.py PROGRAM [N] [TIMES]: for declared names, abbreviations of sorts, variables of one `let`, labels, and items of a
+model, N of each kind (64,000), the seconds of the processor of both, and the ratio. It ends with 1 where the colliding ones take over TIMES (3)
+times as long, and a tenth of a second more.
+"""
+import os
+import random
+import subprocess
+import sys
+import tempfile
+
+FACTOR = 11_400_714_819_323_198_485
+ALL = (1 << 64) - 1
+LENGTH = 24
+# What stands in bars: printable, but no bar and no backslash.
+BYTES = [byte for byte in [*range(0x20, 0x7F), *range(0x80, 0x100)] if byte not in b"|\\"]
+
+
+def mixed(key):
+    """`mixed` in crates/smt_names/src/keys.rt."""
+    product = key * FACTOR
+    return (product >> 64) ^ (product & ALL)
+
+
+def drawn(count, seed):
+    """So many names at random."""
+    maker, names = random.Random(seed), set()
+    while len(names) < count:
+        names.add(bytes(maker.choice(BYTES) for _ in range(LENGTH)))
+    return sorted(names)
+
+
+def colliding(count, seed):
+    """So many names of one key: of three pieces of eight bytes the second brings the hash of the first to one number, and the third is one."""
+    maker, names, allowed = random.Random(seed), set(), set(BYTES)
+    while len(names) < count:
+        first = bytes(maker.choice(BYTES) for _ in range(8))
+        second = (mixed(LENGTH ^ int.from_bytes(first, "little")) ^ 0x4142434445464748).to_bytes(8, "little")
+        if allowed.issuperset(second):
+            names.add(first + second + b"thirdone")
+    return sorted(names)
+
+
+def joined(form, names):
+    """The form, once with each name in bars."""
+    return b"".join(form % (b"|" + name + b"|") for name in names)
+
+
+# A kind of names: the script and the answers with these.
+KINDS = {
+    "declared names": lambda names: (joined(b"(declare-const %s Bool)\n", names), b""),
+    "abbreviations": lambda names: (joined(b"(define-sort %s () Bool)\n", names), b""),
+    "variables": lambda names: (b"(assert (let (" + joined(b"(%s true)\n", names) + b") true))\n", b""),
+    "labels": lambda names: (b"(assert (! true " + joined(b":named %s\n", names) + b"))\n", b""),
+    "items": lambda names: (b"(check-sat)(get-model)\n", b"sat\n(" + joined(b"(define-fun %s () Bool true)\n", names) + b")\n"),
+}
+
+
+def seconds(program, script, answers):
+    """The least seconds of the processor of three runs, of which each has to take both texts."""
+    taken = []
+    for _ in range(3):
+        before = os.times()
+        report = subprocess.run([program, "--print-success", "off", script, answers], capture_output=True, check=False)
+        after = os.times()
+        if report.returncode != 0:
+            sys.exit("colliding names: status %d: %s" % (report.returncode, report.stdout[:200]))
+        taken.append(after.children_user + after.children_system - before.children_user - before.children_system)
+    return min(taken)
+
+
+def main(program, count="64000", times="3"):
+    """Prints the table, and answers whether each kind is within the bound."""
+    within = True
+    with tempfile.TemporaryDirectory() as folder:
+        script, answers = os.path.join(folder, "script"), os.path.join(folder, "answers")
+        for kind, texts in KINDS.items():
+            taken = []
+            for maker in (drawn, colliding):
+                for path, text in zip((script, answers), texts(maker(int(count), 1))):
+                    with open(path, "wb") as file:
+                        file.write(text)
+                taken.append(seconds(program, script, answers))
+            print("%-14s  %.2f s drawn  %.2f s colliding  %.1f times" % (kind, *taken, taken[1] / max(taken[0], 0.001)))
+            within = within and taken[1] <= float(times) * taken[0] + 0.1
+    return within
+
+
+if __name__ == "__main__":
+    sys.exit(0 if main(*sys.argv[1:]) else 1)

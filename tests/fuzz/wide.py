@@ -1,0 +1,426 @@
+"""Invents dialogues of the profile `wide`: the stories of `base`, in which the new forms are used often, and aims of their own."""
+import random
+
+from dialogues import AIMS, Dialogue, Story, aims, is_right_form, soup_of
+from flaws import LETTERS, SORT_LETTERS, templates
+from inventor import NAMES
+from script import Definition
+from sorts import BOOL, INT, INTS, LOGICS, WIDE, WIDE_LOGICS, Faulty
+from text import NUMERAL, begins_with, is_kind, is_symbol, is_word, read
+from trees import copied, keyword, listed, lists_in, symbol, word, written
+from values import OPEN
+
+WIDE_AIMS = AIMS + aims(
+    "wide",
+    {
+        "repeated": 8, "rank": 16, "gone": 4, "inner": 4, "logic": 14, "assumed": 12, "const": 14, "bare": 10, "declared": 3, "twice": 2,
+        "body": 3,
+    },
+)
+
+NO_LOGICS = ("HORN", "QF_S", "all", "", "QF_", "QF_QF_BV", "QF_ALL_", "BVQF_", "QF_FP", "qf_bv", "QF_AUFBVFP", "SMT", "let", "QFBV")
+
+# Bodies that no item of the model may have; a repeated item may.
+NONSENSE = templates(
+    """
+    () (p) let :a "a" 1.5 (unknown 1) (_ bad) (as x Int) (forall ((x Int)) true) (! true) (let () true) (_ as-array k!1) ((as const U) 1)
+    (lambda ((x Int)) x) (! true :named l) (= 1 true) #b1 ((((let)))) |declare-fun| (root-obj (+ (^ x 2) (- 2)) 2) U!val!0 (+) 12 assert
+    """
+)
+# Commands about `define-const`, most of them out of form. NAME stands for a free name, TAKEN for one that is none.
+CONSTANTS = templates(
+    """
+    (define-const) (define-const NAME) (define-const NAME Bool) (define-const NAME Bool true true) (define-const let Bool true)
+    (define-const 1 Bool true) (define-const (NAME) Bool true) (define-const NAME () Bool true) (define-const "a" Bool true)
+    (|define-const| NAME Bool true) (|define-const| NAME Bool) (define-consts NAME Bool true) (|Define-const| NAME Bool true)
+    ((define-const) NAME Bool true) (define-const NAME Bool 1) (define-const NAME Real 1) (define-const NAME Foo true)
+    (define-const NAME (_ BitVec 0) true) (define-const NAME Bool NAME) (define-const TAKEN Bool true) (define-const NAME () true)
+    (define-const NAME Bool (! true :named l)) (define-const NAME Bool (and true)) (define-const NAME Bool (= true false))
+    (define-const and Bool true) (define-const define-const Bool true) (define-const NAME Bool 1.5) (define-const :a Bool true) define-const
+    (define-const NAME Bool ()) (define-const NAME (Int) true) (define-const NAME Bool (TAKEN)) (define-const NAME (_ BitVec) true)
+    (define-const NAME Bool (let ((x true)) x)) (define-const NAME Bool (let ((x true) (x true)) x)) (define-fun NAME Bool true)
+    """
+)
+# Lists of levels, for scripts that have some levels or none.
+LEVELS = templates(
+    "((push) (pop)) ((push) (push) (pop 2)) ((push 2) (pop) (pop)) ((pop)) ((push) (pop) (pop)) ((push 0) (pop)) ((push) (pop 1)) "
+    "((push 9999) (push) (push)) ((push ()) (pop)) ((push) (pop ())) ((push) (reset-assertions) (pop)) ((push) (reset) (pop)) "
+    "((push 10000) (push)) ((push 10000) (push)) ((push) (push 9999) (push) (push)) ((|push|)) ((push let)) ((push) (push 1) (pop) (pop 1))"
+)
+
+
+def reformed(tree):
+    """A command in its form of this profile, if it has one."""
+    if begins_with(tree, "push") or begins_with(tree, "pop"):
+        if len(tree) == 2 and is_kind(tree[1], NUMERAL) and tree[1].text == "1":
+            return tree[:1]
+    if begins_with(tree, "define-fun") and len(tree) == 5 and tree[2] == [] and is_symbol(tree[1]):
+        return [symbol("define-const"), tree[1], tree[3], tree[4]]
+    return tree
+
+
+class WideStory(Story):
+    """A story in the profile `wide`."""
+
+    PROFILE = WIDE
+    LOGIC_NAMES = sorted(LOGICS[WIDE]) + ["ALL", "QF_BV", "QF_LIA", "QF_UFBV", "ALL_SUPPORTED"] * 8 + ["AX", "QF_AX"] * 3
+
+    def __init__(self, rng, aim, turn, with_steps):
+        super().__init__(rng, aim, turn, with_steps)
+        # How many definitions a model repeats, and which names were defined or were labels.
+        self.repeats = rng.choice((0, 0.3, 0.7, 1, 1))
+        self.defined = set()
+
+    # Commands and answers
+
+    def do(self, tree, answer=None):
+        """A command, in one of its forms."""
+        done = super().do(reformed(tree) if self.rng.random() < 0.5 else tree, answer)
+        self.defined.update(thing.name for thing in self.force.of_kind(Definition))
+        return done
+
+    def answer_to(self, command, need):
+        """What the solver answers: it may not know a logic."""
+        if command.word == "set-logic" and self.rng.random() < 0.25:
+            return symbol("unsupported") if not self.force.print_success else self.no_effect()
+        return super().answer_to(command, need)
+
+    # Terms that are assumed
+
+    def literals(self):
+        """What a check assumes: terms too, mostly such as are true in the secret model."""
+        rng = self.rng
+        found = super().literals()
+        for _ in range(rng.choice((0, 0, 1, 1, 2, 3))):
+            term = self.true_term(rng.choice((2, 3, 5, 8)))
+            if self.chance(0.05):
+                term = self.inventor().spoiled(term, self.flaws(self.inventor()).term(rng.choice(LETTERS), {}))
+            found.insert(rng.randint(0, len(found)), term)
+        return found
+
+    def true_term(self, size):
+        """A term that is true in the secret model, mostly."""
+        inventor = self.inventor()
+        term = inventor.term(BOOL, size, {})
+        if self.rng.random() < 0.4:
+            term = self.exact(inventor.term(inventor.sort(), size, {}))
+        try:
+            value = self.value_of(term)
+        except Faulty:
+            return term
+        if value is False and not self.chance(0.06):
+            return listed("not", term)
+        return listed("or", term, "true") if value is OPEN and self.rng.random() < 0.7 else term
+
+    # Items that repeat definitions
+
+    def model(self, flaws=None):
+        """A model, that repeats labels and definitions of the script."""
+        items = super().model(flaws)
+        self.repeat_in(items, self.repeats)
+        if self.chance(0.1):
+            self.add_gone(items)
+        return items
+
+    def repeat_in(self, items, part):
+        """Puts items for a part of the labels and definitions in force among others, in any order."""
+        rng = self.rng
+        for thing in self.force.of_kind(Definition):
+            if rng.random() < part:
+                item = self.repeated(thing)
+                if self.chance(0.04):
+                    self.spoil_rank(item, rng.randrange(20))
+                self.put(items, item)
+                if self.chance(0.04):
+                    self.put(items, copied(item))
+
+    def put(self, items, item):
+        """Puts an item into a model, behind the word `model` mostly."""
+        least = 1 if items and is_symbol(items[0], "model") and not self.chance(0.02) else 0
+        items.insert(self.rng.randint(least, len(items)), item)
+
+    def repeated(self, thing):
+        """An item of the rank of a definition, whose body may be anything."""
+        rng = self.rng
+        inventor = self.inventor()
+        names = inventor.variable_names(len(thing.rank.parameters))
+        if len(names) < len(thing.rank.parameters):
+            names = ["x!%d" % number for number in range(len(thing.rank.parameters))]
+        parameters = [[symbol(name), inventor.sort_tree(sort)] for name, sort in zip(names, thing.rank.parameters)]
+        result = thing.rank.result
+        choice = rng.random()
+        if choice < 0.35:
+            body = inventor.term(result, rng.choice((1, 2, 4)), dict(zip(names, thing.rank.parameters)))
+        elif choice < 0.5:
+            body = symbol(rng.choice(list(self.force.ranks) + NAMES))
+        elif choice < 0.7:
+            body = inventor.term(inventor.sort(), rng.choice((1, 3)), {})
+        else:
+            body = copied(rng.choice(NONSENSE))
+        return [word("define-fun"), symbol(thing.name), parameters, inventor.sort_tree(result), body]
+
+    def spoil_rank(self, item, turn):
+        """A fault in the form, the parameters, the sort or the rank of an item."""
+        rng = self.rng
+        inventor = self.inventor()
+        sort = inventor.sort_tree(inventor.sort())
+        kind = turn % 10
+        if kind == 0:
+            item[2] = item[2] + [listed("extra", sort)]
+        elif kind == 1:
+            item[2] = item[2][:-1]
+        elif kind == 2:
+            item[3] = sort
+        elif kind == 3:
+            item[3] = self.flaws(inventor, turn // 10).sort(rng.choice(SORT_LETTERS))
+        elif kind == 4:
+            item[2] = [listed("extra", self.flaws(inventor, turn // 10).sort(rng.choice(SORT_LETTERS)))] + item[2]
+        elif kind == 5:
+            item[2] = item[2] + [listed("twice", sort), listed("twice", sort)]
+        elif kind == 6:
+            item[0] = word(rng.choice(("define-fun-rec", "define-funs-rec", "declare-fun", "define-const")))
+        elif kind == 7:
+            item[2:3] = rng.choice(([], [[listed("x")]], [symbol("x")], [[symbol("x")]], [[listed("let", sort)]], [[], []]))
+        elif kind == 8:
+            item[:] = item[:-1] if rng.random() < 0.5 else item + [symbol("x")]
+        else:
+            item[2] = [listed("extra", sort), listed("extra", self.flaws(inventor).sort())]
+            item[3] = self.flaws(inventor).sort()
+
+    def add_gone(self, items):
+        """An item for a name that was defined or a label and is neither any more: a helper like others."""
+        gone = sorted(self.defined - set(self.force.ranks))
+        if not gone:
+            return None
+        inventor = self.inventor()
+        name = self.rng.choice(gone)
+        sort = inventor.sort()
+        body = inventor.literal(sort) if self.rng.random() < 0.6 else copied(self.rng.choice(NONSENSE))
+        self.put(items, [word("define-fun"), symbol(name), [], inventor.sort_tree(sort), body])
+        return name
+
+    # Aims
+
+    def aim_now(self):
+        """What the seed aims at."""
+        if self.aim == "wide":
+            getattr(self, "aim_at_" + self.what)()
+        else:
+            super().aim_now()
+
+    def a_definition(self):
+        """A new label, constant or function that the script defines, or None."""
+        rng = self.rng
+        kind = rng.choice(("defined", "label", "function"))
+        if kind != "function":
+            return self.new_formula(kind)
+        self.fresh += 1
+        name = "d%d" % self.fresh
+        inventor = self.inventor()
+        sorts = [inventor.sort() for _ in range(rng.choice((0, 1, 1, 2)))]
+        parameters = self.plain_parameters(inventor, sorts)
+        result = inventor.sort()
+        scope = {parameter[0].text: sort for parameter, sort in zip(parameters, sorts)}
+        if not self.over and not self.force.context().is_taken(name):
+            self.do([word("define-fun"), symbol(name), parameters, inventor.sort_tree(result), inventor.term(result, 4, scope)])
+        return name if name in self.force.ranks else None
+
+    def thing_named(self, name):
+        """The definition of this name in force, or None."""
+        return next((thing for thing in self.force.of_kind(Definition) if thing.name == name), None)
+
+    def sat_with(self, change):
+        """A check that is answered `sat`, with a model that is changed."""
+        tree = self.check_tree()
+        if not self.over:
+            self.do(tree, symbol("sat"))
+        if not self.over:
+            items = self.model([])
+            change(items)
+            self.do(listed("get-model"), items)
+
+    def aim_at_repeated(self):
+        """A model that repeats all."""
+        self.a_definition()
+        self.sat_with(lambda items: self.repeat_in(items, 1))
+
+    def aim_at_rank(self):
+        """A repeated item with a fault, in front of others or behind them."""
+        self.repeats = 0
+        thing = self.thing_named(self.a_definition())
+
+        def change(items):
+            if thing is not None:
+                item = self.repeated(thing)
+                self.spoil_rank(item, self.turn)
+                self.put(items, item)
+
+        self.sat_with(change)
+
+    def aim_at_twice(self):
+        """An item that repeats a definition twice; a second one may have another rank."""
+        self.repeats = 0
+        thing = self.thing_named(self.a_definition())
+
+        def change(items):
+            if thing is not None:
+                for place in range(2):
+                    item = self.repeated(thing)
+                    if place and self.rng.random() < 0.3:
+                        self.spoil_rank(item, self.turn)
+                    self.put(items, item)
+
+        self.sat_with(change)
+
+    def aim_at_gone(self):
+        """A label or a definition whose level is gone."""
+        self.do(listed("push", 1))
+        if not self.over:
+            self.a_definition()
+        if not self.over:
+            self.do(self.rng.choice((listed("pop", 1), listed("pop", 1), listed("reset-assertions"))))
+        self.sat_with(self.add_gone)
+
+    def aim_at_inner(self):
+        """Labels inside terms, and items for them."""
+        self.fresh += 1
+        names = ["in%d.%d" % (self.fresh, number) for number in range(3)]
+        inventor = self.inventor()
+        if self.over or any(self.force.context().is_taken(name) for name in names):
+            return
+        parts = [listed("!", inventor.term(BOOL, 3, {}), keyword(":named"), name) for name in names[:2]]
+        parts[1] = listed("!", listed("or", parts[1], "true"), keyword(":named"), names[2])
+        self.assert_tree(listed("=>", listed("and", "false", *parts), "true"))
+        self.sat_with(lambda items: self.repeat_in(items, 1))
+
+    def aim_at_body(self):
+        """A repeated item whose name another body uses."""
+        self.repeats = 0
+        name = self.a_definition()
+        thing = self.thing_named(name)
+
+        def change(items):
+            if thing is not None:
+                items.insert(1 if items and is_symbol(items[0]) else 0, self.repeated(thing))
+                if thing.rank.parameters == ():
+                    sort = self.inventor().sort_tree(thing.rank.result)
+                    items.append([word("define-fun"), symbol("user"), [], sort, symbol(name)])
+
+        self.sat_with(change)
+
+    def aim_at_declared(self):
+        """An item of a declared name, which is never set aside."""
+        name = self.new_formula("declared")
+
+        def change(items):
+            for item in items:
+                if is_right_form(item) and item[1].text == name:
+                    if self.rng.random() < 0.5:
+                        item[4] = copied(self.rng.choice(NONSENSE))
+                    else:
+                        self.spoil_rank(item, self.turn)
+
+        self.sat_with(change)
+
+    def aim_at_logic(self):
+        """A logic, that the solver knows or not."""
+        rng = self.rng
+        self.do(listed("reset"))
+        if rng.random() < 0.2 and not self.over:
+            self.option()
+        known = rng.random() < 0.6
+        names = WIDE_LOGICS[self.turn % len(WIDE_LOGICS)][1].split()
+        name = rng.choice(("", "QF_")) + rng.choice(names) if known else rng.choice(NO_LOGICS)
+        answer = symbol("unsupported") if rng.random() < (0.4 if known else 0.8) else None
+        if not self.over:
+            self.do(listed("set-logic", symbol(name)), answer)
+        for _ in range(rng.choice((1, 2))):
+            if not self.over:
+                self.declare(rng.random() < 0.5)
+        if not self.over:
+            self.do(rng.choice((listed("set-logic", "ALL"), listed("assert", listed("=", 1, 1)), listed("check-sat"))))
+        self.sat_with(lambda items: None)
+
+    def aim_at_assumed(self):
+        """Terms as assumptions: true, false, open, faulty, or of another sort."""
+        rng = self.rng
+        inventor = self.inventor()
+        kind = self.turn % 12
+        terms = [self.true_term(rng.choice((2, 4))) for _ in range(rng.choice((0, 1, 1, 2)))]
+        if kind < 8:
+            term = self.flaws(inventor, self.turn // 12).term(LETTERS[kind], {})
+            if rng.random() < 0.4:
+                term = inventor.spoiled(inventor.term(BOOL, 4, {}), term)
+        elif kind == 8:
+            term = inventor.term(rng.choice((INT, BOOL) if INTS in self.force.theories else (BOOL,)), 3, {})
+        elif kind == 9:
+            term = self.false_term()
+        elif kind == 10:
+            term = listed("=", listed("div", 1, 0), 1) if INTS in self.force.theories else symbol("true")
+        else:
+            term = listed("!", self.true_term(3), *rng.choice(([keyword(":named"), symbol("l9")], [keyword(":note")], [])))
+        terms.insert(rng.randint(0, len(terms)), term)
+        if not self.over:
+            self.right_check([], self.check_of(terms))
+
+    def false_term(self):
+        """A term that is false in the secret model, mostly."""
+        term = self.inventor().term(BOOL, 4, {})
+        try:
+            return listed("not", term) if self.value_of(term) is True else term
+        except Faulty:
+            return symbol("false")
+
+    def aim_at_const(self):
+        """A `define-const`, out of form or with a fault, or right."""
+        self.fresh += 1
+        names = {"NAME": symbol("c%d" % self.fresh), "TAKEN": symbol(self.rng.choice(list(self.force.ranks) or ["or"]))}
+        tree = self.flaws(self.inventor()).named(copied(CONSTANTS[self.turn % len(CONSTANTS)]), names)
+        self.do(tree, self.no_effect() if self.force.print_success and self.rng.random() < 0.1 else None)
+        if not self.over:
+            self.sat_with(lambda items: self.repeat_in(items, 1))
+
+    def aim_at_bare(self):
+        """Levels without their number."""
+        for tree in copied(LEVELS[self.turn % len(LEVELS)]):
+            if not self.over:
+                super().do(tree)
+        if not self.over:
+            self.sat_with(lambda items: None)
+
+
+def items_for(rng, commands):
+    """Items that a solver might print for the labels and definitions of a script."""
+    found = []
+    for tree in commands:
+        if begins_with(tree, "define-fun"):
+            found.append(copied(tree))
+        if begins_with(tree, "assert"):
+            for part in lists_in([tree]):
+                if begins_with(part, "!") and len(part) == 4 and is_symbol(part[3]):
+                    found.append([word("define-fun"), part[3], [], symbol("Bool"), copied(rng.choice(NONSENSE + [part[1]] * 9))])
+    return found
+
+
+def widened(seed, dialogue):
+    """A dialogue in which some commands have their form of this profile, and models repeat labels and definitions."""
+    rng = random.Random(~seed)
+    readings = read(dialogue.script), read(dialogue.answers)
+    if rng.random() < 0.3 or any(reading.flaw for reading in readings):
+        return dialogue
+    commands, answers = readings[0].trees, readings[1].trees
+    items = items_for(rng, commands)
+    commands = [reformed(tree) if rng.random() < 0.5 else tree for tree in commands]
+    for answer in answers:
+        if type(answer) is list and answer and (type(answer[0]) is list or is_symbol(answer[0], "model")):
+            for item in items:
+                if rng.random() < 0.6:
+                    answer.insert(rng.randint(1, len(answer)), copied(item))
+    return Dialogue(written(commands), written(answers), dialogue.print_success, dialogue.steps)
+
+
+def invent_wide(seed, with_steps=False):
+    """The dialogue of a seed in the profile `wide`; with limits on steps, if it is said."""
+    if seed % 29 == 11:
+        return soup_of(random.Random(seed))
+    return WideStory(random.Random(seed), WIDE_AIMS[seed % len(WIDE_AIMS)], seed // len(WIDE_AIMS), with_steps).tell()

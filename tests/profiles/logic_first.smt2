@@ -1,0 +1,6 @@
+(set-logic HORN)
+(declare-const x Int)
+(declare-const v (_ BitVec 8))
+(assert (and (> x 0) (= v #x01)))
+(check-sat)
+(get-model)
