@@ -268,32 +268,21 @@ END
 status=0
 "$program" --steps '' a b >output 2>second || status=$?
 [ "$status" = 5 ] && [ ! -s output ] && cmp -s second errors || fail "--steps '' a b"
-refused '--steps 5 --steps 5 a b' <<'END'
-error: the argument '--steps <N>' cannot be used multiple times
+# twice OPTION FORM VALUE OTHER: the option is given twice, with these values.
+twice() {
+    refused "$1 $3 $1 $4 a b" <<END
+error: the argument '$1 <$2>' cannot be used multiple times
 
 Usage: smtcheck [OPTIONS] <SCRIPT> <ANSWERS>
 
 For more information, try '--help'.
 END
-for last in on off; do
-    refused "--print-success on --print-success $last a b" <<'END'
-error: the argument '--print-success <on|off>' cannot be used multiple times
-
-Usage: smtcheck [OPTIONS] <SCRIPT> <ANSWERS>
-
-For more information, try '--help'.
-END
-done
-
-for last in base wide; do
-    refused "--profile wide --profile $last a b" <<'END'
-error: the argument '--profile <base|wide>' cannot be used multiple times
-
-Usage: smtcheck [OPTIONS] <SCRIPT> <ANSWERS>
-
-For more information, try '--help'.
-END
-done
+}
+twice --steps N 5 5
+twice --print-success 'on|off' on on
+twice --print-success 'on|off' on off
+twice --profile 'base|wide' wide base
+twice --profile 'base|wide' wide wide
 
 # helped LINE: the line asks for help, which is printed with status 5.
 cat >wanted <<'END'
