@@ -19,7 +19,7 @@ version=$(sed -n 's/^## //p' CHANGELOG.md | head -n 1)
 grep -q "^smtcheck $version (.*) is installed: $work/to/bin/smtcheck\$" "$work/said" || fail "it said $(cat "$work/said")"
 (cd "$work" && PATH=$work/to/bin:$PATH smtcheck "$data/script.smt2" "$data/answers.txt" >report) || fail 'the installed program has another status'
 cmp -s "$work/report" crates/smtcheck/stdout || fail 'the installed program has another report'
-for file in LICENSE CHANGELOG.md LANGUAGE.md SOLVERS.md COLLECTIONS.md; do
+for file in LICENSE CHANGELOG.md LANGUAGE.md SOLVERS.md COLLECTIONS.md CLAIMS.md CONTRACTS.md TESTING.md; do
     [ -s "$work/to/share/doc/smtcheck/$file" ] || fail "no $file"
 done
 

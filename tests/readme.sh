@@ -67,10 +67,10 @@ grep -qF '`(assert (before drilling 2 painting))`' README.md
 grep -qx 'fault P2 at command 1, answer 1' "$work/printed" || fail "without the option: $(cat "$work/printed")"
 HOME=$work/home ./install.sh "$work/home/.local" >"$work/printed" || fail 'install.sh'
 grep -qF "\`$(rt version)\`" README.md || fail "it names another kit than $(rt version)"
-[ "$(wc -l <README.md)" -le 150 ] || fail "it has $(wc -l <README.md) lines"
+[ "$(wc -l <README.md)" -le 90 ] || fail "it has $(wc -l <README.md) lines"
 
 # Every link of the README and the documents leads to a file that is there.
-for file in README.md docs/*.md CHANGELOG.md; do
+for file in README.md CONTRIBUTING.md docs/*.md CHANGELOG.md; do
     grep -o '](\([^)]*\))' "$file" | sed 's/^](//; s/)$//; s/#.*//' | while read -r link; do
         case $link in '' | http*) continue ;; esac
         [ -e "$(dirname "$file")/$link" ] || { echo "readme: $file links to $link, which is not there"; exit 1; }

@@ -1,7 +1,7 @@
 #!/bin/sh
 # Tries the wrong bodies that the gate leaves out, for want of time: tests/wrong_bodies/CRATE holds them, in the form of must-fail/.
 # With names of crates, those of these crates alone. It takes more than an hour. For each crate whose edits were all tried, a line of
-# tests/wrong_bodies/tried says how many of how many were refused, and of which commit.
+# tests/wrong_bodies/tried says how many of how many were refused, and of which commit; docs/TESTING.md has these lines in its table.
 set -e
 cd "$(dirname "$0")/.."
 top=$PWD
@@ -23,4 +23,5 @@ for name; do
     { grep -v "^$name " "$top/tests/wrong_bodies/tried" || true; echo "$name $refused of $all refused, $commit"; } | sort >"$room/tried"
     cp "$room/tried" "$top/tests/wrong_bodies/tried"
 done
+if command -v python3 >"$room/python"; then PYTHONDONTWRITEBYTECODE=1 python3 tests/docs.py --write || status=1; fi
 exit $status

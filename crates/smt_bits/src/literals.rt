@@ -1,8 +1,9 @@
 //! Bit vectors as constants are spelled. This file knows no operator.
 
-ghost use Rattle.std.specs.Prelude.{◌≡◌, ◌+◌, ◌*◌, ◌%◌, ◌^◌, ◌≤◌};
+ghost use Rattle.std.specs.Prelude.{◌≡◌, ◌+◌, ◌*◌, ◌%◌, ◌^◌, ◌≤◌, IfSome};
 ghost use Rattle.std.specs.Char.{digit_value};
 ghost use Rattle.std.specs.Str.Parse.{digits_value};
+ghost use Rattle.smt_theory.specs.Numbers.{below_word};
 ghost use Rattle.smt_bits.specs.Literals.{bin_vector, hex_vector, known_constant};
 
 use crate::bits::Bits;
@@ -14,7 +15,7 @@ use smt_theory::{Width, digit};
 pub fn hex(digits: &[u8]) -> Option<Bits>
     ensures { result ≡ known_constant 16 4 digits.now }
 {
-    constant(16, 4, digits)
+    constant(16, 4, None, digits)
 }
 
 /// The bit vector that binary digits spell, one bit a digit (SMT-LIB 2.6, section 3.1 and theory
@@ -23,20 +24,47 @@ pub fn hex(digits: &[u8]) -> Option<Bits>
 pub fn bin(digits: &[u8]) -> Option<Bits>
     ensures { result ≡ known_constant 2 1 digits.now }
 {
-    constant(2, 1, digits)
+    constant(2, 1, None, digits)
 }
 
-// The digits in a base, each of so many bits.
-fn constant(base: u8, bits: u8, digits: &[u8]) -> Option<Bits>
+/// The same as `hex`, where the number that the digits spell is known: what `smt_theory::number` says of them.
+pub fn hex_of(number: Option<u128>, digits: &[u8]) -> Option<Bits>
+    requires { number ≡ below_word (digits_value 16 digits.now) }
+    ensures { result ≡ known_constant 16 4 digits.now }
+{
+    constant(16, 4, number, digits)
+}
+
+/// The same as `bin`, where the number that the digits spell is known: what `smt_theory::number` says of them.
+pub fn bin_of(number: Option<u128>, digits: &[u8]) -> Option<Bits>
+    requires { number ≡ below_word (digits_value 2 digits.now) }
+    ensures { result ≡ known_constant 2 1 digits.now }
+{
+    constant(2, 1, number, digits)
+}
+
+// The digits in a base, each of so many bits. Their number is read of them, where it is not known already.
+fn constant(base: u8, bits: u8, known: Option<u128>, digits: &[u8]) -> Option<Bits>
     requires some { 1 ≤ bits }
     requires within { bits ≤ 4 }
+    requires known { IfSome known (λ n. n ≡ digits_value base digits.now % 2 ^ 128) }
     ensures { result ≡ known_constant base bits digits.now }
 {
     if digits.len() > 128 {
         return None;
     }
     let width = Width::new(u64::from(bits) * digits.len() as u64)?;
-    Some(Bits::new(width, value(base, digits)))
+    Some(Bits::new(width, known_or_read(base, known, digits)))
+}
+
+fn known_or_read(base: u8, known: Option<u128>, digits: &[u8]) -> u128
+    requires { IfSome known (λ n. n ≡ digits_value base digits.now % 2 ^ 128) }
+    ensures { result ≡ digits_value base digits.now % 2 ^ 128 }
+{
+    match known {
+        Some(number) => number,
+        None => value(base, digits),
+    }
 }
 
 fn value(base: u8, digits: &[u8]) -> u128

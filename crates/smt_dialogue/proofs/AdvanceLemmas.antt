@@ -30,7 +30,7 @@ use Rattle.smt_dialogue.specs.Report.{ArePaired, IsTurn, lines_at_end}
 use Rattle.smt_dialogue.specs.SoFar.{IsBeginning, is_verdict_line, lines_at}
 use Rattle.smt_dialogue.specs.Internal.AcceptedState.{Fits, options_of, state_behind}
 use Rattle.smt_dialogue.specs.Internal.PairingView.{HasRested, IsClosing, IsCut, IsInTurn, IsTurned, IsUnderWay}
-use Rattle.smt_dialogue.specs.Internal.PairingView.{Texts, turn_of, waiting}
+use Rattle.smt_dialogue.specs.Internal.PairingView.{Texts, TreesAreFew, turn_of, waiting}
 use Rattle.smt_dialogue.specs.Internal.TreeQueueView.{HasQueue}
 use Rattle.smt_dialogue.specs.declared.pairing.Pairing.{Pairing}
 use Rattle.smt_dialogue.specs.declared.options.Options.{Options}
@@ -53,11 +53,6 @@ commands_count : (profile : Profile) (pairs : List Pair) (trees later : Sexps) �
 commands_count profile [] trees later h = ap count h ∙ omega arith
 commands_count profile (p ∷ ps) Nil later h = absurd h
 commands_count profile (p ∷ ps) (Cons t ts) later h = omega (arith, commands_count profile ps ts later h.1)
-
--- what the law says that the exchange calls
-abbrev pub TreesAreFew : Type 0
-TreesAreFew = (told : Bool) (bytes : List ℕ) (trees : Sexps) (fault : Option TextFlaw)
-    → Reads max_depth told bytes trees fault → count trees ≤ length bytes
 
 pub few_told : EveryTextReads → TreesStay → FewTrees → TreesAreFew
 few_told every stay few true bytes trees f h = few max_depth bytes trees f h

@@ -1,15 +1,18 @@
 -- What is asked of an answer's tree is told by what it says.
-use Rattle.std.proofs.Common.{◌≡◌, ℕ, Bool, true, false, List, Option, codes, refl, ap, sym}
-use Rattle.std.proofs.Common.{subst}
+use Rattle.std.proofs.Common.{◌≡◌, ℕ, Bool, true, false, List, Option, None, Some, codes, is_some, option_map}
+use Rattle.std.proofs.Common.{◌∙◌, ap, refl, subst, sym}
 use Rattle.std.specs.Cmp.Lexicographic.{same_text}
+use Rattle.std.specs.Int.{from_bool}
 use Rattle.std.specs.Str.{bytes_eq}
 use Rattle.smt_trees.specs.Sexp.{Sexp, Sexps, Atom, Reserved, Items, is_symbol}
 use Rattle.smt_trees.specs.Sexp as sexp
 use Rattle.smt_dialogue.specs.Answers.{is_error, is_refusal}
 use Rattle.smt_dialogue.specs.Internal.AnswerView.{answer_of, is_sat}
-use Rattle.smt_dialogue.specs.Internal.AnswerView.{refuses, unchecked}
+use Rattle.smt_dialogue.specs.Internal.AnswerView.{refuses, tree_of, unchecked}
 use Rattle.smt_dialogue.specs.Lines.{unchecked_answer}
+use Rattle.smt_dialogue.specs.Pairs.{answer_count}
 use Rattle.smt_dialogue.specs.declared.answer.Answer.{Answer}
+use Rattle.smt_dialogue.specs.declared.answer.TakenAnswer.{TakenAnswer}
 use Rattle.smt_report.specs.declared.line.CheckAnswer.{CheckAnswer}
 
 -- ## All that is asked
@@ -77,3 +80,9 @@ unchecked_told a = ap (λ (t : Told). t.unchecked) (all_told a)
 
 pub sat_told : (a : Sexp) → is_symbol (codes "sat") a ≡ is_sat (answer_of a)
 sat_told a = ap (λ (t : Told). t.sat) (all_told a)
+
+-- an answer counts as one, and none as none
+pub counted : (o : Option TakenAnswer) (b : Bool) (n : ℕ) → n ≡ from_bool b → b ≡ is_some o
+    → n ≡ answer_count (option_map tree_of o)
+counted None b n is some = is ∙ ap from_bool some
+counted (Some answer) b n is some = is ∙ ap from_bool some

@@ -1,8 +1,7 @@
 -- What the turns of an exchange come to, by what stands ready of both texts.
 use Rattle.std.proofs.Common.{◌≡◌, ℕ, ◌+◌, Bool, true, false, cond, ◌||◌, List, [], ◌∷◌, ◌++◌, length, Option}
-use Rattle.std.proofs.Common.{Some, None, is_some, IfOk, Result, Ok, Err, refl, ap, sym, ◌∙◌, subst}
+use Rattle.std.proofs.Common.{Some, None, is_some, Ok, refl, ap, sym, ◌∙◌, subst}
 use Rattle.smt_script.specs.StackView.{profile_of, start_of}
-use Rattle.smt_faults.specs.declared.memory.Memory.{Memory}
 use Rattle.smt_trees.specs.Sexp.{Sexp, Sexps, Nil, Cons, append}
 use Rattle.smt_trees.specs.Tree.{sexp_of}
 use Rattle.smt_trees.specs.declared.tree.Tree.{Tree}
@@ -24,7 +23,8 @@ use Rattle.smt_dialogue.specs.InForce.{flaw_of_pair, has_exited_after, need_afte
 use Rattle.smt_dialogue.specs.Pairs.{Pair, answers_taken, answers_then, next_of, pair_of, with_answer}
 use Rattle.smt_dialogue.specs.Report.{ArePaired}
 use Rattle.smt_dialogue.specs.Internal.AcceptedState.{Fits, options_of, state_behind}
-use Rattle.smt_dialogue.specs.Internal.PairingView.{IsClosing, IsInTurn, IsNext, IsTurned, IsUnderWay, Texts, turn_of}
+use Rattle.smt_dialogue.specs.Internal.PairingView.{AllNext, IsClosing, IsInTurn, IsNext, IsTurned, IsUnderWay}
+use Rattle.smt_dialogue.specs.Internal.PairingView.{Texts, turn_of}
 use Rattle.smt_dialogue.specs.Internal.TreeQueueView.{HasQueue, IsAhead, next_trees}
 use Rattle.smt_dialogue.specs.Internal.Turns.{IsTakenUp, taken_for}
 use Rattle.smt_dialogue.specs.declared.accepted.AcceptedPairs.{AcceptedPairs}
@@ -93,11 +93,12 @@ script_waits x texts pairs later rest none open' =
     turn_here x texts pairs later rest false None none (told_open texts.script.told texts.script.fault open')
     (fault_open texts.script.told texts.script.fault open')
 
-pub script_fault : (x : Pairing) (texts : Texts) (pairs : List Pair) (later rest : Sexps) (f : TextFlaw)
-    → later ≡ Nil → texts.script.fault ≡ Some f
-    → turn_of x texts pairs later rest ≡ Ends (Some (lines.TextFault Script f))
-script_fault x texts pairs later rest f none is =
+pub script_fault : (x : Pairing) (texts : Texts) (pairs : List Pair) (later rest : Sexps) (f : TextFlaw) (line : Line)
+    → later ≡ Nil → texts.script.fault ≡ Some f → line ≡ lines.TextFault Script f
+    → turn_of x texts pairs later rest ≡ Ends (Some line)
+script_fault x texts pairs later rest f line none is told =
     turn_here x texts pairs later rest texts.script.told (Some f) none refl is
+    ∙ ap (λ (l : Line). Ends (Some l)) (sym told)
 
 pub script_told : (texts : Texts) → texts.script.fault ≡ None → is_over texts.script ≡ true
     → texts.script.told ≡ true
@@ -136,11 +137,12 @@ answers_wait x texts pairs later rest next none fault told ahead =
     (fault_open texts.answers.told texts.answers.fault ahead.1)
 
 pub answers_fault : (x : Pairing) (texts : Texts) (pairs : List Pair) (later rest : Sexps) (next : Option Tree)
-    (f : TextFlaw) → later ≡ Nil → texts.script.fault ≡ None → texts.script.told ≡ true
-    → IsAhead (comes.End (Some f)) next texts.answers rest
-    → turn_of x texts pairs later rest ≡ Ends (Some (lines.TextFault Answers f))
-answers_fault x texts pairs later rest next f none fault told ahead =
+    (f : TextFlaw) (line : Line) → later ≡ Nil → texts.script.fault ≡ None → texts.script.told ≡ true
+    → IsAhead (comes.End (Some f)) next texts.answers rest → line ≡ lines.TextFault Answers f
+    → turn_of x texts pairs later rest ≡ Ends (Some line)
+answers_fault x texts pairs later rest next f line none fault told ahead is =
     end_here x texts pairs later rest texts.answers.told (Some f) none fault told ahead.0 refl ahead.1
+    ∙ ap (λ (l : Line). Ends (Some l)) (sym is)
 
 pub answers_end : (x : Pairing) (texts : Texts) (pairs : List Pair) (later rest : Sexps) (next : Option Tree)
     → later ≡ Nil → texts.script.fault ≡ None → texts.script.told ≡ true
@@ -304,17 +306,12 @@ turned_behind (turns.Waits closed) old middle new texts pairs later rest same h 
 turned_behind (turns.Ends fault) old middle new texts pairs later rest same h =
     (h.0, h.1, sym (same_turn old middle texts pairs later rest same) ∙ h.2)
 
-pub all_turned : (r : Result Turn Memory) (old middle new : Pairing) → middle.dialogue ≡ old.dialogue
-    → ((texts : Texts) (pairs : List Pair) (later rest : Sexps) → IsUnderWay old texts pairs later rest
-    → IsUnderWay middle texts pairs later rest)
-    → IfOk r (λ turn. (texts : Texts) (pairs : List Pair) (later rest : Sexps)
-    → IsUnderWay middle texts pairs later rest → IsTurned turn middle new texts pairs later rest)
-    → IfOk r (λ turn. (texts : Texts) (pairs : List Pair) (later rest : Sexps)
-    → IsUnderWay old texts pairs later rest → IsTurned turn old new texts pairs later rest)
-all_turned (Err e) old middle new same on h = tt
-all_turned (Ok turn) old middle new same on h = λ texts pairs later rest way.
-    turned_behind turn old middle new texts pairs later rest same
-    (h texts pairs later rest (on texts pairs later rest way))
+-- where no turn came in its place, a command is in turn
+pub next_there : (o : Option Turn) (old new : Pairing) (texts : Texts) (pairs : List Pair) (later rest : Sexps)
+    → o ≡ None → AllNext o old new → IsUnderWay old texts pairs later rest
+    → IsUnderWay new texts pairs later rest × (is_some new.command ≡ true)
+next_there o old new texts pairs later rest none next h =
+    subst (λ (t : Option Turn). IsNext t old new texts pairs later rest) none (next texts pairs later rest h)
 
 pub is_ready : (next : Option Tree) (texts : TextSoFar) (rest : Sexps) → IsAhead comes.Tree next texts rest
     → is_some next ≡ true

@@ -1,28 +1,26 @@
 -- What one turn of a dialogue comes to, by what its command takes.
-use Rattle.std.proofs.Common.{true, ◌≡◌, ℕ, ◌+◌, Bool, List, length, Option, Some, None, Result, Ok, Err}
-use Rattle.std.proofs.Common.{IfOk, ap, sym, ◌∙◌, subst}
+use Rattle.std.proofs.Common.{◌≡◌, ℕ, ◌+◌, Bool, List, [], ◌∷◌, ◌++◌, length, Option, Some, None}
+use Rattle.std.proofs.Common.{ap, sym, ◌∙◌, subst}
 use Rattle.std.specs.Prelude.{option_map}
 use Rattle.smt_trees.specs.Sexp.{Sexps}
-use Rattle.smt_faults.specs.declared.memory.Memory.{Memory}
+use Rattle.smt_faults.specs.declared.command_flaw.CommandFlaw.{CommandFlaw}
 use Rattle.smt_faults.specs.declared.text_flaw.TextFlaw.{TextFlaw}
 use Rattle.smt_script.specs.Command.{Command, is_check}
-use Rattle.smt_dialogue.specs.Answers as answers
 use Rattle.smt_dialogue.specs.Answers.{need_of, taken}
 use Rattle.smt_dialogue.specs.FirstFault as first_fault
-use Rattle.smt_dialogue.specs.FirstFault.{TextSoFar, is_over, turn_of_taken, want_of_answer}
-use Rattle.smt_dialogue.specs.InForce.{print_success_after}
+use Rattle.smt_dialogue.specs.FirstFault.{TextSoFar, is_over, turn_of_flaw, turn_of_taken, want_of_answer}
+use Rattle.smt_dialogue.specs.InForce.{flaw_of_pair, print_success_after}
 use Rattle.smt_dialogue.specs.Pairs.{Pair, answers_taken, next_of, pair_of}
 use Rattle.smt_dialogue.specs.Internal.AnswerView.{tree_of}
 use Rattle.smt_dialogue.specs.Internal.NextAnswerView.{IsTaken, answering_view}
-use Rattle.smt_dialogue.specs.Internal.AcceptedState.{Fits, State}
+use Rattle.smt_dialogue.specs.Internal.AcceptedState.{Fits, State, StandsFor}
 use Rattle.smt_dialogue.specs.Internal.TreeQueueView.{HasQueue}
-use Rattle.smt_dialogue.specs.Internal.Turns.{IsDone, IsTakenUp, taken_for, turn_of_line}
+use Rattle.smt_dialogue.specs.Internal.Turns.{GoesOn, IsTakenUp, taken_for}
 use Rattle.smt_dialogue.specs.declared.need.Need.{Need}
 use Rattle.smt_dialogue.specs.declared.answer.TakenAnswer.{TakenAnswer}
 use Rattle.smt_dialogue.specs.declared.next_answer.NextAnswer.{NextAnswer}
 use Rattle.smt_dialogue.specs.declared.next_answer.NextAnswer.TheVariants as found
 use Rattle.smt_dialogue.specs.declared.tree_queue.TreeQueue.{TreeQueue}
-use Rattle.smt_dialogue.specs.declared.turn.Turn.{Turn}
 use Rattle.smt_dialogue.specs.declared.turn.Turn.TheVariants as turns
 use Rattle.smt_report.specs.declared.line.Line.{Line}
 use Rattle.smt_report.specs.declared.line.Line.TheVariants as lines
@@ -38,48 +36,38 @@ takes_so start on pairs c need a text rest bytes front is same h =
     ap (λ n. taken (is_over text) n (next_of rest)) (ap (λ b. need_of start.profile b c) (sym same) ∙ sym is)
     ∙ sym h.taken_so
 
-by_line : (early : Bool) (start : Start) (pairs : List Pair) (c : Command) (o : Option TakenAnswer) (text : TextSoFar)
-    (rest : Sexps)
-    (bytes : List ℕ) (front : TreeQueue) (need : Need) (new : State) (line : Option Line)
+pub taken_accepted : (start : Start) (on : Bool) (pairs : List Pair) (c : Command) (o : Option TakenAnswer)
+    (need : Need) (text : TextSoFar) (rest : Sexps) (bytes : List ℕ) (front : TreeQueue) (new : State)
+    → need ≡ need_of start.profile on c → on ≡ print_success_after start.print_success pairs
     → IsTaken (found.Takes o) need text rest bytes front
-    → taken_for start pairs c text rest ≡ answers.Takes (option_map tree_of o)
-    → IsDone start.profile line early pairs (pair_of c (option_map tree_of o)) new
-    → IsTakenUp (turn_of_line line) early start pairs c text rest bytes front new
-by_line early start pairs c o text rest bytes front need new None h takes accepted = record {
+    → flaw_of_pair start.profile pairs (pair_of c (option_map tree_of o)) ≡ None
+    → StandsFor new (pairs ++ pair_of c (option_map tree_of o) ∷ [])
+    → GoesOn start pairs c text rest bytes front new
+taken_accepted start on pairs c o need text rest bytes front new is same h faultless stands = record {
   answer = option_map tree_of o;
   left = h.left;
   front_is = h.front_is;
   next = h.left_is;
-  taken_so = takes;
-  faultless = accepted.0;
-  stands = accepted.1;
+  taken_so = takes_so start on pairs c need (found.Takes o) text rest bytes front is same h;
+  faultless = faultless;
+  stands = stands;
 }
-by_line early start pairs c o text rest bytes front need new (Some line) h takes accepted =
-    (ap (turn_of_taken start.profile pairs c text.fault) takes ∙ accepted.0, accepted.1)
 
-pub taken_with : (r : Result Turn Memory) (start : Start) (on : Bool) (c : Command) (o : Option TakenAnswer)
-    (need : Need)
-    (before after : TreeQueue) (old new : List Line → State) → need ≡ need_of start.profile on c
-    → ((taken' : List Line) (early : Bool) (pairs : List Pair) → Fits early (old taken') pairs
-    → on ≡ print_success_after start.print_success pairs)
-    → ((bytes : List ℕ) (text : TextSoFar) (rest : Sexps) → HasQueue before bytes text rest
-    → IsTaken (found.Takes o) need text rest bytes after)
-    → IfOk r (λ turn. (taken' : List Line) (early : Bool) (pairs : List Pair) → Fits early (old taken') pairs
-    → (early ≡ true → is_check c ≡ true) → (line : Option Line) × (turn ≡ turn_of_line line)
-    × IsDone start.profile line early pairs (pair_of c (option_map tree_of o)) (new taken'))
-    → IfOk r (λ turn. (bytes : List ℕ) (text : TextSoFar) (rest : Sexps) (taken' : List Line) (early : Bool)
-    (pairs : List Pair) → HasQueue before bytes text rest → Fits early (old taken') pairs
-    → (early ≡ true → is_check c ≡ true)
-    → IsTakenUp turn early start pairs c text rest bytes after (new taken'))
-taken_with (Err e) start on c o need before after old new is on_is takes h = tt
-taken_with (Ok turn) start on c o need before after old new is on_is takes h = λ bytes text rest taken' early pairs
-    front stands check.
-    let up = h taken' early pairs stands check in
-    let t = takes bytes text rest front in
-    subst (λ u. IsTakenUp u early start pairs c text rest bytes after (new taken')) (sym up.1)
-    (by_line early start pairs c o text rest bytes after need (new taken') up.0 t
-    (takes_so start on pairs c need (found.Takes o) text rest bytes after is (on_is taken' early pairs stands) t)
-    up.2)
+pub taken_refused : (early : Bool) (start : Start) (on : Bool) (pairs : List Pair) (c : Command)
+    (o : Option TakenAnswer) (need : Need) (text : TextSoFar) (rest : Sexps) (bytes : List ℕ) (front : TreeQueue)
+    (new : State) (n : ℕ) (flaw : CommandFlaw) (line : Line)
+    → need ≡ need_of start.profile on c → on ≡ print_success_after start.print_success pairs
+    → n ≡ length pairs + 1 → line ≡ lines.CommandFault n flaw
+    → IsTaken (found.Takes o) need text rest bytes front
+    → flaw_of_pair start.profile pairs (pair_of c (option_map tree_of o)) ≡ Some flaw → Fits early new pairs
+    → IsTakenUp (turns.Ends (Some line)) early start pairs c text rest bytes front new
+taken_refused early start on pairs c o need text rest bytes front new n flaw line is same count told h flawed stands =
+    let takes = takes_so start on pairs c need (found.Takes o) text rest bytes front is same h in (
+      ap (turn_of_taken start.profile pairs c text.fault) takes ∙ ap (turn_of_flaw (length pairs + 1)) flawed
+          ∙ ap (λ k. first_fault.Ends (Some (lines.CommandFault k flaw))) (sym count)
+          ∙ ap (λ l. first_fault.Ends (Some l)) (sym told),
+      stands,
+    )
 
 pub taken_waits : (early : Bool) (start : Start) (on : Bool) (pairs : List Pair) (c : Command) (need : Need)
     (text : TextSoFar)

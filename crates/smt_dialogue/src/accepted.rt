@@ -25,7 +25,7 @@ ghost use Rattle.smt_dialogue.specs.Internal.AcceptedState.{Fits, StandsFor, ans
 ghost use Rattle.smt_dialogue.specs.Internal.AcceptedState.{state_behind};
 ghost use Rattle.smt_report.specs.declared.line.Line.{Line as ReportLine};
 
-use crate::answer::{TakenAnswer, count_of, took_effect};
+use crate::answer::{TakenAnswer, took_effect};
 use crate::checks::{Checks, NewLines};
 use crate::line_queue::LineQueue;
 use crate::options::Options;
@@ -62,14 +62,6 @@ impl AcceptedPairs {
         }
     }
 
-    /// The number of the command in turn, from 1.
-    pub(crate) fn next_number(&self) -> u64
-        requires { self.now.commands + 1 < 2 ^ 64 }
-        ensures { result ≡ self.now.commands + 1 }
-    {
-        self.commands + 1
-    }
-
     /// Accepts one more command, of this kind, with what it takes of the answers. At a fault of its effect the
     /// dialogue stays as it is. Of an answer that is a model nothing may be left.
     pub(crate) fn accept(
@@ -104,8 +96,8 @@ impl AcceptedPairs {
         ensures commands { OnErr result (self.new.commands ≡ self.old.commands) }
         ensures start { options_of self.new ≡ options_of self.old }
     {
-        let number = self.next_number();
-        let count = count_of(answer);
+        let number = self.commands + 1;
+        let count = u64::from(answer.is_some());
         if let Err(fault) = apply_if(answer, &mut self.stack, number, command) {
             return Err(fault);
         }

@@ -1,10 +1,9 @@
 //! What an answer says. A tree is asked once, where a command may take it. This file knows no pairs, and nothing
 //! that is in force.
 
-ghost use Rattle.std.specs.Prelude.{◌≡◌, ◌≤◌, option_map};
+ghost use Rattle.std.specs.Prelude.{◌≡◌, option_map};
 ghost use Rattle.smt_trees.specs.Tree.{sexp_of};
 ghost use Rattle.smt_dialogue.specs.Answers as answers;
-ghost use Rattle.smt_dialogue.specs.Pairs.{answer_count};
 ghost use Rattle.smt_dialogue.specs.Internal.AnswerView as view;
 ghost use Rattle.smt_dialogue.specs.Internal.AnswerView.{AreKnown, tree_of};
 
@@ -132,16 +131,5 @@ pub(crate) fn took_effect(answer: &Option<TakenAnswer>) -> bool
     match answer {
         Some(answer) => !answer.says.refuses(),
         None => true,
-    }
-}
-
-/// How many answers that are: one or none.
-pub(crate) fn count_of(answer: &Option<TakenAnswer>) -> u64
-    ensures count { result ≡ answer_count (option_map tree_of answer.now) }
-    ensures most { result ≤ 1 }
-{
-    match answer {
-        Some(_) => 1,
-        None => 0,
     }
 }

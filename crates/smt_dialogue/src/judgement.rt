@@ -91,7 +91,7 @@ fn judgement_of_flaw(flaw: ModelFlaw) -> Judgement
 }
 
 // The same of a model that was read. What costs little is found from the claims down, whatever else stands in
-// the script.
+// the script. Else all nodes are counted at once, if that takes no longer than the limit lets a walk take.
 fn judge_read(
     machine: &mut Machine,
     library: &Library,
@@ -108,32 +108,13 @@ fn judge_read(
         → IfOk result (λ j. j
         ≡ judged_within limit.steps all (structure_of script definitions)) }
 {
-    let few = few_of(limit, library.nodes().len() as u64);
+    let nodes = library.nodes().len() as u64;
+    let few = few_of(limit, nodes);
     let judgement = judge_within(machine, library, interpretation, claims, few)?;
     if is_decided(&judgement) || limit.steps <= few.steps {
         return Ok(judgement);
     }
-    judge_over(machine, library, interpretation, claims, limit)
-}
-
-// The same, where all nodes are counted at once if that takes no longer than the limit lets a walk take.
-fn judge_over(
-    machine: &mut Machine,
-    library: &Library,
-    interpretation: &mut Interpretation,
-    claims: Claims<'_>,
-    limit: Limit,
-) -> Result<Judgement, Memory>
-    requires terms { (all : List Claimed) × AreClaimed (terms_of library.now) (claims_left claims) all }
-    requires fits { Fits interpretation.old library.now }
-    requires costs { KeepsCosts interpretation.old library.now }
-    ensures { (script definitions : Signature) (all : List Claimed)
-        → libraries.StandsFor library.now script → IsInterpretation interpretation.old script definitions
-        → AreClaimed (terms_of library.now) (claims_left claims.entry) all
-        → IfOk result (λ j. j
-        ≡ judged_within limit.steps all (structure_of script definitions)) }
-{
-    if library.nodes().len() as u64 > limit.steps {
+    if nodes > limit.steps {
         return judge_within(machine, library, interpretation, claims, limit);
     }
     interpretation.count(library)?;

@@ -1,6 +1,6 @@
 //! What commands need of the answers. This file knows no answer, no pairs, and nothing that is in force.
 
-ghost use Rattle.std.specs.Prelude.{◌≡◌, if◌then◌else◌};
+ghost use Rattle.std.specs.Prelude.{◌≡◌};
 ghost use Rattle.smt_dialogue.specs.Answers as answers;
 
 use smt_script::Kind;
@@ -47,10 +47,14 @@ pub(crate) fn need_of(profile: Profile, print_success: bool, kind: Kind) -> Need
         Kind::Echo => Need::Needed(AnswerForm::Echo),
         Kind::Query => Need::Needed(AnswerForm::Other),
         Kind::Exit => Need::Optional(AnswerForm::Success),
-        Kind::PrintSuccess { on } => needed_or(on, Need::Optional(AnswerForm::General)),
-        Kind::Setting => needed_or(print_success, Need::Optional(AnswerForm::Unsupported)),
-        Kind::Logic => needed_or(print_success, silent_logic_need(profile)),
-        Kind::Change | Kind::Reset => needed_or(print_success, Need::Nothing),
+        Kind::PrintSuccess { on: true } => Need::Needed(AnswerForm::General),
+        Kind::PrintSuccess { on: false } => Need::Optional(AnswerForm::General),
+        Kind::Setting | Kind::Logic | Kind::Change | Kind::Reset if print_success => {
+            Need::Needed(AnswerForm::General)
+        }
+        Kind::Setting => Need::Optional(AnswerForm::Unsupported),
+        Kind::Logic => silent_logic_need(profile),
+        Kind::Change | Kind::Reset => Need::Nothing,
     }
 }
 
@@ -62,16 +66,5 @@ fn silent_logic_need(profile: Profile) -> Need
     match profile {
         Profile::Base => Need::Nothing,
         Profile::Wide => Need::Optional(AnswerForm::Unsupported),
-    }
-}
-
-// A general answer is needed where `success` is printed, or else this.
-fn needed_or(print_success: bool, otherwise: Need) -> Need
-    ensures { result ≡ (if print_success then answers.general_need else otherwise) }
-{
-    if print_success {
-        Need::Needed(AnswerForm::General)
-    } else {
-        otherwise
     }
 }

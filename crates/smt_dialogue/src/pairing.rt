@@ -1,24 +1,22 @@
 //! The exchange of commands and answers, as far as both texts have come. What a command does is not known here.
 
-ghost use Rattle.std.specs.Prelude.{◌≡◌, ◌<◌, ◌≤◌, ◌+◌, ◌^◌, ◌++◌, Bool, List, [], ℕ, Option, IfOk, OnErr, None};
+ghost use Rattle.std.specs.Prelude.{◌≡◌, ◌<◌, ◌+◌, ◌^◌, ◌++◌, List, [], IfOk, OnErr, None};
 ghost use Rattle.std.specs.Prelude.{is_some, false, length, true};
-ghost use Rattle.smt_text.specs.Grammar.{max_depth};
-ghost use Rattle.smt_text.specs.Reading.{Reads};
 ghost use Rattle.smt_text.specs.Reader.{bytes_fed, is_finished};
-ghost use Rattle.smt_trees.specs.Sexp.{Nil, Sexps, count};
+ghost use Rattle.smt_trees.specs.Sexp.{Nil, Sexps};
 ghost use Rattle.smt_dialogue.specs.FirstFault.{TextSoFar};
 ghost use Rattle.smt_dialogue.specs.Pairs.{Pair};
 ghost use Rattle.smt_dialogue.specs.Report.{IsRead};
 ghost use Rattle.smt_dialogue.specs.SoFar.{IsBeginning};
 ghost use Rattle.smt_dialogue.specs.Internal.AcceptedState.{options_of};
-ghost use Rattle.smt_dialogue.specs.Internal.PairingView.{GoesOnWith, HasAdvanced, IsAdvance, IsCut, IsNext};
-ghost use Rattle.smt_dialogue.specs.Internal.PairingView.{IsTurned, IsUnderWay, Texts, bytes_at, queue_at, waiting};
-ghost use Rattle.smt_faults.specs.declared.text_flaw.TextFlaw.{TextFlaw};
+ghost use Rattle.smt_dialogue.specs.Internal.PairingView.{AllNext, AllTurned, GoesOnWith, HasAdvanced, HasRoom};
+ghost use Rattle.smt_dialogue.specs.Internal.PairingView.{IsAdvance, IsCut, IsFedAlike, IsTurned, IsUnderWay};
+ghost use Rattle.smt_dialogue.specs.Internal.PairingView.{Texts, TreesAreFew, bytes_at, queue_at, waiting};
 
 use crate::accepted::AcceptedPairs;
 use crate::options::Options;
 use crate::tree_queue::{Ahead, TreeQueue};
-use crate::turn::{Turn, refused, take_up};
+use crate::turn::{Turn, refused, take_up, text_fault};
 use smt_eval::Memory;
 use smt_report::{Line, Side, Verdict};
 use smt_script::{Command, CommandFlaw, read_command};
@@ -27,8 +25,7 @@ use std::alloc::Global;
 
 // A law: of a text no more trees are read than it has bytes, whether its end was told or not.
 fn trees_are_few()
-    ensures few { (told : Bool) (bytes : List ℕ) (trees : Sexps) (fault : Option TextFlaw)
-        → Reads max_depth told bytes trees fault → count trees ≤ length bytes }
+    ensures few { TreesAreFew }
 {
     every_text_reads();
     read_trees_stay();
@@ -165,120 +162,80 @@ impl Pairing {
         }
     }
 
-    /// One turn: the next command is taken up with what it takes of the answers, or it is told why not.
+    /// One turn: takes up the command in turn with what it takes of the answers, or returns why not.
     pub(crate) fn take_turn(&mut self) -> Result<Turn, Memory>
-        requires script_room { bytes_fed self.old.script.reader < 2 ^ 64 }
-        requires answers_room { bytes_fed self.old.answers.reader < 2 ^ 64 }
-        requires way { (texts : Texts) × (pairs : List Pair) × (later : Sexps) × (rest : Sexps)
-            × IsUnderWay self.old texts pairs later rest }
-        ensures turn { IfOk result (λ turn. (texts : Texts) (pairs : List Pair) (later rest : Sexps)
-            → IsUnderWay self.old texts pairs later rest
-            → IsTurned turn self.old self.new texts pairs later rest) }
-        ensures script_fed { bytes_fed self.new.script.reader ≡ bytes_fed self.old.script.reader }
-        ensures answers_fed { bytes_fed self.new.answers.reader
-            ≡ bytes_fed self.old.answers.reader }
+        requires room { HasRoom self.old }
+        ensures turn { IfOk result (λ turn. AllTurned turn self.old self.new) }
+        ensures fed { IsFedAlike self.old self.new }
         ensures start { IfOk result (λ _. options_of self.new.dialogue
             ≡ options_of self.old.dialogue) }
         ensures kept { IsBeginning (waiting self.old) (waiting self.new) }
         ensures cut { OnErr result (waiting self.new ≡ waiting self.old) }
     {
-        match self.ready_command()? {
-            Some(turn) => Ok(turn),
-            None => self.take_up_command(),
+        if let Some(instead) = self.next_command()? {
+            return Ok(instead);
         }
+        let Some(command) = &self.command else {
+            unreachable!()
+        };
+        let turn = take_up(&mut self.dialogue, command, &mut self.answers)?;
+        if let Turn::GoesOn = turn {
+            self.command = None;
+        }
+        Ok(turn)
     }
 
-    // Has a command in turn, or tells what comes in its place.
-    fn ready_command(&mut self) -> Result<Option<Turn>, Memory>
-        requires script_room { bytes_fed self.old.script.reader < 2 ^ 64 }
-        requires answers_room { bytes_fed self.old.answers.reader < 2 ^ 64 }
-        requires way { (texts : Texts) × (pairs : List Pair) × (later : Sexps) × (rest : Sexps)
-            × IsUnderWay self.old texts pairs later rest }
+    // Reads the next command of the script where none is in turn, or returns the turn that comes in its place.
+    fn next_command(&mut self) -> Result<Option<Turn>, Memory>
+        requires room { HasRoom self.old }
+        ensures next { IfOk result (λ turn. AllNext turn self.old self.new) }
+        ensures fed { IsFedAlike self.old self.new }
         ensures dialogue { self.new.dialogue ≡ self.old.dialogue }
-        ensures script_fed { bytes_fed self.new.script.reader ≡ bytes_fed self.old.script.reader }
-        ensures answers_fed { bytes_fed self.new.answers.reader
-            ≡ bytes_fed self.old.answers.reader }
-        ensures next { IfOk result (λ turn. (texts : Texts) (pairs : List Pair) (later rest : Sexps)
-            → IsUnderWay self.old texts pairs later rest
-            → IsNext turn self.old self.new texts pairs later rest) }
     {
         if self.command.is_some() {
             return Ok(None);
         }
-        self.next_command()
-    }
-
-    // Reads the next command of the script, or tells what comes in its place.
-    fn next_command(&mut self) -> Result<Option<Turn>, Memory>
-        requires none { self.old.command ≡ None }
-        requires script_room { bytes_fed self.old.script.reader < 2 ^ 64 }
-        requires answers_room { bytes_fed self.old.answers.reader < 2 ^ 64 }
-        requires way { (texts : Texts) × (pairs : List Pair) × (later : Sexps) × (rest : Sexps)
-            × IsUnderWay self.old texts pairs later rest }
-        ensures dialogue { self.new.dialogue ≡ self.old.dialogue }
-        ensures script_fed { bytes_fed self.new.script.reader ≡ bytes_fed self.old.script.reader }
-        ensures answers_fed { bytes_fed self.new.answers.reader
-            ≡ bytes_fed self.old.answers.reader }
-        ensures next { IfOk result (λ turn. (texts : Texts) (pairs : List Pair) (later rest : Sexps)
-            → IsUnderWay self.old texts pairs later rest
-            → IsNext turn self.old self.new texts pairs later rest) }
-    {
-        trees_are_few();
         match self.script.look()? {
             Ahead::Tree => Ok(self.read_next()),
             Ahead::Wait => Ok(Some(Turn::Waits { closed: false })),
-            Ahead::End(Some(flaw)) => Ok(Some(Turn::Ends(Some(Line::TextFault {
-                side: Side::Script,
-                flaw,
-            })))),
+            Ahead::End(Some(flaw)) => {
+                Ok(Some(Turn::Ends(Some(text_fault(Side::Script, flaw)))))
+            },
             Ahead::End(None) => Ok(Some(self.end_of_script()?)),
         }
     }
 
-    // Behind the last command of a script that has ended: what comes of the answers.
+    // After the last command of a script that has ended: what comes of the answers.
     fn end_of_script(&mut self) -> Result<Turn, Memory>
+        requires room { HasRoom self.old }
         requires none { self.old.command ≡ None }
-        requires answers_room { bytes_fed self.old.answers.reader < 2 ^ 64 }
-        requires way { (texts : Texts) × (pairs : List Pair) × (later : Sexps) × (rest : Sexps)
-            × IsUnderWay self.old texts pairs later rest }
-        ensures dialogue { self.new.dialogue ≡ self.old.dialogue }
-        ensures script_fed { bytes_fed self.new.script.reader ≡ bytes_fed self.old.script.reader }
-        ensures answers_fed { bytes_fed self.new.answers.reader
-            ≡ bytes_fed self.old.answers.reader }
         ensures turn { IfOk result (λ turn. (texts : Texts) (pairs : List Pair) (later rest : Sexps)
             → IsUnderWay self.old texts pairs later rest
             → later ≡ Nil → texts.script.fault ≡ None → texts.script.told ≡ true
             → IsTurned turn self.old self.new texts pairs later rest) }
+        ensures fed { IsFedAlike self.old self.new }
+        ensures dialogue { self.new.dialogue ≡ self.old.dialogue }
     {
-        // A law: no more answers were taken than the answers have bytes.
-        trees_are_few();
         match self.answers.look()? {
             Ahead::Tree => Ok(Turn::Ends(Some(Line::ExtraAnswer {
                 answer: self.dialogue.answers + 1,
             }))),
             Ahead::Wait => Ok(Turn::Waits { closed: true }),
-            Ahead::End(Some(flaw)) => Ok(Turn::Ends(Some(Line::TextFault {
-                side: Side::Answers,
-                flaw,
-            }))),
+            Ahead::End(Some(flaw)) => Ok(Turn::Ends(Some(text_fault(Side::Answers, flaw)))),
             Ahead::End(None) => Ok(Turn::Ends(None)),
         }
     }
 
-    // Reads the tree that stands ready as the command in turn.
+    // Reads the tree that is ready as the command in turn.
     fn read_next(&mut self) -> Option<Turn>
         requires none { self.old.command ≡ None }
         requires ready { is_some self.old.script.next ≡ true }
         requires commands { self.old.dialogue.commands + 1 < 2 ^ 64 }
+        ensures next { AllNext result self.old self.new }
+        ensures fed { IsFedAlike self.old self.new }
         ensures dialogue { self.new.dialogue ≡ self.old.dialogue }
-        ensures script_fed { bytes_fed self.new.script.reader ≡ bytes_fed self.old.script.reader }
-        ensures answers_fed { bytes_fed self.new.answers.reader
-            ≡ bytes_fed self.old.answers.reader }
-        ensures next { (texts : Texts) (pairs : List Pair) (later rest : Sexps)
-            → IsUnderWay self.old texts pairs later rest
-            → IsNext result self.old self.new texts pairs later rest }
     {
-        let number = self.dialogue.next_number();
+        let number = self.dialogue.commands + 1;
         if self.dialogue.stack.exited() {
             return Some(Turn::Ends(Some(refused(number, CommandFlaw::AfterExit))));
         }
@@ -292,34 +249,5 @@ impl Pairing {
             }
             Err(flaw) => Some(Turn::Ends(Some(refused(number, flaw)))),
         }
-    }
-
-    // Takes up the command in turn.
-    fn take_up_command(&mut self) -> Result<Turn, Memory>
-        requires some { is_some self.old.command ≡ true }
-        requires script_room { bytes_fed self.old.script.reader < 2 ^ 64 }
-        requires answers_room { bytes_fed self.old.answers.reader < 2 ^ 64 }
-        requires way { (texts : Texts) × (pairs : List Pair) × (later : Sexps) × (rest : Sexps)
-            × IsUnderWay self.old texts pairs later rest }
-        ensures turn { IfOk result (λ turn. (texts : Texts) (pairs : List Pair) (later rest : Sexps)
-            → IsUnderWay self.old texts pairs later rest
-            → IsTurned turn self.old self.new texts pairs later rest) }
-        ensures script_fed { bytes_fed self.new.script.reader ≡ bytes_fed self.old.script.reader }
-        ensures answers_fed { bytes_fed self.new.answers.reader
-            ≡ bytes_fed self.old.answers.reader }
-        ensures start { IfOk result (λ _. options_of self.new.dialogue
-            ≡ options_of self.old.dialogue) }
-        ensures kept { IsBeginning (waiting self.old) (waiting self.new) }
-        ensures cut { OnErr result (waiting self.new ≡ waiting self.old) }
-    {
-        trees_are_few();
-        let Some(command) = &self.command else {
-            unreachable!()
-        };
-        let turn = take_up(&mut self.dialogue, command, &mut self.answers)?;
-        if let Turn::GoesOn = turn {
-            self.command = None;
-        }
-        Ok(turn)
     }
 }

@@ -105,7 +105,8 @@ impl Session {
         ensures script_ended { is_script_ended self.new ≡ is_script_ended self.old }
         ensures answers_ended { is_answers_ended self.new ≡ is_answers_ended self.old }
     {
-        self.feed(Side::Script, piece)
+        self.take_in(Side::Script, piece);
+        self.rest()
     }
 
     /// Takes the next piece of the answers, of which the end was not told. A session that has failed answers the
@@ -124,7 +125,8 @@ impl Session {
         ensures script_ended { is_script_ended self.new ≡ is_script_ended self.old }
         ensures answers_ended { is_answers_ended self.new ≡ is_answers_ended self.old }
     {
-        self.feed(Side::Answers, piece)
+        self.take_in(Side::Answers, piece);
+        self.rest()
     }
 
     /// Takes the end of the script, which was not told before. An end that answers a failure counts.
@@ -142,7 +144,8 @@ impl Session {
         ensures script_ended { is_script_ended self.new ≡ true }
         ensures answers_ended { is_answers_ended self.new ≡ is_answers_ended self.old }
     {
-        self.end(Side::Script)
+        self.take_end(Side::Script);
+        self.rest()
     }
 
     /// Takes the end of the answers, which was not told before. An end that answers a failure counts.
@@ -160,7 +163,8 @@ impl Session {
         ensures script_ended { is_script_ended self.new ≡ is_script_ended self.old }
         ensures answers_ended { is_answers_ended self.new ≡ true }
     {
-        self.end(Side::Answers)
+        self.take_end(Side::Answers);
+        self.rest()
     }
 
     /// Takes the lines that are decided and were not taken, in order.
@@ -222,46 +226,6 @@ impl Session {
         } else {
             self.exchange.command.is_some()
         }
-    }
-
-    // Takes the next piece of a text, and turns as far as both texts have come.
-    fn feed(&mut self, side: Side, piece: &[u8]) -> Result<(), Failed>
-        requires stands { (h : History) × StandsFor self.old h }
-        requires open { is_ended side self.old ≡ false }
-        ensures stands { (h : History) → StandsFor self.old h
-            → StandsFor self.new (with_piece side h piece.now) }
-        ensures failed { MatchResult result (λ _. failure_of self.new ≡ None)
-            (λ failed. failure_of self.new ≡ Some failed) }
-        ensures stays { (failed : Failure) → failure_of self.old ≡ Some failed
-            → (failure_of self.new ≡ Some failed)
-            × (lines_waiting self.new ≡ lines_waiting self.old) }
-        ensures kept { IsBeginning (lines_waiting self.old) (lines_waiting self.new) }
-        ensures script_ended { is_script_ended self.new ≡ is_script_ended self.old }
-        ensures answers_ended { is_answers_ended self.new ≡ is_answers_ended self.old }
-    {
-        self.take_in(side, piece);
-        self.rest()
-    }
-
-    // Takes the end of a text, and turns as far as both texts have come.
-    fn end(&mut self, side: Side) -> Result<(), Failed>
-        requires stands { (h : History) × StandsFor self.old h }
-        requires open { is_ended side self.old ≡ false }
-        ensures stands { (h : History) → StandsFor self.old h
-            → StandsFor self.new (with_end side h) }
-        ensures failed { MatchResult result (λ _. failure_of self.new ≡ None)
-            (λ failed. failure_of self.new ≡ Some failed) }
-        ensures stays { (failed : Failure) → failure_of self.old ≡ Some failed
-            → (failure_of self.new ≡ Some failed)
-            × (lines_waiting self.new ≡ lines_waiting self.old) }
-        ensures kept { IsBeginning (lines_waiting self.old) (lines_waiting self.new) }
-        ensures script_ended { is_script_ended self.new
-            ≡ of_side side true (is_script_ended self.old) }
-        ensures answers_ended { is_answers_ended self.new
-            ≡ of_side side (is_answers_ended self.old) true }
-    {
-        self.take_end(side);
-        self.rest()
     }
 
     /// Takes in the next piece of a text, of which the end was not told, or its end where the piece is empty. No

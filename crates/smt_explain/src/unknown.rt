@@ -1,5 +1,5 @@
-//! The first name that is unknown where it stands, in the order in which terms are checked. This file judges no term:
-//! the report says that there is such a name.
+//! The first name that is unknown where it stands, in the order in which terms are checked, and the names that it is
+//! looked for among. This file judges no term: the report says that there is such a name.
 
 use crate::force::{Commands, Stand, has_label};
 use crate::pairs::{Head, word};
@@ -12,7 +12,9 @@ use smt_trees::{Tree, split_first};
 use std::alloc::Global;
 
 /// The names that stand somewhere, each with the place of the command that brought it, and likewise the
-/// abbreviations of sorts.
+/// abbreviations of sorts. They are read off the words of commands, whatever these say of the names: what is asked of
+/// one is only whether it stands, and since when. `force` knows commands without their names, `library` what the
+/// checker makes of a name, and `world` the definitions alone.
 #[derive(Drop)]
 pub(crate) struct Brought<'a> {
     pub(crate) names: Scope<'a, usize>,

@@ -1,4 +1,4 @@
-//! Why a command is refused, as a caller is told.
+//! Why a command is refused, as a caller is told. This file knows no command, only what is wrong with one.
 
 ghost use Rattle.std.specs.Prelude.{◌≡◌};
 ghost use Rattle.smt_faults.specs.Faults.{flaw_of_command_fault};

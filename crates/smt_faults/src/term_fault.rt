@@ -1,4 +1,5 @@
-//! Why a term, a sort or a definition is refused, as a caller is told.
+//! Why a term, a sort or a definition is refused, as a caller is told. This file knows no term, only what is wrong
+//! with one.
 
 ghost use Rattle.std.specs.Prelude.{◌≡◌};
 ghost use Rattle.smt_faults.specs.Faults.{flaw_of_term_fault};

@@ -1,4 +1,4 @@
-//! Evaluation of nodes, one task after another. This file knows no stack.
+//! Evaluation of nodes, one task after another. This file touches no field of a machine, and no table of nodes.
 
 ghost use Rattle.std.specs.Prelude.{◌≡◌, ◌≤◌, ◌<◌, ◌+◌, ℕ, [], IfOk, OnOk, IfSome, IsTrue, List, None, Option};
 ghost use Rattle.std.specs.Prelude.{Some, ◌==◌, false, length, nat_lt};
@@ -6,13 +6,15 @@ ghost use Rattle.std.specs.Prelude.{if◌then◌else◌, option_map, slice_get};
 ghost use Rattle.smt_theory.specs.declared.op.CoreOp.TheVariants.{Ite};
 ghost use Rattle.smt_theory.specs.declared.op.Op.{Op};
 ghost use Rattle.smt_theory.specs.declared.op.Op.TheVariants.{Core};
+ghost use Rattle.smt_nodes.specs.NodeView.{node_view};
 ghost use Rattle.smt_nodes.specs.PartsView.{parts_view};
 ghost use Rattle.smt_values.specs.Element.{known_element};
 ghost use Rattle.smt_values.specs.KnownOperations.{known_truth};
 ghost use Rattle.smt_machine.specs.Costs.{cost};
 ghost use Rattle.smt_machine.specs.Given.{given};
 ghost use Rattle.smt_machine.specs.Internal.States.{state_of};
-ghost use Rattle.smt_machine.specs.Internal.Parts.{found, found_parts, meaning, number_of, numbers_of};
+ghost use Rattle.smt_machine.specs.Internal.Parts.{found, found_node, found_parts, meaning, number_of};
+ghost use Rattle.smt_machine.specs.Internal.Parts.{numbers_of};
 ghost use Rattle.smt_machine.specs.Internal.Tasks.{IsBased, IsChoice, IsStep, branches_of, charge};
 ghost use Rattle.smt_machine.specs.Memory.{Remembers};
 ghost use Rattle.smt_machine.specs.Nodes.{Apply, Call, Node as MachineNode};
@@ -26,7 +28,7 @@ use crate::task::{Task, task_of};
 use smt_faults::Memory;
 use smt_nodes::{Node, NodeParts, TermId};
 use smt_theory::{CoreOp, Op};
-use smt_values::{Value, bin, hex, numeral};
+use smt_values::{Value, bin_of, hex_of, numeral_of};
 
 impl Machine {
     /// What is known of the value of a closed term of the script. The machine is new, or has evaluated terms
@@ -181,15 +183,16 @@ impl Machine {
 
     #[inline(always)]
     fn visit_node(&mut self, number: usize, from: &Place<'_>, node: &Node<'_>) -> Result<(), Memory>
-        requires { IsBased (state_of self.old) }
+        requires based { IsBased (state_of self.old) }
+        requires here { Some (node_view node.now) ≡ found_node from.now }
         ensures { IfOk result (λ _. (nodes : List MachineNode)
             → Some (meaning from.now node.now) ≡ slice_get nodes number
             → IsStep nodes (Visit number) self.old self.new) }
     {
         match node {
-            Node::Numeral(digits) => self.leave(numeral(*digits)),
-            Node::Hex(digits) => self.leave(hex(*digits)),
-            Node::Bin(digits) => self.leave(bin(*digits)),
+            Node::Numeral(_) => self.leave(numeral_of(from.literal())),
+            Node::Hex(digits) => self.leave(hex_of(from.literal(), *digits)),
+            Node::Bin(digits) => self.leave(bin_of(from.literal(), *digits)),
             Node::Slot(place) => {
                 let value = self.value_at(*place);
                 self.leave(value)

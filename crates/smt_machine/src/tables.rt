@@ -2,8 +2,10 @@
 
 ghost use Rattle.std.specs.Prelude.{◌≡◌, ◌+◌, ◌<◌, ◌≤◌, option_map, slice_get, unwrap_or};
 ghost use Rattle.smt_machine.specs.Costs.{around_at};
+ghost use Rattle.smt_nodes.specs.Literals.{literal_number};
+ghost use Rattle.smt_nodes.specs.NodeView.{node_view};
 ghost use Rattle.smt_nodes.specs.PartsView.{parts_view};
-ghost use Rattle.smt_machine.specs.Internal.Parts.{found, found_around, found_parts, meaning, number_of};
+ghost use Rattle.smt_machine.specs.Internal.Parts.{found, found_around, found_node, found_parts, meaning, number_of};
 ghost use Rattle.smt_machine.specs.Internal.Parts.{numbers_of};
 ghost use Rattle.smt_machine.specs.Tables.{arounds_of, model_count, nodes_of, shifted};
 
@@ -120,9 +122,18 @@ impl<'a> Place<'a> {
     /// The node, if one is there.
     #[inline(always)]
     pub(crate) fn node(&self) -> Option<Node<'a>>
-        ensures { option_map (meaning self.now) result ≡ found self.now }
+        ensures meaning { option_map (meaning self.now) result ≡ found self.now }
+        ensures node { option_map node_view result ≡ found_node self.now }
     {
         self.nodes.get(self.number)
+    }
+
+    /// The number that the node's digits spell, if it is a literal; `None` from 2^128 on.
+    #[inline(always)]
+    pub(crate) fn literal(&self) -> Option<u128>
+        ensures { result ≡ literal_number (found_node self.now) }
+    {
+        self.nodes.literal(self.number)
     }
 
     /// The parts of the node, with how many annotations stand round it, if one is there.

@@ -66,7 +66,7 @@ impl<V> NameMap<V> {
     }
 
     /// Adds a new name behind all others, with its value. It is refused only for want of memory, and then nothing
-    /// changes.
+    /// changes; want of memory is reported beyond 2^32 - 1 names, too, or as many bytes of names in all.
     pub fn insert(&mut self, name: &[u8], value: V) -> Result<(), Memory>
     where
         V: Drop,
@@ -81,7 +81,7 @@ impl<V> NameMap<V> {
     }
 
     /// Makes a name stand for a value, and answers what it stood for before; a new name is added behind all others.
-    /// It is refused only for a new name, for want of memory, and then nothing changes.
+    /// It is refused only for a new name, for want of memory as at `insert`, and then nothing changes.
     pub fn replace(&mut self, name: &[u8], value: V) -> Result<Option<V>, Memory>
     where
         V: Copy,

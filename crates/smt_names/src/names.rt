@@ -67,7 +67,8 @@ impl Names {
     }
 
     /// The place of a name, which is added behind all others where it is none of them. It is refused only for
-    /// want of memory, and then nothing changes.
+    /// want of memory, and then nothing changes; want of memory is reported beyond 2^32 - 1 names, too, or as
+    /// many bytes of names in all.
     #[inline(always)]
     pub fn place(&mut self, name: &[u8]) -> Result<u32, Memory>
         ensures added { OnOk result (self.new ≡ with_name self.old name.now) }
@@ -81,7 +82,7 @@ impl Names {
         }
     }
 
-    /// Adds a name that is none of them.
+    /// Adds a name that is none of them, as `place` does.
     #[inline(never)]
     pub(crate) fn add(&mut self, name: &[u8]) -> Result<u32, Memory>
         requires { place_of self.old name.now ≡ None }

@@ -3,3 +3,4 @@ pub mod PlaceLemmas
 pub mod RowLemmas
 pub mod SoundLemmas
 pub mod TableLemmas
+pub mod NumberLemmas

@@ -6,13 +6,13 @@ use Rattle.smt_theory.specs.declared.op.CoreOp.TheVariants.{True}
 use Rattle.smt_theory.specs.declared.op.Op.{Op}
 use Rattle.smt_theory.specs.declared.op.Op.TheVariants.{Core}
 use Rattle.smt_nodes.specs.Internal.Lists.{Grows, IsHeld, IsStored, IsUpTo, Lists, before, lengths, node_of}
-use Rattle.smt_nodes.specs.Internal.Lists.{rows_in}
-use Rattle.smt_nodes.specs.Internal.PlainOp.{op_of_plain}
+use Rattle.smt_nodes.specs.Internal.Lists.{literal_of, rows_in}
+use Rattle.smt_theory.specs.PlainOp.{op_of_plain}
 use Rattle.smt_nodes.specs.Internal.Rows.{IsSound, annotated, around_of, row_view, source, source_by}
 use Rattle.smt_nodes.specs.Node as spec
 use Rattle.smt_nodes.specs.declared.rows.Ends.{Ends}
 use Rattle.smt_nodes.specs.declared.rows.Stored.{Stored}
-use Rattle.smt_nodes.specs.declared.rows.Stored.TheVariants.{Numeral, Hex, Bin, Slot, Plain, Numbered}
+use Rattle.smt_nodes.specs.declared.rows.Stored.TheVariants.{Literal, Large, Slot, Plain, Numbered}
 use Rattle.smt_nodes.specs.declared.rows.Stored.TheVariants.{Declared}
 use Rattle.smt_nodes.specs.declared.rows.Stored.TheVariants.{Defined, Let, Same}
 use Rattle.smt_nodes.specs.declared.rows.StoredRow.{StoredRow}
@@ -21,12 +21,10 @@ use Rattle.smt_nodes.proofs.PlaceLemmas.{before_kept, read_kept}
 -- the node of a row stays as the lists grow
 pub node_kept : (t u : Lists) (ends : Ends) (s : Stored) → IsHeld ends s → IsUpTo ends (lengths t) → Grows t u
     → node_of u ends s ≡ node_of t ends s
-node_kept t u ends (Numeral n) held within more =
-    ap (λ ds. spec.Numeral ds) (before_kept n ends.digits t.digits u.digits within.digits more.digits)
-node_kept t u ends (Hex n) held within more =
-    ap (λ ds. spec.Hexadecimal ds) (before_kept n ends.digits t.digits u.digits within.digits more.digits)
-node_kept t u ends (Bin n) held within more =
-    ap (λ ds. spec.Binary ds) (before_kept n ends.digits t.digits u.digits within.digits more.digits)
+node_kept t u ends (Literal base n number) held within more =
+    ap (λ ds. literal_of base ds) (before_kept n ends.digits t.digits u.digits within.digits more.digits)
+node_kept t u ends (Large base n place) held within more =
+    ap (λ ds. literal_of base ds) (before_kept n ends.digits t.digits u.digits within.digits more.digits)
 node_kept t u ends (Slot place) held within more = refl
 node_kept t u ends (Plain op n) held within more =
     ap (λ is. spec.Apply (op_of_plain op) is)

@@ -73,7 +73,7 @@ annotated_pushed rows t i r new sound at is =
 -- ---- cut
 
 -- lists that are cut were longer
-cut_grows : (e : Ends) (t : Lists) → Grows (first_of e t) t
+pub cut_grows : (e : Ends) (t : Lists) → Grows (first_of e t) t
 cut_grows e t = record {
   parts = (drop e.parts t.parts, sym (take-append-drop e.parts t.parts));
   digits = (drop e.digits t.digits, sym (take-append-drop e.digits t.digits));

@@ -1,3 +1,3 @@
-pub mod PlainOp
 pub mod Lists
+pub mod Numbers
 pub mod Rows

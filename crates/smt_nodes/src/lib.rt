@@ -12,6 +12,7 @@
 //! ```
 #![tactic(auto)]
 
+mod large;
 mod node;
 mod op;
 mod rows;

@@ -1,13 +1,8 @@
-//! Operators as a table stores them: in two bytes, or in a list of their own where they hold a number. This
-//! file knows no node.
+//! Operators that hold a number, as a table stores them: in a list of their own. This file knows no node.
 
-ghost use Rattle.std.specs.Prelude.{◌≡◌, IfSome, IfNone, IsTrue};
-ghost use Rattle.smt_nodes.specs.Internal.PlainOp.{has_number, op_of_plain};
+ghost use Rattle.std.specs.Prelude.{◌≡◌};
 
-use smt_theory::{
-    Arithmetic, BitsBinary, BitsComparison, BitsFolded, BitsOp, BitsUnary, Comparison, CoreOp,
-    IntsOp, Op,
-};
+use smt_theory::Op;
 use std::marker::Model;
 
 /// An operator with its numbers. Contracts see it as the operator, which itself can't be an item of a list
@@ -40,93 +35,5 @@ impl NumberedOp {
         ensures { result ≡ self.now }
     {
         self.op
-    }
-}
-
-/// An operator that holds no number.
-#[derive(Clone, Copy)]
-pub(crate) enum PlainOp {
-    Core(CoreOp),
-    Arithmetic(Arithmetic),
-    Order(Comparison),
-    Mod,
-    Abs,
-    Concat,
-    Unary(BitsUnary),
-    Folded(BitsFolded),
-    Binary(BitsBinary),
-    BitsOrder(BitsComparison),
-    Comp,
-}
-
-impl PlainOp {
-    /// The operator that it is.
-    pub(crate) fn op(self) -> Op
-        ensures { result ≡ op_of_plain self }
-    {
-        match self {
-            PlainOp::Core(op) => Op::Core(op),
-            PlainOp::Arithmetic(op) => Op::Ints(IntsOp::Arithmetic(op)),
-            PlainOp::Order(op) => Op::Ints(IntsOp::Comparison(op)),
-            PlainOp::Mod => Op::Ints(IntsOp::Mod),
-            PlainOp::Abs => Op::Ints(IntsOp::Abs),
-            PlainOp::Concat => Op::Bits(BitsOp::Concat),
-            PlainOp::Unary(op) => Op::Bits(BitsOp::Unary(op)),
-            PlainOp::Folded(op) => Op::Bits(BitsOp::Folded(op)),
-            PlainOp::Binary(op) => Op::Bits(BitsOp::Binary(op)),
-            PlainOp::BitsOrder(op) => Op::Bits(BitsOp::Comparison(op)),
-            PlainOp::Comp => Op::Bits(BitsOp::Comp),
-        }
-    }
-
-    /// The plain form of an operator, unless it holds a number.
-    #[inline(always)]
-    pub(crate) fn from_op(op: Op) -> Option<PlainOp>
-        ensures same { IfSome result (λ plain. op_of_plain plain ≡ op) }
-        ensures none { IfNone result (IsTrue (has_number op)) }
-    {
-        match op {
-            Op::Core(op) => Some(PlainOp::Core(op)),
-            Op::Ints(op) => plain_ints(op),
-            Op::Bits(op) => plain_bits(op),
-        }
-    }
-}
-
-// The plain form of an operator on integers.
-#[inline(always)]
-fn plain_ints(op: IntsOp) -> Option<PlainOp>
-    ensures same { IfSome result (λ plain. op_of_plain plain ≡ Op.Ints op) }
-    ensures none { IfNone result (IsTrue (has_number (Op.Ints op))) }
-{
-    match op {
-        IntsOp::Arithmetic(op) => Some(PlainOp::Arithmetic(op)),
-        IntsOp::Comparison(op) => Some(PlainOp::Order(op)),
-        IntsOp::Mod => Some(PlainOp::Mod),
-        IntsOp::Abs => Some(PlainOp::Abs),
-        IntsOp::Divisible(_) => None,
-    }
-}
-
-// The plain form of an operator on bit vectors.
-#[inline(always)]
-fn plain_bits(op: BitsOp) -> Option<PlainOp>
-    ensures same { IfSome result (λ plain. op_of_plain plain ≡ Op.Bits op) }
-    ensures none { IfNone result (IsTrue (has_number (Op.Bits op))) }
-{
-    match op {
-        BitsOp::Concat => Some(PlainOp::Concat),
-        BitsOp::Unary(op) => Some(PlainOp::Unary(op)),
-        BitsOp::Folded(op) => Some(PlainOp::Folded(op)),
-        BitsOp::Binary(op) => Some(PlainOp::Binary(op)),
-        BitsOp::Comparison(op) => Some(PlainOp::BitsOrder(op)),
-        BitsOp::Comp => Some(PlainOp::Comp),
-        BitsOp::Constant(_, _) => None,
-        BitsOp::Extract(_, _) => None,
-        BitsOp::Repeat(_) => None,
-        BitsOp::ZeroExtend(_) => None,
-        BitsOp::SignExtend(_) => None,
-        BitsOp::RotateLeft(_) => None,
-        BitsOp::RotateRight(_) => None,
     }
 }

@@ -3,6 +3,7 @@
 ghost use Rattle.std.proofs.Props.{props};
 ghost use Rattle.std.specs.Prelude.{◌≡◌, IfOk};
 ghost use Rattle.smt_nodes.specs.Internal.Lists.{lists_of};
+ghost use Rattle.smt_nodes.specs.Internal.Numbers.{AreNumbered, large_of};
 ghost use Rattle.smt_nodes.specs.Internal.Rows.{IsSound, annotated, around_of, last_ends};
 
 use crate::node::{Node, NodeParts};
@@ -10,6 +11,7 @@ use crate::rows::{Ends, Stored, StoredRow};
 use crate::tables::{Tables, narrow};
 use crate::term_id::TermId;
 use smt_faults::Memory;
+use smt_theory::PlainOp;
 use std::alloc::Global;
 
 /// Nodes by their numbers, from 0, in the order in which they came: each with how many annotations without a
@@ -20,18 +22,23 @@ pub struct Nodes {
     rows: Vec<StoredRow>,
     tables: Tables,
     ghost sound: { IsSound rows.items (lists_of tables) } by { Prim.hlevel props },
+    ghost numbered: { AreNumbered rows.items (lists_of tables) (large_of tables) } by { Prim.hlevel props },
 }
 
 impl Nodes {
     ghost use Rattle.std.specs.Prelude.{ℕ, ◌≡◌, ◌<◌, ◌≤◌, ◌∷◌, ◌++◌, ◌+◌, [], length, take, slice_get};
     ghost use Rattle.std.specs.Prelude.{Some, option_map, IfOk, OnOk, OnErr};
-    ghost use Rattle.smt_nodes.specs.Node.{Row};
+    ghost use Rattle.smt_nodes.specs.Node.{Apply, Row};
+    ghost use Rattle.smt_theory.specs.PlainOp.{op_of_plain};
     ghost use Rattle.smt_nodes.specs.NodeView.{node_view};
     ghost use Rattle.smt_nodes.specs.NodeParts.{parts_of};
     ghost use Rattle.smt_nodes.specs.PartsView.{parts_view};
     ghost use Rattle.smt_nodes.specs.Nodes.{rows_of};
     ghost use Rattle.smt_nodes.specs.Internal.Lists.{IsHeld, lengths, rows_in};
+    ghost use Rattle.smt_nodes.specs.Internal.Numbers.{IsNumberHeld};
     ghost use Rattle.smt_nodes.specs.Internal.Rows.{row_view, source};
+    ghost use Rattle.smt_nodes.specs.Internal.Lists.{node_of};
+    ghost use Rattle.smt_nodes.specs.Literals.{literal_number, spelled};
 
     /// A table without nodes.
     pub fn new(alloc: Global) -> Nodes
@@ -82,6 +89,22 @@ impl Nodes {
         }
     }
 
+    /// The number that the digits of a literal spell, of the node of a number; `None` where it is 2^128 or more,
+    /// or no literal is there. It looks at no digit.
+    #[inline(always)]
+    pub fn literal(&self, number: usize) -> Option<u128>
+        ensures { result
+            ≡ literal_number (option_map (λ row. row.node) (slice_get (rows_of self.now) number)) }
+    {
+        match self.row(number) {
+            Some(row) => {
+                let held = self.source(row);
+                self.tables.number(held.stored)
+            }
+            None => None,
+        }
+    }
+
     /// How many annotations without a label stand directly round the node of a number; `None` from the length
     /// on.
     pub fn around(&self, number: usize) -> Option<usize>
@@ -102,7 +125,19 @@ impl Nodes {
         ensures number { IfOk result (λ id. id ≡ length (rows_of self.old)) }
         ensures unchanged { OnErr result (rows_of self.new ≡ rows_of self.old) }
     {
-        let stored = self.tables.store(node)?;
+        let stored = self.tables.store(node, self.rows.len())?;
+        self.push_row(stored)
+    }
+
+    /// Adds the node of an operator that holds no number, with its arguments, as `push` does. It takes less time.
+    #[inline(always)]
+    pub fn push_plain(&mut self, op: PlainOp, args: &[TermId]) -> Result<TermId, Memory>
+        ensures pushed { OnOk result (rows_of self.new ≡ rows_of self.old
+            ++ (record { node = Apply (op_of_plain op) args.now; around = 0 }) ∷ []) }
+        ensures number { IfOk result (λ id. id ≡ length (rows_of self.old)) }
+        ensures unchanged { OnErr result (rows_of self.new ≡ rows_of self.old) }
+    {
+        let stored = self.tables.store_plain(op, args)?;
         self.push_row(stored)
     }
 
@@ -126,7 +161,7 @@ impl Nodes {
     {
         self.rows.truncate(count);
         let ends = last_ends(self.rows.as_slice());
-        self.tables.truncate(ends);
+        self.tables.truncate(ends, count);
     }
 
     // Adds a row behind lists that hold what it stores, and answers its number.
@@ -134,6 +169,8 @@ impl Nodes {
     fn push_row(&mut self, stored: Stored) -> Result<TermId, Memory>
         requires held { IsHeld (lengths (lists_of self.old.tables)) stored }
         requires below { rows_in stored ≤ length self.old.rows.items }
+        requires number { IsNumberHeld (large_of self.old.tables) (length self.old.rows.items) stored
+            (spelled (node_of (lists_of self.old.tables) (lengths (lists_of self.old.tables)) stored)) }
         ensures pushed { OnOk result (self.new.rows.items ≡ self.old.rows.items
             ++ (record { stored = stored; ends = lengths (lists_of self.old.tables) }) ∷ []) }
         ensures number { IfOk result (λ id. id ≡ length self.old.rows.items) }

@@ -1,7 +1,10 @@
-//! The lists behind the rows: arguments, digits, and operators with numbers. Each only grows at its end or is
-//! cut. This file knows no rows.
+//! The lists behind the rows: arguments, digits, operators with numbers, and numbers of literals that are large.
+//! Each only grows at its end or is cut. This file knows no rows.
 
 ghost use Rattle.std.specs.Prelude.{◌≡◌, ◌≤◌, ◌<◌, ◌++◌, ◌^◌, length, slice_index_or, IfOk, OnOk, OnErr};
+ghost use Rattle.std.specs.Prelude.{◌∷◌, [], ℕ, List, None, Some, slice_get};
+ghost use Rattle.smt_nodes.specs.declared.large.LargeNumber.{LargeNumber};
+ghost use Rattle.smt_theory.specs.PlainOp.{op_of_plain};
 ghost use Rattle.smt_theory.specs.declared.op.CoreOp.{CoreOp};
 ghost use Rattle.smt_theory.specs.declared.op.Op.{Op};
 ghost use Rattle.smt_nodes.specs.Node as spec;
@@ -9,14 +12,18 @@ ghost use Rattle.smt_nodes.specs.NodeView.{node_view};
 ghost use Rattle.smt_nodes.specs.NodeParts.{parts_of};
 ghost use Rattle.smt_nodes.specs.PartsView.{parts_view};
 ghost use Rattle.smt_nodes.specs.Internal.Lists.{Grows, IsHeld, IsStored, IsUpTo, before, first_of, lengths};
-ghost use Rattle.smt_nodes.specs.Internal.Lists.{lists_of, node_of, no_lists};
+ghost use Rattle.smt_nodes.specs.Internal.Lists.{lists_of, literal_of, node_of, no_lists};
+ghost use Rattle.smt_nodes.specs.Internal.Numbers.{IsNumberHeld, IsPrefix, held_number, large_of};
+ghost use Rattle.smt_nodes.specs.Internal.Numbers.{number_in};
+ghost use Rattle.smt_nodes.specs.Literals.{spelled};
 
+use crate::large::{LargeNumber, count_before};
 use crate::node::{Node, NodeParts};
-use crate::op::{NumberedOp, PlainOp};
-use crate::rows::{Ends, Stored};
+use crate::op::NumberedOp;
+use crate::rows::{Base, Ends, Stored};
 use crate::term_id::TermId;
 use smt_faults::Memory;
-use smt_theory::Op;
+use smt_theory::{Op, PlainOp, number};
 use std::alloc::Global;
 
 /// How long a list may be.
@@ -28,17 +35,20 @@ pub(crate) struct Tables {
     parts: Vec<TermId>,
     digits: Vec<u8>,
     ops: Vec<NumberedOp>,
+    large: Vec<LargeNumber>,
 }
 
 impl Tables {
     /// Empty lists.
     pub(crate) fn new(alloc: Global) -> Tables
-        ensures { lists_of result ≡ no_lists }
+        ensures lists { lists_of result ≡ no_lists }
+        ensures large { large_of result ≡ [] }
     {
         Tables {
             parts: Vec::new(alloc),
             digits: Vec::new(alloc),
             ops: Vec::new(alloc),
+            large: Vec::new(alloc),
         }
     }
 
@@ -60,13 +70,17 @@ impl Tables {
         })
     }
 
-    /// Leaves so much of each list.
-    pub(crate) fn truncate(&mut self, ends: Ends)
-        ensures { lists_of self.new ≡ first_of ends (lists_of self.old) }
+    /// Leaves so much of each list, for the first so many rows.
+    pub(crate) fn truncate(&mut self, ends: Ends, rows: usize)
+        ensures lists { lists_of self.new ≡ first_of ends (lists_of self.old) }
+        ensures large { (i : ℕ) (x : LargeNumber) → slice_get (large_of self.old) i ≡ Some x → x.row < rows
+            → slice_get (large_of self.new) i ≡ Some x }
     {
         self.parts.truncate(ends.parts as usize);
         self.digits.truncate(ends.digits as usize);
         self.ops.truncate(ends.ops as usize);
+        self.large
+            .truncate(count_before(self.large.as_slice(), rows));
     }
 
     /// The node of a row.
@@ -77,9 +91,8 @@ impl Tables {
         ensures { node_view result ≡ node_of (lists_of self.now) ends stored }
     {
         match stored {
-            Stored::Numeral(count) => Node::Numeral(self.digits(count, ends.digits)),
-            Stored::Hex(count) => Node::Hex(self.digits(count, ends.digits)),
-            Stored::Bin(count) => Node::Bin(self.digits(count, ends.digits)),
+            Stored::Literal(base, count, _) => literal(base, self.digits(count, ends.digits)),
+            Stored::Large(base, count, _) => literal(base, self.digits(count, ends.digits)),
             Stored::Slot(place) => Node::Slot(place as usize),
             Stored::Plain(op, count) => Node::Apply {
                 op: op.op(),
@@ -113,7 +126,7 @@ impl Tables {
         ensures { parts_view result ≡ parts_of (node_of (lists_of self.now) ends stored) }
     {
         match stored {
-            Stored::Numeral(_) | Stored::Hex(_) | Stored::Bin(_) => NodeParts::Args(&[]),
+            Stored::Literal(_, _, _) | Stored::Large(_, _, _) => NodeParts::Args(&[]),
             Stored::Slot(_) | Stored::Same(_, _) => NodeParts::Args(&[]),
             Stored::Plain(_, count) | Stored::Numbered(_, count) => {
                 NodeParts::Args(self.parts(count, ends.parts))
@@ -133,17 +146,42 @@ impl Tables {
         }
     }
 
-    /// Puts the digits, arguments or operator of a node at the ends of the lists. What was put there before a
-    /// refusal of memory stays until the next cut, and belongs to no row.
+    /// The number that the digits of a literal spell, by what is stored of it.
     #[inline(always)]
-    pub(crate) fn store(&mut self, node: &Node<'_>) -> Result<Stored, Memory>
+    pub(crate) fn number(&self, stored: Stored) -> Option<u128>
+        ensures { result ≡ held_number (large_of self.now) stored }
+    {
+        match stored {
+            Stored::Literal(_, _, number) => Some(u128::from(number)),
+            Stored::Large(_, _, place) => self.large_number(place as usize),
+            _ => None,
+        }
+    }
+
+    // The large number at a place.
+    fn large_number(&self, place: usize) -> Option<u128>
+        ensures { result ≡ number_in (slice_get (large_of self.now) place) }
+    {
+        match self.large.as_slice().get(place) {
+            Some(large) => large.number,
+            None => None,
+        }
+    }
+
+    /// Puts the digits, arguments or operator of a node, which will be the row of this number, at the ends of the
+    /// lists. What was put there before a refusal of memory stays until the next cut, and belongs to no row.
+    #[inline(always)]
+    pub(crate) fn store(&mut self, node: &Node<'_>, row: usize) -> Result<Stored, Memory>
         ensures grown { Grows (lists_of self.old) (lists_of self.new) }
         ensures stored { IfOk result (λ s. IsStored (lists_of self.new) s (node_view node.now)) }
+        ensures longer { IsPrefix (large_of self.old) (large_of self.new) }
+        ensures number { IfOk result (λ s.
+            IsNumberHeld (large_of self.new) row s (spelled (node_view node.now))) }
     {
         match *node {
-            Node::Numeral(digits) => Ok(Stored::Numeral(self.push_digits(digits)?)),
-            Node::Hex(digits) => Ok(Stored::Hex(self.push_digits(digits)?)),
-            Node::Bin(digits) => Ok(Stored::Bin(self.push_digits(digits)?)),
+            Node::Numeral(digits) => self.store_literal(Base::Decimal, digits, row),
+            Node::Hex(digits) => self.store_literal(Base::Hexadecimal, digits, row),
+            Node::Bin(digits) => self.store_literal(Base::Binary, digits, row),
             Node::Slot(place) => Ok(Stored::Slot(narrow(place)?)),
             Node::Apply { op, args } => self.store_apply(&op, args),
             Node::Declared { place, args } => {
@@ -158,22 +196,69 @@ impl Tables {
         }
     }
 
+    // The same of a literal.
+    fn store_literal(&mut self, base: Base, digits: &[u8], row: usize) -> Result<Stored, Memory>
+        ensures grown { Grows (lists_of self.old) (lists_of self.new) }
+        ensures stored { IfOk result (λ s. IsStored (lists_of self.new) s (literal_of base digits.now)) }
+        ensures longer { IsPrefix (large_of self.old) (large_of self.new) }
+        ensures number { IfOk result (λ s.
+            IsNumberHeld (large_of self.new) row s (spelled (literal_of base digits.now))) }
+    {
+        let count = self.push_digits(digits)?;
+        match number(base.radix(), digits) {
+            Some(number) if number <= MOST as u128 => {
+                Ok(Stored::Literal(base, count, number as u32))
+            }
+            number => {
+                let place = self.push_large(LargeNumber { row, number })?;
+                Ok(Stored::Large(base, count, place))
+            }
+        }
+    }
+
+    // Adds a large number, and answers its place.
+    fn push_large(&mut self, large: LargeNumber) -> Result<u32, Memory>
+        ensures place { IfOk result (λ i. i ≡ length (large_of self.old)) }
+        ensures pushed { OnOk result (large_of self.new ≡ large_of self.old ++ large ∷ []) }
+        ensures unchanged { OnErr result (large_of self.new ≡ large_of self.old) }
+        ensures lists { lists_of self.new ≡ lists_of self.old }
+    {
+        let place = narrow(self.large.len())?;
+        self.large.push(large)?;
+        Ok(place)
+    }
+
     // The same of an operator with its arguments.
     #[inline(always)]
     fn store_apply(&mut self, op: &Op, args: &[TermId]) -> Result<Stored, Memory>
         ensures grown { Grows (lists_of self.old) (lists_of self.new) }
         ensures stored { IfOk result (λ s. IsStored (lists_of self.new) s (spec.Apply op.now args.now)) }
+        ensures large { self.new.large ≡ self.old.large }
     {
         match PlainOp::from_op(*op) {
-            Some(plain) => Ok(Stored::Plain(plain, self.push_parts(args)?)),
+            Some(plain) => self.store_plain(plain, args),
             None => self.store_numbered(op, args),
         }
+    }
+
+    /// The same of an operator without a number, with its arguments.
+    #[inline(always)]
+    pub(crate) fn store_plain(&mut self, op: PlainOp, args: &[TermId]) -> Result<Stored, Memory>
+        ensures grown { Grows (lists_of self.old) (lists_of self.new) }
+        ensures stored { IfOk result (λ s. IsStored (lists_of self.new) s
+            (spec.Apply (op_of_plain op) args.now)) }
+        ensures large { self.new.large ≡ self.old.large }
+        ensures number { IfOk result (λ s. (large : List LargeNumber) (row : ℕ)
+            → IsNumberHeld large row s None) }
+    {
+        Ok(Stored::Plain(op, self.push_parts(args)?))
     }
 
     // The same of an operator with numbers.
     fn store_numbered(&mut self, op: &Op, args: &[TermId]) -> Result<Stored, Memory>
         ensures grown { Grows (lists_of self.old) (lists_of self.new) }
         ensures stored { IfOk result (λ s. IsStored (lists_of self.new) s (spec.Apply op.now args.now)) }
+        ensures large { self.new.large ≡ self.old.large }
     {
         let place = narrow(self.ops.len())?;
         self.ops.push(NumberedOp::new(op))?;
@@ -187,6 +272,7 @@ impl Tables {
         ensures unchanged { OnErr result (self.new.digits.items ≡ self.old.digits.items) }
         ensures parts { self.new.parts ≡ self.old.parts }
         ensures ops { self.new.ops ≡ self.old.ops }
+        ensures large { self.new.large ≡ self.old.large }
     {
         let count = narrow(digits.len())?;
         self.digits.extend_from_slice(digits)?;
@@ -201,6 +287,7 @@ impl Tables {
         ensures unchanged { OnErr result (self.new.parts.items ≡ self.old.parts.items) }
         ensures digits { self.new.digits ≡ self.old.digits }
         ensures ops { self.new.ops ≡ self.old.ops }
+        ensures large { self.new.large ≡ self.old.large }
     {
         if parts.is_empty() {
             return Ok(0);
@@ -234,6 +321,18 @@ impl Tables {
         ensures { result ≡ slice_index_or self.now.ops.items place (Op.Core CoreOp.True) }
     {
         self.ops.as_slice()[place as usize].op()
+    }
+}
+
+// A literal with these digits.
+#[inline(always)]
+fn literal(base: Base, digits: &[u8]) -> Node<'_>
+    ensures { node_view result ≡ literal_of base digits.now }
+{
+    match base {
+        Base::Decimal => Node::Numeral(digits),
+        Base::Hexadecimal => Node::Hex(digits),
+        Base::Binary => Node::Bin(digits),
     }
 }
 

@@ -1,4 +1,4 @@
-//! A small table, built and read twice, of which memory may be refused once (`rt try --test --fail-alloc N`).
+//! Small tables, built and read twice, of which memory may be refused once (`rt try --test --fail-alloc N`).
 
 use crate::{Node, NodeParts, Nodes};
 use smt_faults::Memory;
@@ -35,6 +35,38 @@ fn arity_by_parts(nodes: &Nodes, number: usize) -> usize {
         Some((NodeParts::Args(args), _)) => args.len(),
         _ => 99,
     }
+}
+
+// The numbers of three literals: one that its row has room for, one that it has not, and one of 129 digits.
+fn numbers(alloc: Global) -> Result<[Option<u128>; 3], Memory> {
+    let mut nodes = Nodes::new(alloc);
+    let _ = nodes.push(&Node::Bin(b"101"))?;
+    let large = nodes.push(&Node::Hex(b"Ffffffff"))?;
+    let _ = nodes.annotate(large)?;
+    let digits = [b'1'; 129];
+    let _ = nodes.push(&Node::Bin(&digits))?;
+    nodes.cut(1);
+    let _ = nodes.push(&Node::Slot(0))?;
+    let large = nodes.push(&Node::Hex(b"Ffffffff"))?;
+    let large = nodes.annotate(large)?;
+    let longest = nodes.push(&Node::Bin(&digits))?;
+    Ok([
+        nodes.literal(0),
+        nodes.literal(large.number()),
+        nodes.literal(longest.number()),
+    ])
+}
+
+#[test]
+fn literals_have_their_numbers(rt: HostRuntime) {
+    let mut read = false;
+    for _ in 0..2 {
+        if let Ok(numbers) = numbers(rt.alloc()) {
+            assert_eq!(rt; numbers, [Some(5), Some(4_294_967_295), None]);
+            read = true;
+        }
+    }
+    assert!(rt; read);
 }
 
 #[test]

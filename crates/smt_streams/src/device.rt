@@ -11,15 +11,17 @@ use crate::{Broken, Sink, Source};
 use std::io::{ErrorKind, Read, Write};
 
 // The most bytes that a pull gives.
-const BLOCK: usize = 8192;
+const BLOCK: usize = 4096;
 
 /// A source over a reader, or a sink over a writer. A call that a signal interrupts is made again. A writer
-/// that takes no byte has failed. A pull gives at most 8,192 bytes.
+/// that takes no byte has failed. A pull gives at most 4,096 bytes.
 #[derive(Drop)]
 pub struct Device<T> {
     inner: T,
     broken: bool,
     ended: bool,
+    // What a read writes to. What stands there is of no interest before and after.
+    block: [u8; BLOCK],
 }
 
 impl<T> Device<T> {
@@ -33,6 +35,7 @@ impl<T> Device<T> {
             inner,
             broken: false,
             ended: false,
+            block: [0; BLOCK],
         }
     }
 }
@@ -45,7 +48,7 @@ impl<R: Read> Source for Device<R> {
     ghost is_broken = { device_broken };
 
     fn pull(&mut self, buf: &mut [u8]) -> Result<usize, Broken> {
-        let given = read_front(&mut self.inner, buf);
+        let given = read_front(&mut self.inner, &mut self.block, buf);
         self.ended = given == Ok(0);
         self.broken = given.is_err();
         given
@@ -73,14 +76,17 @@ impl<W: Write> Sink for Device<W> {
 }
 
 // Gives the bytes of one read. They come over a block, since a reader may write behind what it gives.
-fn read_front<R: Read>(reader: &mut R, buf: &mut [u8]) -> Result<usize, Broken>
+fn read_front<R: Read>(
+    reader: &mut R,
+    block: &mut [u8; BLOCK],
+    buf: &mut [u8],
+) -> Result<usize, Broken>
     requires { 0 < length buf.old }
     ensures bound { ReadsAtMost result buf.new }
     ensures behind { drop (moved result) buf.new ≡ drop (moved result) buf.old }
     ensures bytes { Consumes (R.remaining reader.old) (R.remaining reader.new) (take (moved result) buf.new) }
     ensures end { IfOk result (λ n. n ≡ 0 → IsAtEnd (R.remaining reader.new)) }
 {
-    let mut block = [0u8; BLOCK];
     let room = buf.len().min(BLOCK);
     let count = read_uninterrupted(reader, &mut block[..room])?;
     buf[..count].copy_from_slice(&block[..count]);

@@ -8,3 +8,4 @@ pub mod BitsOperators
 pub mod Operators
 pub mod Ranks
 pub mod NamesLike
+pub mod PlainOp

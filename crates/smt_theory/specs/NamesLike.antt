@@ -1,5 +1,12 @@
--- Which plain operator on bit vectors a name can be, as its length and some of its bytes tell.
-use Rattle.std.specs.Prelude.{ℕ, ◌==◌, ◌&&◌, Option, Some, None, if◌then◌else◌}
+-- Which plain operator a name can be, as its length and some of its bytes tell.
+use Rattle.std.specs.Prelude.{ℕ, ◌==◌, ◌&&◌, List, Option, Some, None, bytes_eq, if◌then◌else◌}
+use Rattle.std.specs.Bool.{then_some}
+use Rattle.smt_theory.specs.declared.op.Arithmetic.TheVariants as arithmetic
+use Rattle.smt_theory.specs.declared.op.Comparison.TheVariants as order
+use Rattle.smt_theory.specs.declared.op.CoreOp.{CoreOp}
+use Rattle.smt_theory.specs.declared.op.CoreOp.TheVariants as core
+use Rattle.smt_theory.specs.declared.op.IntsOp.{IntsOp}
+use Rattle.smt_theory.specs.declared.op.IntsOp.TheVariants as ints
 use Rattle.smt_theory.specs.declared.op.BitsBinary.TheVariants.{Nand, Nor, Xnor, Subtract, DivideUnsigned}
 use Rattle.smt_theory.specs.declared.op.BitsBinary.TheVariants.{RemainderUnsigned, DivideSigned}
 use Rattle.smt_theory.specs.declared.op.BitsBinary.TheVariants.{RemainderSigned, ModuloSigned, ShiftLeft}
@@ -58,3 +65,37 @@ bits_like n c d e =
     else if n == 6 then bits_of_six c d
     else if n == 4 && c == 111 then Some (bits.Folded folded.Or)
     else None
+
+-- of a name of n bytes, of which the first is a
+abbrev pub core_like : ℕ → ℕ → Option CoreOp
+core_like n a =
+    if n == 1 && a == 61 then Some core.Equal
+    else if n == 2 && a == 61 then Some core.Implies
+    else if n == 2 && a == 111 then Some core.Or
+    else if n == 3 && a == 97 then Some core.And
+    else if n == 3 && a == 105 then Some core.Ite
+    else if n == 3 && a == 110 then Some core.Not
+    else if n == 3 && a == 120 then Some core.Xor
+    else if n == 4 && a == 116 then Some core.True
+    else if n == 5 && a == 102 then Some core.False
+    else if n == 8 && a == 100 then Some core.Distinct
+    else None
+
+abbrev pub ints_like : ℕ → ℕ → Option IntsOp
+ints_like n a =
+    if n == 1 && a == 45 then Some (ints.Arithmetic arithmetic.Minus)
+    else if n == 1 && a == 43 then Some (ints.Arithmetic arithmetic.Plus)
+    else if n == 1 && a == 42 then Some (ints.Arithmetic arithmetic.Times)
+    else if n == 1 && a == 60 then Some (ints.Comparison order.Less)
+    else if n == 1 && a == 62 then Some (ints.Comparison order.Greater)
+    else if n == 2 && a == 60 then Some (ints.Comparison order.AtMost)
+    else if n == 2 && a == 62 then Some (ints.Comparison order.AtLeast)
+    else if n == 3 && a == 97 then Some ints.Abs
+    else if n == 3 && a == 100 then Some (ints.Arithmetic arithmetic.Div)
+    else if n == 3 && a == 109 then Some ints.Mod
+    else None
+
+-- the operator that a name can be, if that is its name
+abbrev pub if_named : {O : Type 0} → (O → List ℕ) → List ℕ → Option O → Option O
+if_named name symbol None = None
+if_named name symbol (Some op) = then_some (bytes_eq symbol (name op)) op

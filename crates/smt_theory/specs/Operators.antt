@@ -4,7 +4,8 @@ use Rattle.std.specs.Prelude.{ℕ, ◌≡◌, ◌≢◌, ◌<◌, List, [], ◌�
 use Rattle.std.specs.Prelude.{Ok, Err, is_some, option_map, ok_or, nat_lt, find, bytes_eq, codes}
 use Rattle.std.specs.Prelude.{if◌then◌else◌}
 use Rattle.std.specs.Option.{option_or}
-use Rattle.smt_theory.specs.BitsOperators.{AreInRange, IsBitsName, bits_indexes, bits_named, indexed_bits}
+use Rattle.smt_theory.specs.BitsOperators.{AreInRange, IsBitsName, bits_indexes, bits_name, bits_named}
+use Rattle.smt_theory.specs.BitsOperators.{indexed_bits}
 use Rattle.smt_theory.specs.Index.{IndexView, Number}
 use Rattle.smt_theory.specs.Words.{result_and_then}
 use Rattle.smt_theory.specs.declared.op.Arithmetic.TheVariants.{Minus, Plus, Times, Div}
@@ -46,6 +47,12 @@ ints_name (Comparison Less) = codes "<"
 ints_name (Comparison AtLeast) = codes ">="
 ints_name (Comparison Greater) = codes ">"
 ints_name (Divisible n) = codes "divisible"
+
+-- the name of an operator; of a constant what stands before its numeral
+abbrev pub name_of : Op → List ℕ
+name_of (Core op) = core_name op
+name_of (Ints op) = ints_name op
+name_of (Bits op) = bits_name op
 
 -- the plain operators, that is those without indexes
 abbrev pub core_plain : List CoreOp

@@ -34,13 +34,14 @@ mod width;
 
 pub use index::Index;
 pub use numbers::{digit, number};
-pub use op::names::op_of;
+pub use op::names::{op_of, plain_op_of};
+pub use op::plain::PlainOp;
 pub use op::{
     Arithmetic, BitsBinary, BitsComparison, BitsFolded, BitsOp, BitsUnary, Comparison, CoreOp,
     IntsOp, Op, OpFault,
 };
 pub use profile::Profile;
-pub use ranks::rank;
+pub use ranks::{plain_rank, rank};
 pub use sort::Sort;
 pub use theories::{Theories, all_theories, theories_of};
 pub use width::Width;

@@ -3,6 +3,7 @@
 
 mod bits_names;
 pub(crate) mod names;
+pub(crate) mod plain;
 
 use crate::width::Width;
 use std::error::Error;

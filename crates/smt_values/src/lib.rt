@@ -25,7 +25,7 @@ mod literal_values;
 mod operations;
 mod value;
 
-pub use literal_values::{bin, hex, numeral};
+pub use literal_values::{bin, bin_of, hex, hex_of, numeral, numeral_of};
 pub use operations::{apply, apply_in_place};
 pub use smt_bits::Bits;
 pub use smt_theory::Width;

@@ -1,6 +1,8 @@
 //! The values of constants. This file knows no operator.
 
-ghost use Rattle.std.specs.Prelude.{◌≡◌};
+ghost use Rattle.std.specs.Prelude.{◌≡◌, List, ℕ};
+ghost use Rattle.std.specs.Str.Parse.{digits_value};
+ghost use Rattle.smt_theory.specs.Numbers.{below_word};
 ghost use Rattle.smt_values.specs.Element.{known_element};
 ghost use Rattle.smt_values.specs.Literals.{bin_element, hex_element, numeral_element};
 
@@ -13,11 +15,17 @@ use smt_theory::number;
 pub fn numeral(digits: &[u8]) -> Option<Value>
     ensures { known_element result ≡ numeral_element digits.now }
 {
-    let value = number(10, digits)?;
-    if value < 1 << 127 {
-        Some(Value::Int(value as i128))
-    } else {
-        None
+    numeral_of(number(10, digits))
+}
+
+/// The same as `numeral` of any digits that spell this number: what `smt_theory::number` says of them.
+pub fn numeral_of(number: Option<u128>) -> Option<Value>
+    ensures { (digits : List ℕ) → number ≡ below_word (digits_value 10 digits)
+        → known_element result ≡ numeral_element digits }
+{
+    match number {
+        Some(value) if value < 1 << 127 => Some(Value::Int(value as i128)),
+        _ => None,
     }
 }
 
@@ -29,10 +37,26 @@ pub fn hex(digits: &[u8]) -> Option<Value>
     literals::hex(digits).map(Value::Bits)
 }
 
+/// The same as `hex`, where the number that the digits spell is known: what `smt_theory::number` says of them.
+pub fn hex_of(number: Option<u128>, digits: &[u8]) -> Option<Value>
+    requires { number ≡ below_word (digits_value 16 digits.now) }
+    ensures { known_element result ≡ hex_element digits.now }
+{
+    literals::hex_of(number, digits).map(Value::Bits)
+}
+
 /// The bit vector that binary digits spell, one bit a digit; `None` where there is none or more than 128.
 /// What comes of other bytes than digits is of no interest.
 pub fn bin(digits: &[u8]) -> Option<Value>
     ensures { known_element result ≡ bin_element digits.now }
 {
     literals::bin(digits).map(Value::Bits)
+}
+
+/// The same as `bin`, where the number that the digits spell is known: what `smt_theory::number` says of them.
+pub fn bin_of(number: Option<u128>, digits: &[u8]) -> Option<Value>
+    requires { number ≡ below_word (digits_value 2 digits.now) }
+    ensures { known_element result ≡ bin_element digits.now }
+{
+    literals::bin_of(number, digits).map(Value::Bits)
 }

@@ -153,7 +153,7 @@ void smtcheck_session_free(struct smtcheck_session *session);
 
 /*
  * Tells the version of the library, and the toolchain that proved it, as `smtcheck --version` does behind the program's
- * name: `0.7.0 (rattle-kit-13f ..)`.
+ * name: `0.7.1 (rattle-kit-13f ..)`.
  *
  * It answers the length of that text, which has no byte 0. If it has at most `room` bytes, the first bytes at `text` are
  * the text, and those behind it stay as they were; if it has more, all stay as they were.

@@ -1,7 +1,12 @@
 -- What a session keeps of two texts so far, and what it has taken up of them.
-use Rattle.std.specs.Prelude.{◌≡◌, ◌<◌, ◌^◌, ℕ, List, [], ◌∷◌, ◌++◌, Bool, Option, Some, None, false, true, is_some, Ok}
+use Rattle.std.specs.Prelude.{◌≡◌, ◌<◌, ◌≤◌, ◌^◌, ℕ, List, [], ◌∷◌, ◌++◌, Bool, Option, Some, None, false, true}
+use Rattle.std.specs.Prelude.{Ok, is_some, length}
 use Rattle.std.specs.List.{list_any}
-use Rattle.smt_trees.specs.Sexp.{Sexp, Sexps, Nil, Cons}
+use Rattle.smt_faults.specs.declared.text_flaw.TextFlaw.{TextFlaw}
+use Rattle.smt_text.specs.Grammar.{max_depth}
+use Rattle.smt_text.specs.Reader.{bytes_fed}
+use Rattle.smt_text.specs.Reading.{Reads}
+use Rattle.smt_trees.specs.Sexp.{Sexp, Sexps, Nil, Cons, count}
 use Rattle.smt_theory.specs.declared.profile.Profile.{Profile}
 use Rattle.smt_script.specs.Command.{command_of, is_check}
 use Rattle.smt_script.specs.CommandView.{command_view}
@@ -75,6 +80,24 @@ pub record IsUnderWay (x : Pairing) (texts : Texts) (pairs : List Pair) (later r
   pub closing : early ≡ true → IsClosing x.command texts later
   pub paired : ArePaired (start_of x.dialogue.stack) texts.script texts.answers pairs later rest
 
+-- the law that a text has no more trees than bytes
+abbrev pub TreesAreFew : Type 0
+TreesAreFew = (told : Bool) (bytes : List ℕ) (trees : Sexps) (fault : Option TextFlaw)
+    → Reads max_depth told bytes trees fault → count trees ≤ length bytes
+
+-- the exchange is under way, and there are fewer commands and answers than 2^64
+pub record HasRoom (x : Pairing) : Type 0 where
+  pub few : TreesAreFew
+  pub script : bytes_fed x.script.reader < 2 ^ 64
+  pub answers : bytes_fed x.answers.reader < 2 ^ 64
+  pub way : (texts : Texts) × (pairs : List Pair) × (later : Sexps) × (rest : Sexps)
+      × IsUnderWay x texts pairs later rest
+
+-- no more was fed of either text
+pub record IsFedAlike (old new : Pairing) : Type 0 where
+  pub script : bytes_fed new.script.reader ≡ bytes_fed old.script.reader
+  pub answers : bytes_fed new.answers.reader ≡ bytes_fed old.answers.reader
+
 -- it goes on as this comes of a text
 abbrev pub GoesOnWith : Side → (x y : Pairing) → Texts → (told : Bool) → (bytes : List ℕ) → Type 0
 GoesOnWith side x y texts told bytes =
@@ -104,6 +127,17 @@ abbrev pub IsNext : Option Turn → (old new : Pairing) → Texts → List Pair 
 IsNext None old new texts pairs later rest =
     IsUnderWay new texts pairs later rest × (is_some new.command ≡ true)
 IsNext (Some turn) old new texts pairs later rest = IsTurned turn old new texts pairs later rest
+
+-- so it is for all texts by which the exchange is under way
+abbrev pub AllTurned : Turn → (old new : Pairing) → Type 0
+AllTurned turn old new =
+    (texts : Texts) (pairs : List Pair) (later rest : Sexps) → IsUnderWay old texts pairs later rest
+    → IsTurned turn old new texts pairs later rest
+
+abbrev pub AllNext : Option Turn → (old new : Pairing) → Type 0
+AllNext turn old new =
+    (texts : Texts) (pairs : List Pair) (later rest : Sexps) → IsUnderWay old texts pairs later rest
+    → IsNext turn old new texts pairs later rest
 
 -- the lines of both texts that are not handed out
 abbrev pub waiting : Pairing → List Line

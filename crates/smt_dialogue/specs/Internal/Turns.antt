@@ -1,12 +1,11 @@
 -- What one turn of a dialogue comes to.
-use Rattle.std.specs.Prelude.{◌≡◌, ℕ, ◌+◌, List, [], ◌∷◌, ◌++◌, length, Bool, Option, Some, None}
+use Rattle.std.specs.Prelude.{◌≡◌, ℕ, List, [], ◌∷◌, ◌++◌, Bool, Option, None}
 use Rattle.smt_trees.specs.Sexp.{Sexp, Sexps}
-use Rattle.smt_theory.specs.declared.profile.Profile.{Profile}
 use Rattle.smt_script.specs.Command.{Command}
 use Rattle.smt_script.specs.declared.stack.Start.{Start}
 use Rattle.smt_dialogue.specs.Answers.{Taken, Takes, taken}
 use Rattle.smt_dialogue.specs.FirstFault as first_fault
-use Rattle.smt_dialogue.specs.FirstFault.{TextSoFar, is_over, turn_of_flaw, turn_of_taken}
+use Rattle.smt_dialogue.specs.FirstFault.{TextSoFar, is_over, turn_of_taken}
 use Rattle.smt_dialogue.specs.InForce.{flaw_of_pair, need_after}
 use Rattle.smt_dialogue.specs.Pairs.{Pair, next_of, pair_of, with_answer}
 use Rattle.smt_dialogue.specs.Internal.AcceptedState.{Fits, State, StandsFor}
@@ -14,18 +13,12 @@ use Rattle.smt_dialogue.specs.Internal.TreeQueueView.{HasQueue}
 use Rattle.smt_dialogue.specs.declared.tree_queue.TreeQueue.{TreeQueue}
 use Rattle.smt_dialogue.specs.declared.turn.Turn.{Turn}
 use Rattle.smt_dialogue.specs.declared.turn.Turn.TheVariants as turns
-use Rattle.smt_report.specs.declared.line.Line.{Line}
 
 -- what a contract sees of a turn
 abbrev pub turn_view : Turn → first_fault.Turn
 turn_view turns.GoesOn = first_fault.GoesOn
 turn_view (turns.Waits closed) = first_fault.Waits closed
 turn_view (turns.Ends fault) = first_fault.Ends fault
-
--- a command goes on, or ends with the line of its fault
-abbrev pub turn_of_line : Option Line → Turn
-turn_of_line None = turns.GoesOn
-turn_of_line (Some line) = turns.Ends (Some line)
 
 -- what the command takes of these answers
 abbrev pub taken_for : Start → List Pair → Command → TextSoFar → Sexps → Taken
@@ -55,10 +48,3 @@ IsTakenUp (turns.Waits closed) early start pairs command text rest bytes front n
 IsTakenUp (turns.Ends fault) early start pairs command text rest bytes front new =
     (turn_of_taken start.profile pairs command text.fault (taken_for start pairs command text rest)
     ≡ first_fault.Ends fault) × Fits early new pairs
-
--- the pair was accepted, or its command has a fault, with this line
-abbrev pub IsDone : Profile → Option Line → Bool → List Pair → Pair → State → Type 0
-IsDone profile None early pairs pair new = (flaw_of_pair profile pairs pair ≡ None) × StandsFor new (pairs ++ pair ∷ [])
-IsDone profile (Some line) early pairs pair new =
-    (turn_of_flaw (length pairs + 1) (flaw_of_pair profile pairs pair) ≡ first_fault.Ends (Some line))
-    × Fits early new pairs

@@ -1,5 +1,6 @@
 -- Parts of a node by their numbers in both tables, and a fetched node as a contract sees it.
 use Rattle.std.specs.Prelude.{ℕ, ◌+◌, List, Option, map, option_map, slice_get, unwrap_or}
+use Rattle.smt_nodes.specs.Node as node
 use Rattle.smt_nodes.specs.NodeParts.{NodeParts, parts_of}
 use Rattle.smt_nodes.specs.NodeView.{node_view}
 use Rattle.smt_nodes.specs.Nodes.{rows_of}
@@ -24,6 +25,10 @@ meaning at node = resolved at.shift at.bodies.now at.declared.now (node_view nod
 abbrev pub found : Place → Option machine.Node
 found at = option_map (λ row. resolved at.shift at.bodies.now at.declared.now row.node)
     (slice_get (rows_of at.nodes.now) at.number)
+
+-- the same before its names and literals are looked at
+abbrev pub found_node : Place → Option node.Node
+found_node at = option_map (λ row. row.node) (slice_get (rows_of at.nodes.now) at.number)
 
 -- the parts of the node at a place, if one is there
 abbrev pub found_parts : Place → Option NodeParts

@@ -4,11 +4,13 @@ use Rattle.std.specs.Prelude.{slice_range}
 use Rattle.smt_theory.specs.declared.op.CoreOp.TheVariants.{True}
 use Rattle.smt_theory.specs.declared.op.Op.{Op}
 use Rattle.smt_theory.specs.declared.op.Op.TheVariants.{Core}
-use Rattle.smt_nodes.specs.Internal.PlainOp.{op_of_plain}
+use Rattle.smt_theory.specs.PlainOp.{op_of_plain}
 use Rattle.smt_nodes.specs.Node as spec
+use Rattle.smt_nodes.specs.declared.rows.Base.{Base}
+use Rattle.smt_nodes.specs.declared.rows.Base.TheVariants.{Decimal, Hexadecimal, Binary}
 use Rattle.smt_nodes.specs.declared.rows.Ends.{Ends}
 use Rattle.smt_nodes.specs.declared.rows.Stored.{Stored}
-use Rattle.smt_nodes.specs.declared.rows.Stored.TheVariants.{Numeral, Hex, Bin, Slot, Plain, Numbered}
+use Rattle.smt_nodes.specs.declared.rows.Stored.TheVariants.{Literal, Large, Slot, Plain, Numbered}
 use Rattle.smt_nodes.specs.declared.rows.Stored.TheVariants.{Declared}
 use Rattle.smt_nodes.specs.declared.rows.Stored.TheVariants.{Defined, Let, Same}
 use Rattle.smt_nodes.specs.declared.tables.Tables.{Tables}
@@ -50,10 +52,15 @@ pub record Grows (t u : Lists) : Type 0 where
 abbrev pub before : {A : Type 0} → ℕ → ℕ → List A → List A
 before n end xs = slice_range xs (end - n) end
 
+-- a literal with these digits
+abbrev pub literal_of : Base → List ℕ → spec.Node
+literal_of Decimal digits = spec.Numeral digits
+literal_of Hexadecimal digits = spec.Hexadecimal digits
+literal_of Binary digits = spec.Binary digits
+
 abbrev pub node_of : Lists → Ends → Stored → spec.Node
-node_of t ends (Numeral n) = spec.Numeral (before n ends.digits t.digits)
-node_of t ends (Hex n) = spec.Hexadecimal (before n ends.digits t.digits)
-node_of t ends (Bin n) = spec.Binary (before n ends.digits t.digits)
+node_of t ends (Literal base n number) = literal_of base (before n ends.digits t.digits)
+node_of t ends (Large base n place) = literal_of base (before n ends.digits t.digits)
 node_of t ends (Slot place) = spec.Slot place
 node_of t ends (Plain op n) = spec.Apply (op_of_plain op) (before n ends.parts t.parts)
 node_of t ends (Numbered place n) =
@@ -74,9 +81,8 @@ parts_in (Let n body) = n
 parts_in _ = 0
 
 abbrev pub digits_in : Stored → ℕ
-digits_in (Numeral n) = n
-digits_in (Hex n) = n
-digits_in (Bin n) = n
+digits_in (Literal base n number) = n
+digits_in (Large base n place) = n
 digits_in _ = 0
 
 abbrev pub ops_in : Stored → ℕ

@@ -1,5 +1,6 @@
 -- What the sort checker adds to a table of nodes.
-use Rattle.std.specs.Prelude.{◌≡◌, ◌<◌, ◌≤◌, ◌+◌, ℕ, List, [], ◌∷◌, ◌++◌, Bool, false, Some, length, map}
+use Rattle.std.specs.Prelude.{◌≡◌, ◌<◌, ◌≤◌, ◌+◌, ℕ, List, [], ◌∷◌, ◌++◌, Bool, false, Option, Result, Some}
+use Rattle.std.specs.Prelude.{length, map}
 use Rattle.std.specs.Prelude.{slice_get}
 use Rattle.smt_nodes.specs.Node.{Node, Row}
 use Rattle.smt_nodes.specs.Nodes.{rows_of}
@@ -7,9 +8,12 @@ use Rattle.smt_nodes.specs.declared.table.Nodes.{Nodes}
 use Rattle.smt_forms.specs.Identifier.{Identifier}
 use Rattle.smt_theory.specs.Operators.{is_plain_operator}
 use Rattle.smt_theory.specs.Words.{look_up}
+use Rattle.smt_theory.specs.declared.op.Op.{Op}
+use Rattle.smt_theory.specs.declared.op.OpFault.{OpFault}
 use Rattle.smt_theory.specs.declared.sort.Sort.{Sort}
 use Rattle.smt_trees.specs.Sexp.{Sexp, Sexps}
-use Rattle.smt_terms.specs.Denotes.{AreBound, AreDenoted, Denotes, Head, IsLonger, Slots, Table, node_of}
+use Rattle.smt_terms.specs.Denotes.{AreBound, AreDenoted, Denotes, Head, IsLonger, Slots, Table}
+use Rattle.smt_terms.specs.Denotes.{applied_node, node_of}
 use Rattle.smt_terms.specs.Internal.TableView.{AreNamed, IsReady, places_seen, rows_behind, rows_in, slots_seen}
 use Rattle.smt_terms.specs.Internal.TableView.{table_in, table_of}
 use Rattle.smt_terms.specs.declared.labels.Labels.{Labels}
@@ -51,6 +55,11 @@ pub record AddsApplied (library : Library) (old new : Draft) (f : Identifier) (s
   pub node : Node
   pub added : AddsNode library.nodes old new node c
   pub is : IsNodeOf library f sorts args node
+
+-- the same of what an operator is
+abbrev pub AddsOperator : Library → (old new : Draft) → Result Op OpFault → List ℕ → CheckedTerm → Type 0
+AddsOperator library old new op args c = (node : Node) × AddsNode library.nodes old new node c
+    × ((head : Option Head) → applied_node op head args ≡ Some node)
 
 -- the row of the first number is added once more, with one annotation more round it
 pub record AddsAround (before : Nodes) (old new : Draft) (inner added : ℕ) : Type 0 where

@@ -1,35 +1,32 @@
 //! The sort checker: the sort and the node of a term, or its first flaw. This file adds no name to a library,
 //! and knows no values.
 
-ghost use Rattle.std.specs.Prelude.{◌≡◌, ◌*◌, ◌++◌, ◌∷◌, [], false, length, Option, Some, Ok, Err, IfOk};
-ghost use Rattle.std.specs.Prelude.{MatchResult, OnOk};
-ghost use Rattle.smt_nodes.specs.Node.{Apply};
+ghost use Rattle.std.specs.Prelude.{◌≡◌, ◌*◌, [], false, length, IfOk, OnOk};
 ghost use Rattle.smt_nodes.specs.NodeView.{node_view};
 ghost use Rattle.smt_trees.specs.Sexp.{Atom, Binary, Hexadecimal, Items, Numeral, Symbol};
 ghost use Rattle.smt_trees.specs.Tree.{sexp_of, sexps_of};
+ghost use Rattle.smt_theory.specs.Operators.{op_by};
 ghost use Rattle.smt_theory.specs.Ranks.{are_exactly};
 ghost use Rattle.smt_theory.specs.Width.{width_of};
 ghost use Rattle.smt_theory.specs.Words.{look_up};
 ghost use Rattle.smt_terms.specs.Checking as checking;
-ghost use Rattle.smt_terms.specs.Checking.{sorts_in, sort_of_name};
+ghost use Rattle.smt_terms.specs.Checking.{sorts_in};
 ghost use Rattle.smt_terms.specs.Denotes as denotes;
-ghost use Rattle.smt_terms.specs.Denotes.{Head, applied_node, named_node};
 ghost use Rattle.smt_terms.specs.Internal.Calls.{GivesLabels, HasSort, SeesTheSame, names_variable};
 ghost use Rattle.smt_terms.specs.Internal.DraftView.{IsPlaced, are_open, is_open, seen_by, sorts_of, sorts_seen};
 ghost use Rattle.smt_forms.specs.ScopeOf.{scope_of};
 ghost use Rattle.smt_forms.specs.Identifier.{Plain};
 ghost use Rattle.smt_forms.specs.IdentifierView.{identifier_view};
 ghost use Rattle.smt_terms.specs.Internal.LabelsView.{AreGiven, labels_view};
-ghost use Rattle.smt_terms.specs.Internal.LibraryView.{names_for, names_of_library, rank_of};
+ghost use Rattle.smt_terms.specs.Internal.LibraryView.{names_for, names_of_library};
 ghost use Rattle.smt_forms.specs.Labels.{labels_in_all};
-ghost use Rattle.smt_terms.specs.Internal.NodesView.{AddsApplied, AddsNode, GrowsTo, IsNodeOf};
+ghost use Rattle.smt_terms.specs.Internal.NodesView.{AddsApplied, AddsNode, AddsOperator, GrowsTo};
 ghost use Rattle.smt_terms.specs.Internal.NodesView.{Stands, TermsStand};
-ghost use Rattle.smt_terms.specs.Internal.TableView.{head_of};
 ghost use Rattle.smt_terms.specs.SortTrees.{bit_vectors, integers};
 ghost use Rattle.smt_faults.specs.Outcome.{IsOutcome};
 
 use crate::library::draft::{Bound, CheckedTerm, Draft};
-use crate::library::{Entry, Found, Library};
+use crate::library::{Found, Library};
 use crate::sorts;
 use smallvec::SmallVec;
 use smt_faults::{TermFault, TermFlaw};
@@ -37,7 +34,7 @@ use smt_forms::{
     Identifier, Scope, applied_identifier, indexed_identifier, is_bang, is_let, is_underscore,
 };
 use smt_nodes::{Node, Nodes, TermId};
-use smt_theory::{Op, OpFault, Sort, Width, op_of, rank};
+use smt_theory::{Op, OpFault, Sort, Width, op_of, plain_op_of, plain_rank, rank};
 use smt_trees::{Tree, Trees, split_first};
 
 // How many arguments' sorts and nodes are kept without memory of their own.
@@ -267,7 +264,7 @@ impl Library {
                 let is_open = variable.place < draft.base;
                 Ok(draft.push(&self.nodes, &node, &variable.sort, is_open)?)
             }
-            None => self.sort_applied(draft, &Identifier::Plain(name), &[], &[], false),
+            None => self.sort_of_plain(draft, name, &[], &[], false),
         }
     }
 
@@ -318,120 +315,114 @@ impl Library {
         ensures base { draft.new.base ≡ draft.old.base }
         ensures labels { draft.new.labels ≡ draft.old.labels }
     {
-        match self.applied(identifier, sorts, args) {
-            Ok((sort, node)) => Ok(draft.push(&self.nodes, &node, &sort, is_open)?),
-            Err(flaw) => Err(TermFault::from(flaw)),
-        }
-    }
-
-    // What such an application is: its sort and its node.
-    #[inline(always)]
-    fn applied<'b>(
-        &self,
-        identifier: &Identifier<'_>,
-        sorts: &[Sort],
-        args: &'b [TermId],
-    ) -> Result<(Sort, Node<'b>), TermFlaw>
-        ensures sort { MatchResult result (λ p. checking.sort_applied (names_of_library self.now)
-            (identifier_view identifier.now) sorts.now ≡ Ok p.0)
-            (λ flaw. checking.sort_applied (names_of_library self.now)
-            (identifier_view identifier.now) sorts.now ≡ Err flaw) }
-        ensures node { IfOk result (λ p. IsNodeOf self.now (identifier_view identifier.now) sorts.now args.now
-            (node_view p.1)) }
-    {
         match identifier {
-            Identifier::Plain(name) => self.sort_of_plain(*name, sorts, args),
+            Identifier::Plain(name) => self.sort_of_plain(draft, *name, sorts, args, is_open),
             Identifier::Indexed { name, indexes } => {
                 let op = op_of(self.sorts.theories, *name, indexes.as_slice());
-                sort_of_operator(op, sorts, args)
+                self.sort_of_indexed(draft, op, sorts, args, is_open)
             }
         }
     }
 
-    // The sort and the node of a symbol that is no variable: a name in force, or else an operator.
+    // The same of a symbol: a name in force, or else an operator.
     #[inline(always)]
-    fn sort_of_plain<'b>(
+    fn sort_of_plain(
         &self,
+        draft: &mut Draft<'_>,
         name: &[u8],
         sorts: &[Sort],
-        args: &'b [TermId],
-    ) -> Result<(Sort, Node<'b>), TermFlaw>
-        ensures sort { MatchResult result
-            (λ p. checking.sort_applied (names_of_library self.now) (Plain name.now) sorts.now ≡ Ok p.0)
-            (λ flaw. checking.sort_applied (names_of_library self.now) (Plain name.now) sorts.now
-            ≡ Err flaw) }
-        ensures node { IfOk result (λ p. IsNodeOf self.now (Plain name.now) sorts.now args.now
-            (node_view p.1)) }
+        args: &[TermId],
+        is_open: bool,
+    ) -> Result<CheckedTerm, TermFault>
+        ensures sort { IsOutcome (λ c. c.sort) (checking.sort_applied (names_of_library self.now)
+            (Plain name.now) sorts.now) result }
+        ensures open { IfOk result (λ c. c.is_open ≡ is_open) }
+        ensures added { IfOk result (AddsApplied self.now draft.old draft.new (Plain name.now)
+            sorts.now args.now) }
+        ensures longer { GrowsTo draft.old draft.new }
+        ensures scope { draft.new.scope ≡ draft.old.scope }
+        ensures base { draft.new.base ≡ draft.old.base }
+        ensures labels { draft.new.labels ≡ draft.old.labels }
     {
         match self.get(name) {
-            Some(entry) => sort_of_entry(entry, sorts, args),
-            None => sort_of_operator(op_of(self.sorts.theories, name, &[]), sorts, args),
+            Some(entry) => {
+                if !are_same(entry.parameters.as_slice(), sorts) {
+                    return Err(TermFault::IllSorted);
+                }
+                let node = node_at(entry.place, args);
+                Ok(draft.push(&self.nodes, &node, &entry.sort, is_open)?)
+            }
+            None => self.sort_of_operator(draft, name, sorts, args, is_open),
+        }
+    }
+
+    // The same of a symbol that is no name in force.
+    #[inline(always)]
+    fn sort_of_operator(
+        &self,
+        draft: &mut Draft<'_>,
+        name: &[u8],
+        sorts: &[Sort],
+        args: &[TermId],
+        is_open: bool,
+    ) -> Result<CheckedTerm, TermFault>
+        ensures sort { IsOutcome (λ c. c.sort) (checking.sort_of_operator
+            (op_by (names_of_library self.now).theories name.now []) sorts.now) result }
+        ensures open { IfOk result (λ c. c.is_open ≡ is_open) }
+        ensures added { IfOk result (AddsOperator self.now draft.old draft.new
+            (op_by (names_of_library self.now).theories name.now []) args.now) }
+        ensures longer { GrowsTo draft.old draft.new }
+        ensures scope { draft.new.scope ≡ draft.old.scope }
+        ensures base { draft.new.base ≡ draft.old.base }
+        ensures labels { draft.new.labels ≡ draft.old.labels }
+    {
+        let Some(op) = plain_op_of(self.sorts.theories, name) else {
+            return Err(TermFault::Unknown);
+        };
+        let Some(sort) = plain_rank(op, sorts) else {
+            return Err(TermFault::IllSorted);
+        };
+        Ok(draft.push_plain(&self.nodes, op, args, sort, is_open)?)
+    }
+
+    // The same of what an identifier with indexes is.
+    fn sort_of_indexed(
+        &self,
+        draft: &mut Draft<'_>,
+        op: Result<Op, OpFault>,
+        sorts: &[Sort],
+        args: &[TermId],
+        is_open: bool,
+    ) -> Result<CheckedTerm, TermFault>
+        ensures sort { IsOutcome (λ c. c.sort) (checking.sort_of_operator op sorts.now) result }
+        ensures open { IfOk result (λ c. c.is_open ≡ is_open) }
+        ensures added { IfOk result (AddsOperator self.now draft.old draft.new op args.now) }
+        ensures longer { GrowsTo draft.old draft.new }
+        ensures scope { draft.new.scope ≡ draft.old.scope }
+        ensures base { draft.new.base ≡ draft.old.base }
+        ensures labels { draft.new.labels ≡ draft.old.labels }
+    {
+        match op {
+            Ok(op) => {
+                let Some(sort) = rank(op, sorts) else {
+                    return Err(TermFault::IllSorted);
+                };
+                Ok(draft.push(&self.nodes, &Node::Apply { op, args }, &sort, is_open)?)
+            }
+            Err(OpFault::Unknown) => Err(TermFault::Unknown),
+            Err(OpFault::Index) => Err(TermFault::Index),
         }
     }
 }
 
-// The sort and the node of a name in force applied to arguments of these sorts.
-#[inline(always)]
-fn sort_of_entry<'b>(
-    entry: &Entry,
-    sorts: &[Sort],
-    args: &'b [TermId],
-) -> Result<(Sort, Node<'b>), TermFlaw>
-    ensures sort { MatchResult result (λ p. sort_of_name (rank_of entry.now) sorts.now ≡ Ok p.0)
-        (λ flaw. sort_of_name (rank_of entry.now) sorts.now ≡ Err flaw) }
-    ensures node { IfOk result (λ p. length args.now ≡ length sorts.now
-        → named_node (Some (head_of entry.now)) args.now ≡ Some (node_view p.1)) }
-{
-    if are_same(entry.parameters.as_slice(), sorts) {
-        Ok((entry.sort, node_at(entry.place, args)))
-    } else {
-        Err(TermFlaw::IllSorted)
-    }
-}
-
 // The node of the name that stands at this place, with arguments.
+#[inline(always)]
 fn node_at<'b>(place: Found, args: &'b [TermId]) -> Node<'b>
     ensures { node_view result ≡ denotes.node_at place args.now }
 {
     match place {
         Found::Declared(place) => Node::Declared { place, args },
         Found::Defined(place) => Node::Defined { place, args },
-    }
-}
-
-// The sort and the node of an operator applied to arguments of these sorts.
-#[inline(always)]
-fn sort_of_operator<'b>(
-    op: Result<Op, OpFault>,
-    sorts: &[Sort],
-    args: &'b [TermId],
-) -> Result<(Sort, Node<'b>), TermFlaw>
-    ensures sort { MatchResult result (λ p. checking.sort_of_operator op sorts.now ≡ Ok p.0)
-        (λ flaw. checking.sort_of_operator op sorts.now ≡ Err flaw) }
-    ensures node { IfOk result (λ p. (head : Option Head)
-        → applied_node op head args.now ≡ Some (node_view p.1)) }
-{
-    match op {
-        Ok(op) => applied_operator(&op, sorts, args),
-        Err(OpFault::Unknown) => Err(TermFlaw::Unknown),
-        Err(OpFault::Index) => Err(TermFlaw::Index),
-    }
-}
-
-// The same, where it is one.
-#[inline(always)]
-fn applied_operator<'b>(
-    op: &Op,
-    sorts: &[Sort],
-    args: &'b [TermId],
-) -> Result<(Sort, Node<'b>), TermFlaw>
-    ensures sort { MatchResult result (λ p. checking.sort_of_operator (Ok op.now) sorts.now ≡ Ok p.0)
-        (λ flaw. checking.sort_of_operator (Ok op.now) sorts.now ≡ Err flaw) }
-    ensures node { IfOk result (λ p. node_view p.1 ≡ Apply op.now args.now) }
-{
-    match rank(*op, sorts) {
-        Some(sort) => Ok((sort, Node::Apply { op: *op, args })),
-        None => Err(TermFlaw::IllSorted),
     }
 }
 

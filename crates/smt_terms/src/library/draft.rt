@@ -2,7 +2,8 @@
 //! gave. This file knows no trees.
 
 ghost use Rattle.std.specs.Prelude.{◌≡◌, ◌<◌, ◌≤◌, ◌+◌, ◌++◌, ◌∷◌, [], length, slice_get, Some, IfOk, OnOk, OnErr};
-ghost use Rattle.smt_nodes.specs.Node.{Row};
+ghost use Rattle.smt_nodes.specs.Node.{Apply, Row};
+ghost use Rattle.smt_theory.specs.PlainOp.{op_of_plain};
 ghost use Rattle.smt_nodes.specs.NodeView.{node_view};
 ghost use Rattle.smt_nodes.specs.Nodes.{rows_of};
 ghost use Rattle.smt_forms.specs.ScopeView.{scope_view};
@@ -14,7 +15,7 @@ use crate::labels::Labels;
 use smt_faults::Memory;
 use smt_forms::{Scope, Variable};
 use smt_nodes::{Node, Nodes, TermId};
-use smt_theory::Sort;
+use smt_theory::{PlainOp, Sort};
 use std::alloc::Global;
 
 /// A variable's sort, and its place among those that are seen, the outermost at 0.
@@ -114,6 +115,34 @@ impl<'a> Draft<'a> {
         let node = own.behind(before.len())?;
         Ok(CheckedTerm {
             sort: *sort,
+            node,
+            is_open,
+        })
+    }
+
+    /// The same of an operator that holds no number, with its arguments.
+    #[inline(always)]
+    pub(crate) fn push_plain(
+        &mut self,
+        before: &Nodes,
+        op: PlainOp,
+        args: &[TermId],
+        sort: Sort,
+        is_open: bool,
+    ) -> Result<CheckedTerm, Memory>
+        ensures sort { IfOk result (λ c. c.sort ≡ sort) }
+        ensures open { IfOk result (λ c. c.is_open ≡ is_open) }
+        ensures added { IfOk result (λ c. AddsNode before.now self.old self.new
+            (Apply (op_of_plain op) args.now) c) }
+        ensures longer { GrowsTo self.old self.new }
+        ensures scope { self.new.scope ≡ self.old.scope }
+        ensures base { self.new.base ≡ self.old.base }
+        ensures labels { self.new.labels ≡ self.old.labels }
+    {
+        let own = self.nodes.push_plain(op, args)?;
+        let node = own.behind(before.len())?;
+        Ok(CheckedTerm {
+            sort,
             node,
             is_open,
         })

@@ -13,7 +13,7 @@ ghost use Rattle.smt_terms.specs.Signature.{Signature, declared_named};
 use crate::labels::Labels;
 use crate::library::Library;
 use smt_faults::TermFlaw;
-use smt_theory::{Theories, op_of};
+use smt_theory::{Theories, plain_op_of};
 
 impl Library {
     // Whether a name stands for something, or is a plain operator's.
@@ -73,5 +73,5 @@ impl Library {
 fn is_operator(theories: Theories, name: &[u8]) -> bool
     ensures { result ≡ is_plain_operator theories name.now }
 {
-    op_of(theories, name, &[]).is_ok()
+    plain_op_of(theories, name).is_some()
 }

@@ -8,10 +8,14 @@ ghost use Rattle.smt_theory.specs.BitsOperators.{indexed_bits};
 ghost use Rattle.smt_theory.specs.BitsOperators as names;
 ghost use Rattle.smt_theory.specs.NamesLike as like;
 ghost use Rattle.smt_theory.specs.declared.op.BitsOp.TheVariants as ops;
+ghost use Rattle.smt_theory.specs.declared.op.Op.TheVariants.{Bits};
+ghost use Rattle.smt_theory.specs.PlainOp.{op_of_plain};
 ghost use Rattle.smt_theory.specs.Index.{index_view};
 
 use crate::index::Index;
 use crate::numbers::{is_numeral, number};
+use crate::op::names::if_named;
+use crate::op::plain::PlainOp;
 use crate::op::{BitsBinary, BitsComparison, BitsFolded, BitsOp, BitsUnary, OpFault};
 use crate::symbols::{byte_at, is_named};
 use crate::width::Width;
@@ -19,106 +23,79 @@ use crate::width::Width;
 /// The plain operator of this name. There are many, so the length and three bytes tell the one that it can be,
 /// with whose name it is then compared.
 #[inline(always)]
-pub(crate) fn bits_op(symbol: &[u8]) -> Option<BitsOp>
-    ensures { result ≡ bits_named symbol.now }
+pub(crate) fn bits_op(symbol: &[u8]) -> Option<PlainOp>
+    ensures { option_map op_of_plain result ≡ option_map Bits (bits_named symbol.now) }
 {
     let third = byte_at(symbol, 2);
     let fourth = byte_at(symbol, 3);
     let fifth = byte_at(symbol, 4);
-    let op = bits_like(symbol.len(), third, fourth, fifth)?;
-    if is_named(symbol, bits_name(&op)) {
-        Some(op)
-    } else {
-        None
-    }
+    if_named(symbol, bits_like(symbol.len(), third, fourth, fifth))
 }
 
 // The plain operator that a name of so many bytes with these in it can be.
 #[inline(always)]
-fn bits_like(length: usize, third: u8, fourth: u8, fifth: u8) -> Option<BitsOp>
-    ensures { result ≡ like.bits_like length third fourth fifth }
+fn bits_like(length: usize, third: u8, fourth: u8, fifth: u8) -> Option<PlainOp>
+    ensures { option_map op_of_plain result ≡ option_map Bits (like.bits_like length third fourth fifth) }
 {
     if length == 5 {
         bits_of_five(third, fourth, fifth)
     } else if length == 6 {
         bits_of_six(third, fourth)
     } else if length == 4 && third == b'o' {
-        Some(BitsOp::Folded(BitsFolded::Or))
+        Some(PlainOp::Folded(BitsFolded::Or))
     } else {
         None
     }
 }
 
 #[inline(always)]
-fn bits_of_five(third: u8, fourth: u8, fifth: u8) -> Option<BitsOp>
-    ensures { result ≡ like.bits_of_five third fourth fifth }
+fn bits_of_five(third: u8, fourth: u8, fifth: u8) -> Option<PlainOp>
+    ensures { option_map op_of_plain result ≡ option_map Bits (like.bits_of_five third fourth fifth) }
 {
     match (third, fourth, fifth) {
-        (b'a', b'd', _) => Some(BitsOp::Folded(BitsFolded::Add)),
-        (b'a', b'n', _) => Some(BitsOp::Folded(BitsFolded::And)),
-        (b'm', _, _) => Some(BitsOp::Folded(BitsFolded::Multiply)),
-        (b'n', b'e', _) => Some(BitsOp::Unary(BitsUnary::Negate)),
-        (b'n', b'o', b't') => Some(BitsOp::Unary(BitsUnary::Not)),
-        (b'n', b'o', b'r') => Some(BitsOp::Binary(BitsBinary::Nor)),
-        (b's', b'h', _) => Some(BitsOp::Binary(BitsBinary::ShiftLeft)),
-        (b's', b'u', _) => Some(BitsOp::Binary(BitsBinary::Subtract)),
-        (b's', b'g', b'e') => Some(BitsOp::Comparison(BitsComparison::SignedAtLeast)),
-        (b's', b'g', b't') => Some(BitsOp::Comparison(BitsComparison::SignedGreater)),
-        (b's', b'l', b'e') => Some(BitsOp::Comparison(BitsComparison::SignedAtMost)),
-        (b's', b'l', b't') => Some(BitsOp::Comparison(BitsComparison::SignedLess)),
-        (b'u', b'g', b'e') => Some(BitsOp::Comparison(BitsComparison::UnsignedAtLeast)),
-        (b'u', b'g', b't') => Some(BitsOp::Comparison(BitsComparison::UnsignedGreater)),
-        (b'u', b'l', b'e') => Some(BitsOp::Comparison(BitsComparison::UnsignedAtMost)),
-        (b'u', b'l', b't') => Some(BitsOp::Comparison(BitsComparison::UnsignedLess)),
-        (b'x', _, _) => Some(BitsOp::Folded(BitsFolded::Xor)),
+        (b'a', b'd', _) => Some(PlainOp::Folded(BitsFolded::Add)),
+        (b'a', b'n', _) => Some(PlainOp::Folded(BitsFolded::And)),
+        (b'm', _, _) => Some(PlainOp::Folded(BitsFolded::Multiply)),
+        (b'n', b'e', _) => Some(PlainOp::Unary(BitsUnary::Negate)),
+        (b'n', b'o', b't') => Some(PlainOp::Unary(BitsUnary::Not)),
+        (b'n', b'o', b'r') => Some(PlainOp::Binary(BitsBinary::Nor)),
+        (b's', b'h', _) => Some(PlainOp::Binary(BitsBinary::ShiftLeft)),
+        (b's', b'u', _) => Some(PlainOp::Binary(BitsBinary::Subtract)),
+        (b's', b'g', b'e') => Some(PlainOp::BitsOrder(BitsComparison::SignedAtLeast)),
+        (b's', b'g', b't') => Some(PlainOp::BitsOrder(BitsComparison::SignedGreater)),
+        (b's', b'l', b'e') => Some(PlainOp::BitsOrder(BitsComparison::SignedAtMost)),
+        (b's', b'l', b't') => Some(PlainOp::BitsOrder(BitsComparison::SignedLess)),
+        (b'u', b'g', b'e') => Some(PlainOp::BitsOrder(BitsComparison::UnsignedAtLeast)),
+        (b'u', b'g', b't') => Some(PlainOp::BitsOrder(BitsComparison::UnsignedGreater)),
+        (b'u', b'l', b'e') => Some(PlainOp::BitsOrder(BitsComparison::UnsignedAtMost)),
+        (b'u', b'l', b't') => Some(PlainOp::BitsOrder(BitsComparison::UnsignedLess)),
+        (b'x', _, _) => Some(PlainOp::Folded(BitsFolded::Xor)),
         _ => None,
     }
 }
 
 #[inline(always)]
-fn bits_of_six(third: u8, fourth: u8) -> Option<BitsOp>
-    ensures { result ≡ like.bits_of_six third fourth }
+fn bits_of_six(third: u8, fourth: u8) -> Option<PlainOp>
+    ensures { option_map op_of_plain result ≡ option_map Bits (like.bits_of_six third fourth) }
 {
     match (third, fourth) {
-        (b'a', _) => Some(BitsOp::Binary(BitsBinary::ShiftRightSigned)),
-        (b'c', _) => Some(BitsOp::Comp),
-        (b'l', _) => Some(BitsOp::Binary(BitsBinary::ShiftRight)),
-        (b'n', b'a') => Some(BitsOp::Binary(BitsBinary::Nand)),
-        (b'n', b'c') => Some(BitsOp::Concat),
-        (b's', b'd') => Some(BitsOp::Binary(BitsBinary::DivideSigned)),
-        (b's', b'm') => Some(BitsOp::Binary(BitsBinary::ModuloSigned)),
-        (b's', b'r') => Some(BitsOp::Binary(BitsBinary::RemainderSigned)),
-        (b'u', b'd') => Some(BitsOp::Binary(BitsBinary::DivideUnsigned)),
-        (b'u', b'r') => Some(BitsOp::Binary(BitsBinary::RemainderUnsigned)),
-        (b'x', _) => Some(BitsOp::Binary(BitsBinary::Xnor)),
+        (b'a', _) => Some(PlainOp::Binary(BitsBinary::ShiftRightSigned)),
+        (b'c', _) => Some(PlainOp::Comp),
+        (b'l', _) => Some(PlainOp::Binary(BitsBinary::ShiftRight)),
+        (b'n', b'a') => Some(PlainOp::Binary(BitsBinary::Nand)),
+        (b'n', b'c') => Some(PlainOp::Concat),
+        (b's', b'd') => Some(PlainOp::Binary(BitsBinary::DivideSigned)),
+        (b's', b'm') => Some(PlainOp::Binary(BitsBinary::ModuloSigned)),
+        (b's', b'r') => Some(PlainOp::Binary(BitsBinary::RemainderSigned)),
+        (b'u', b'd') => Some(PlainOp::Binary(BitsBinary::DivideUnsigned)),
+        (b'u', b'r') => Some(PlainOp::Binary(BitsBinary::RemainderUnsigned)),
+        (b'x', _) => Some(PlainOp::Binary(BitsBinary::Xnor)),
         _ => None,
     }
 }
 
-// The name of an operator; of a constant what stands before its numeral.
 #[inline(always)]
-fn bits_name(op: &BitsOp) -> &'static [u8]
-    ensures { result.now ≡ names.bits_name op.now }
-{
-    match *op {
-        BitsOp::Constant(_, _) => b"bv",
-        BitsOp::Concat => b"concat",
-        BitsOp::Extract(_, _) => b"extract",
-        BitsOp::Unary(op) => unary_name(op),
-        BitsOp::Folded(op) => folded_name(op),
-        BitsOp::Binary(op) => binary_name(op),
-        BitsOp::Comparison(op) => comparison_name(op),
-        BitsOp::Comp => b"bvcomp",
-        BitsOp::Repeat(_) => b"repeat",
-        BitsOp::ZeroExtend(_) => b"zero_extend",
-        BitsOp::SignExtend(_) => b"sign_extend",
-        BitsOp::RotateLeft(_) => b"rotate_left",
-        BitsOp::RotateRight(_) => b"rotate_right",
-    }
-}
-
-#[inline(always)]
-fn unary_name(op: BitsUnary) -> &'static [u8]
+pub(crate) fn unary_name(op: BitsUnary) -> &'static [u8]
     ensures { result.now ≡ names.bits_name (ops.Unary op) }
 {
     match op {
@@ -128,7 +105,7 @@ fn unary_name(op: BitsUnary) -> &'static [u8]
 }
 
 #[inline(always)]
-fn folded_name(op: BitsFolded) -> &'static [u8]
+pub(crate) fn folded_name(op: BitsFolded) -> &'static [u8]
     ensures { result.now ≡ names.bits_name (ops.Folded op) }
 {
     match op {
@@ -141,7 +118,7 @@ fn folded_name(op: BitsFolded) -> &'static [u8]
 }
 
 #[inline(always)]
-fn binary_name(op: BitsBinary) -> &'static [u8]
+pub(crate) fn binary_name(op: BitsBinary) -> &'static [u8]
     ensures { result.now ≡ names.bits_name (ops.Binary op) }
 {
     match op {
@@ -161,7 +138,7 @@ fn binary_name(op: BitsBinary) -> &'static [u8]
 }
 
 #[inline(always)]
-fn comparison_name(op: BitsComparison) -> &'static [u8]
+pub(crate) fn comparison_name(op: BitsComparison) -> &'static [u8]
     ensures { result.now ≡ names.bits_name (ops.Comparison op) }
 {
     match op {

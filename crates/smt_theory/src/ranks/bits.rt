@@ -30,7 +30,7 @@ pub(crate) fn rank_in_bits(op: BitsOp, args: &[Sort]) -> Option<Sort>
 }
 
 #[inline(always)]
-fn one_width(args: &[Sort]) -> Option<Width>
+pub(crate) fn one_width(args: &[Sort]) -> Option<Width>
     ensures { result ≡ ranks.one_width args.now }
 {
     match args {
@@ -41,7 +41,7 @@ fn one_width(args: &[Sort]) -> Option<Width>
 
 // The width of two bit vectors that have the same.
 #[inline(always)]
-fn two_width(args: &[Sort]) -> Option<Width>
+pub(crate) fn two_width(args: &[Sort]) -> Option<Width>
     ensures { result ≡ ranks.two_width args.now }
 {
     match args {
@@ -52,7 +52,7 @@ fn two_width(args: &[Sort]) -> Option<Width>
 
 // The width of two or more bit vectors that have the same.
 #[inline(always)]
-fn several_width(args: &[Sort]) -> Option<Width>
+pub(crate) fn several_width(args: &[Sort]) -> Option<Width>
     ensures { result ≡ ranks.several_width args.now }
 {
     match args {
@@ -67,7 +67,7 @@ fn constant_width(number: u128, width: Width, args: &[Sort]) -> Option<Width>
     (width.holds(number) && are(args, &[])).then_some(width)
 }
 
-fn concat_width(args: &[Sort]) -> Option<Width>
+pub(crate) fn concat_width(args: &[Sort]) -> Option<Width>
     ensures { result ≡ ranks.concat_width args.now }
 {
     match args {

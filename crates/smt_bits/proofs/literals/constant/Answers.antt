@@ -13,4 +13,4 @@ returns c =
     let found = sym (ap (λ n. width_of (n * length c.args.digits.now)) c.from.ensures) ∙ sym c.new.ensures ∙
     c.in_ok-width.was in
     ap Some c.new-2.ensures ∙ of_width c.args.bits c.args.digits.now c.args.base c.in_ok-width.width
-    c.value.result found c.value.ensures
+    c.known_or_read.result found c.known_or_read.ensures

@@ -32,7 +32,7 @@ returns-in-Some-node-clause-taken c =
     c.in-Some-checked_sub.rest c.args.left _ _
     (node ∙ ap (λ n. 1 + found_around c.place-place.result
     + (first_cost c.args.number (cost nodes arounds) n + last_cost c.args.number (cost nodes arounds) n))
-    (sym c.node.ensures ∙ ap (option_map (meaning c.place-place.result)) c.in-Some-node.is))
+    (sym c.node.ensures.meaning ∙ ap (option_map (meaning c.place-place.result)) c.in-Some-node.is))
     (omega (arith, one, rest, around))
     (c.wait_for_node.ensures.taken (cost nodes arounds) (cost_positive nodes arounds))
 
@@ -43,7 +43,7 @@ returns-in-None-clause-taken c =
     let node = node_parts nodes arounds c.args.number (found_around c.place-place.result)
     (found c.place-place.result) c.place-place.ensures.around c.place-place.ensures.node in
     let none = ap (λ n. first_cost c.args.number (cost nodes arounds) n + last_cost c.args.number (cost nodes arounds) n)
-    (sym c.node.ensures ∙ ap (option_map (meaning c.place-place.result)) c.in-None.is) in
+    (sym c.node.ensures.meaning ∙ ap (option_map (meaning c.place-place.result)) c.in-None.is) in
     let one = c.in-Some.ensures in
     let rest = c.in-Some-checked_sub.ensures in
     let around = c.around.ensures in omega (arith, node, none, one, rest, around)

@@ -15,11 +15,18 @@ use Rattle.smt_dialogue.specs.declared.turn.Turn.{Turn}
 use Rattle.smt_report.specs.Verdict.{verdict_of}
 use Rattle.smt_dialogue.proofs.pairing.Pairing.advance.Goals as goal
 
-pub take_turn-requires-clause-way : goal.take_turn-requires-clause-way
-take_turn-requires-clause-way c =
+pub take_turn-requires : goal.take_turn-requires
+take_turn-requires c =
     let w = c.requires.way in
     let h = c.loop-self.invariant.way w.0 w.1 w.2 w.3 w.4 in
-    (w.0, h.0, h.1, h.2, h.3)
+    record {
+      room = record {
+        few = c.trees_are_few.ensures.few;
+        script = omega (arith, c.loop-self.invariant.script_fed, c.requires.script_room);
+        answers = omega (arith, c.loop-self.invariant.answers_fed, c.requires.answers_room);
+        way = (w.0, h.0, h.1, h.2, h.3);
+      };
+    }
 
 pub returns-in_err-take_turn-clause-cut : goal.returns-in_err-take_turn-clause-cut
 returns-in_err-take_turn-clause-cut c = on_err c.from_residual.result (λ texts pairs later rest first.
@@ -37,7 +44,7 @@ loop-self-smaller c =
     (c.in_ok-take_turn.ensures.turn w.0 h.0 h.1 h.2 h.3) in
     let most = commands_at_most c.trees_are_few.ensures.few y w.0 _ g.1 g.2 g.3 in
     let more = one_more x y w.0 h.0 g.0 h.1 h.2 g.1 g.2 h.3 g.3 in
-    omega (arith, most, more, c.take_turn.ensures.script_fed, c.loop-self.invariant.script_fed)
+    omega (arith, most, more, c.take_turn.ensures.fed.script, c.loop-self.invariant.script_fed)
 
 pub loop-self-preserved : goal.loop-self-preserved
 loop-self-preserved c =
@@ -53,8 +60,8 @@ loop-self-preserved c =
         c.loop-self.invariant.commands,
         one_more x y w.0 now.0 next.0 now.1 now.2 next.1 next.2 now.3 next.3,
       );
-      script_fed = c.take_turn.ensures.script_fed ∙ c.loop-self.invariant.script_fed;
-      answers_fed = c.take_turn.ensures.answers_fed ∙ c.loop-self.invariant.answers_fed;
+      script_fed = c.take_turn.ensures.fed.script ∙ c.loop-self.invariant.script_fed;
+      answers_fed = c.take_turn.ensures.fed.answers ∙ c.loop-self.invariant.answers_fed;
       start = c.in_ok-take_turn.ensures.start ∙ c.loop-self.invariant.start;
       kept = begins_trans (waiting c.args.self.now) (waiting x) (waiting y) c.loop-self.invariant.kept
           c.take_turn.ensures.kept;
@@ -78,7 +85,7 @@ settle-requires c =
         arith,
         checks_at_most y w.0 h.0 h.1 h.2 t.0,
         commands_at_most c.trees_are_few.ensures.few y w.0 h.0 h.1 h.2 t.0,
-        c.take_turn.ensures.script_fed,
+        c.take_turn.ensures.fed.script,
         c.loop-self.invariant.script_fed,
         c.requires.script_room,
       );
@@ -197,7 +204,7 @@ returns-then-has_enough-clause-paused c =
       omega (
         arith,
         commands_at_most c.trees_are_few.ensures.few y w.0 _ g.1 g.2 g.3,
-        c.take_turn.ensures.script_fed,
+        c.take_turn.ensures.fed.script,
         c.loop-self.invariant.script_fed,
         c.requires.script_room,
       ),

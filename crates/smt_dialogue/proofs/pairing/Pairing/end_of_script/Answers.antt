@@ -39,9 +39,9 @@ returns-in-End-Some-clause-turn c = λ texts pairs later rest h none fault told.
     let ahead = (c.in_ok-look.ensures.ahead texts.answers_bytes texts.answers rest h.answers_front).1 in (
       h.early,
       h.stands,
-      answers_fault x texts pairs later rest next c.in-End-Some.flaw none fault told
+      answers_fault x texts pairs later rest next c.in-End-Some.flaw c.text_fault.result none fault told
           (subst (λ (a : Ahead). IsAhead a next texts.answers rest)
-          (c.in-End-Some.is ∙ ap End c.in-End-Some.field-0-is) ahead),
+          (c.in-End-Some.is ∙ ap End c.in-End-Some.field-0-is) ahead) c.text_fault.ensures,
     )
 
 pub returns-in-End-None-clause-turn : goal.returns-in-End-None-clause-turn
@@ -58,11 +58,11 @@ returns-in-End-None-clause-turn c = λ texts pairs later rest h none fault told.
 
 pub overflow_add-result : goal.overflow_add-result
 overflow_add-result c =
-    let way = c.requires.way in
+    let way = c.requires.room.way in
     let texts = way.0 in
     let h = way.4 in
     let ahead = subst (λ (a : Ahead). IsAhead a c.look.new.self.next texts.answers way.3) c.in-Tree.is
     (c.in_ok-look.ensures.ahead texts.answers_bytes texts.answers way.3 h.answers_front).1 in
-    let most = room_for_answer c.trees_are_few.ensures.few c.args.self.now texts way.1 (sexp_of ahead.0) ahead.1 way.2
+    let most = room_for_answer c.requires.room.few c.args.self.now texts way.1 (sexp_of ahead.0) ahead.1 way.2
     way.3 ahead.3 h in
-    omega (arith, most, c.requires.answers_room)
+    omega (arith, most, c.requires.room.answers)

@@ -1,26 +1,108 @@
-use Rattle.std.proofs.Common.{Option, subst}
-use Rattle.smt_dialogue.specs.Internal.PairingView.{IsNext}
-use Rattle.smt_dialogue.specs.declared.turn.Turn.{Turn}
-use Rattle.smt_dialogue.proofs.PairingLemmas.{all_turned}
+use Rattle.std.proofs.Common.{◌≡◌, ◌∙◌, ap, arith, false, is_some, refl, subst, sym, true}
+use Rattle.smt_script.specs.StackView.{profile_of}
+use Rattle.smt_dialogue.proofs.AdvanceLemmas.{answers_at_most, checks_at_most, room_for_one}
+use Rattle.smt_dialogue.proofs.PairingLemmas.{next_there, taken_up, turned_behind}
+use Rattle.smt_dialogue.specs.Internal.PairingView.{IsClosing, IsInTurn, IsNext}
 use Rattle.smt_dialogue.proofs.pairing.Pairing.take_turn.Goals as goal
 
-pub take_up_command-requires-clause-some : goal.take_up_command-requires-clause-some
-take_up_command-requires-clause-some c =
-    let way = c.requires.way in
-    (subst (λ (t : Option Turn). IsNext t c.args.self.now c.ready_command.new.self way.0 way.1 way.2 way.3) c.in-None.is
-    (c.in_ok-turn.ensures.next way.0 way.1 way.2 way.3 way.4)).1
-
 pub returns-in-Some-clause-turn : goal.returns-in-Some-clause-turn
-returns-in-Some-clause-turn c =
-    λ texts pairs later rest h.
-    subst (λ (t : Option Turn). IsNext t c.args.self.now c.ready_command.new.self texts pairs later rest) c.in-Some.is
-    (c.in_ok-turn.ensures.next texts pairs later rest h)
+returns-in-Some-clause-turn c = λ texts pairs later rest h.
+    subst (λ t. IsNext t c.args.self.now c.next_command.new.self texts pairs later rest) c.in-Some.is
+    (c.in_ok-instead.ensures.next texts pairs later rest h)
 
-pub returns-in-None-clause-turn : goal.returns-in-None-clause-turn
-returns-in-None-clause-turn c =
-    all_turned c.take_up_command.result c.args.self.now c.ready_command.new.self c.take_up_command.new.self
-    c.in_ok-turn.ensures.dialogue
-    (λ texts pairs later rest h.
-    (subst (λ (t : Option Turn). IsNext t c.args.self.now c.ready_command.new.self texts pairs later rest) c.in-None.is
-    (c.in_ok-turn.ensures.next texts pairs later rest h)).0)
-    c.take_up_command.ensures.turn
+pub unreachable-requires : goal.unreachable-requires
+unreachable-requires c =
+    let way = c.requires.room.way in
+    let next = next_there c.in_ok-instead.field-0 c.args.self.now c.next_command.new.self way.0 way.1 way.2 way.3
+    c.in_default.is c.in_ok-instead.ensures.next way.4 in
+    let none : false ≡ true = sym (ap is_some c.in_default-command.is) ∙ next.1 in cc
+
+pub take_up-requires-clause-commands : goal.take_up-requires-clause-commands
+take_up-requires-clause-commands c =
+    let way = c.requires.room.way in
+    let m = c.next_command.new.self in
+    let h = (next_there c.in_ok-instead.field-0 c.args.self.now m way.0 way.1 way.2 way.3 c.in_default.is
+    c.in_ok-instead.ensures.next way.4).0 in
+    let turn = subst (λ o. IsInTurn (profile_of m.dialogue.stack) o way.1 way.2 h.left) c.in-Some-command.is h.in_turn in
+    let most = room_for_one c.requires.room.few m way.0 way.1 turn.0 h.left way.2 way.3 turn.1 h in
+    omega (arith, most, c.next_command.ensures.fed.script, c.requires.room.script)
+
+pub take_up-requires-clause-answers : goal.take_up-requires-clause-answers
+take_up-requires-clause-answers c =
+    let way = c.requires.room.way in
+    let m = c.next_command.new.self in
+    let h = (next_there c.in_ok-instead.field-0 c.args.self.now m way.0 way.1 way.2 way.3 c.in_default.is
+    c.in_ok-instead.ensures.next way.4).0 in
+    let turn = subst (λ o. IsInTurn (profile_of m.dialogue.stack) o way.1 way.2 h.left) c.in-Some-command.is h.in_turn in
+    let most = room_for_one c.requires.room.few m way.0 way.1 turn.0 h.left way.2 way.3 turn.1 h in
+    omega (
+      arith,
+      most,
+      answers_at_most m way.0 way.1 way.2 way.3 h,
+      c.next_command.ensures.fed.script,
+      c.requires.room.script,
+    )
+
+pub take_up-requires-clause-checks : goal.take_up-requires-clause-checks
+take_up-requires-clause-checks c =
+    let way = c.requires.room.way in
+    let m = c.next_command.new.self in
+    let h = (next_there c.in_ok-instead.field-0 c.args.self.now m way.0 way.1 way.2 way.3 c.in_default.is
+    c.in_ok-instead.ensures.next way.4).0 in
+    let turn = subst (λ o. IsInTurn (profile_of m.dialogue.stack) o way.1 way.2 h.left) c.in-Some-command.is h.in_turn in
+    let most = room_for_one c.requires.room.few m way.0 way.1 turn.0 h.left way.2 way.3 turn.1 h in
+    omega (
+      arith,
+      most,
+      checks_at_most m way.0 way.1 way.2 way.3 h,
+      c.next_command.ensures.fed.script,
+      c.requires.room.script,
+    )
+
+pub take_up-requires-clause-stands : goal.take_up-requires-clause-stands
+take_up-requires-clause-stands c =
+    let way = c.requires.room.way in
+    let m = c.next_command.new.self in
+    let h = (next_there c.in_ok-instead.field-0 c.args.self.now m way.0 way.1 way.2 way.3 c.in_default.is
+    c.in_ok-instead.ensures.next way.4).0 in (
+      way.0.taken,
+      h.early,
+      way.1,
+      h.stands,
+      λ e. subst (λ o. IsClosing o way.0 way.2) c.in-Some-command.is (h.closing e),
+    )
+
+pub take_up-requires-clause-front : goal.take_up-requires-clause-front
+take_up-requires-clause-front c =
+    let way = c.requires.room.way in
+    let h = (next_there c.in_ok-instead.field-0 c.args.self.now c.next_command.new.self way.0 way.1 way.2 way.3 c.in_default.is
+    c.in_ok-instead.ensures.next way.4).0 in
+    (way.0.answers_bytes, way.0.answers, way.3, h.answers_front)
+
+pub take_up-requires-clause-last : goal.take_up-requires-clause-last
+take_up-requires-clause-last c =
+    let way = c.requires.room.way in
+    (next_there c.in_ok-instead.field-0 c.args.self.now c.next_command.new.self way.0 way.1 way.2 way.3 c.in_default.is
+    c.in_ok-instead.ensures.next way.4).0.stands.last
+
+pub returns-in-GoesOn-clause-turn : goal.returns-in-GoesOn-clause-turn
+returns-in-GoesOn-clause-turn c = λ texts pairs later rest way.
+    let m = c.next_command.new.self in
+    let h = (next_there c.in_ok-instead.field-0 c.args.self.now m texts pairs later rest c.in_default.is
+    c.in_ok-instead.ensures.next way).0 in
+    turned_behind c.in_ok-turn.turn c.args.self.now m _ texts pairs later rest c.next_command.ensures.dialogue
+    (taken_up c.in_ok-turn.turn m _ texts pairs later rest c.in-Some-command.command c.in-Some-command.is refl
+    c.in_ok-turn.ensures.start (λ e. refl) (λ closed e. absurd (cc))
+    (λ early stands check. c.in_ok-turn.ensures.turn texts.answers_bytes texts.answers rest texts.taken early pairs h.answers_front
+    stands check) h)
+
+pub returns-in_default-turn-clause-turn : goal.returns-in_default-turn-clause-turn
+returns-in_default-turn-clause-turn c = λ texts pairs later rest way.
+    let m = c.next_command.new.self in
+    let h = (next_there c.in_ok-instead.field-0 c.args.self.now m texts pairs later rest c.in_default.is
+    c.in_ok-instead.ensures.next way).0 in
+    turned_behind c.in_ok-turn.turn c.args.self.now m _ texts pairs later rest c.next_command.ensures.dialogue
+    (taken_up c.in_ok-turn.turn m _ texts pairs later rest c.in-Some-command.command c.in-Some-command.is refl
+    c.in_ok-turn.ensures.start (λ e. absurd (c.in_default-turn.not-GoesOn e)) (λ closed e. c.in-Some-command.is)
+    (λ early stands check. c.in_ok-turn.ensures.turn texts.answers_bytes texts.answers rest texts.taken early pairs h.answers_front
+    stands check) h)

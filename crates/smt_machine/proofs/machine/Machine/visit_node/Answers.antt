@@ -1,4 +1,6 @@
 use Rattle.std.proofs.Common.{◌∙◌, ◌+◌, ◌∷◌, List, Some, ap, subst, sym, ℕ}
+use Rattle.smt_nodes.specs.Literals.{literal_number, spelled}
+use Rattle.smt_nodes.specs.NodeView.{node_view}
 use Rattle.smt_values.specs.Element.{known_element}
 use Rattle.smt_values.specs.Literals.{bin_element, hex_element, numeral_element}
 use Rattle.smt_machine.specs.Internal.Parts.{meaning}
@@ -11,30 +13,40 @@ use Rattle.smt_machine.proofs.RunLemmas.{visit_planned, visited}
 use Rattle.smt_machine.proofs.StepLemmas.{if_done}
 use Rattle.smt_machine.proofs.machine.Machine.visit_node.Goals as goal
 
+pub hex_of-requires : goal.hex_of-requires
+hex_of-requires c = c.literal-in-Hex.ensures ∙ ap literal_number (sym c.requires.here)
+    ∙ ap (λ n. spelled (node_view n)) c.in-Hex.is
+
+pub bin_of-requires : goal.bin_of-requires
+bin_of-requires c = c.literal-in-Bin.ensures ∙ ap literal_number (sym c.requires.here)
+    ∙ ap (λ n. spelled (node_view n)) c.in-Bin.is
+
 pub returns-in-Numeral : goal.returns-in-Numeral
 returns-in-Numeral c = if_done c.leave.result c.leave.ensures
-    (λ is nodes at. visited nodes c.args.number (Some (Known (numeral_element c.in-Numeral.digits.now)))
-    (known_element c.numeral.result) c.args.self.now c.leave.new.self
-    (sym (ap (λ n. Some (meaning c.args.from.now n)) c.in-Numeral.is) ∙ at) (sym c.numeral.ensures) is c.requires)
+    (λ is nodes at. visited nodes c.args.number (Some (Known (numeral_element c.in-Numeral.field-0.now)))
+    (known_element c.numeral_of.result) c.args.self.now c.leave.new.self
+    (sym (ap (λ n. Some (meaning c.args.from.now n)) c.in-Numeral.is) ∙ at) (sym (c.numeral_of.ensures c.in-Numeral.field-0.now
+    (c.literal.ensures ∙ ap literal_number (sym c.requires.here) ∙ ap (λ n. spelled (node_view n)) c.in-Numeral.is)))
+    is c.requires.based)
 
 pub returns-in-Hex : goal.returns-in-Hex
 returns-in-Hex c = if_done c.leave-in-Hex.result c.leave-in-Hex.ensures
     (λ is nodes at. visited nodes c.args.number (Some (Known (hex_element c.in-Hex.digits.now)))
-    (known_element c.hex.result) c.args.self.now c.leave-in-Hex.new.self
-    (sym (ap (λ n. Some (meaning c.args.from.now n)) c.in-Hex.is) ∙ at) (sym c.hex.ensures) is c.requires)
+    (known_element c.hex_of.result) c.args.self.now c.leave-in-Hex.new.self
+    (sym (ap (λ n. Some (meaning c.args.from.now n)) c.in-Hex.is) ∙ at) (sym c.hex_of.ensures) is c.requires.based)
 
 pub returns-in-Bin : goal.returns-in-Bin
 returns-in-Bin c = if_done c.leave-in-Bin.result c.leave-in-Bin.ensures
     (λ is nodes at. visited nodes c.args.number (Some (Known (bin_element c.in-Bin.digits.now)))
-    (known_element c.bin.result) c.args.self.now c.leave-in-Bin.new.self
-    (sym (ap (λ n. Some (meaning c.args.from.now n)) c.in-Bin.is) ∙ at) (sym c.bin.ensures) is c.requires)
+    (known_element c.bin_of.result) c.args.self.now c.leave-in-Bin.new.self
+    (sym (ap (λ n. Some (meaning c.args.from.now n)) c.in-Bin.is) ∙ at) (sym c.bin_of.ensures) is c.requires.based)
 
 pub returns-in-Slot : goal.returns-in-Slot
 returns-in-Slot c = if_done c.leave-in-Slot.result c.leave-in-Slot.ensures
     (λ is nodes at. visited nodes c.args.number (Some (Slot c.in-Slot.place))
     (known_element c.value_at-value.result) c.args.self.now c.leave-in-Slot.new.self
     (sym (ap (λ n. Some (meaning c.args.from.now n)) c.in-Slot.is) ∙ at) (sym c.value_at-value.ensures) is
-    c.requires)
+    c.requires.based)
 
 pub returns-in-Let : goal.returns-in-Let
 returns-in-Let c =
@@ -44,4 +56,4 @@ returns-in-Let c =
     (λ is nodes at. visit_planned nodes c.args.number
     (Let (shifted c.args.from.now.shift c.in-Let.values.now) (c.args.from.now.shift + c.in-Let.body))
     c.args.self.now c.plan.new.self (sym (ap (λ n. Some (meaning c.args.from.now n)) c.in-Let.is) ∙ at) tt
-    (subst P c.parts-in-Let.ensures is) c.requires)
+    (subst P c.parts-in-Let.ensures is) c.requires.based)

@@ -1,9 +1,11 @@
 use Rattle.std.proofs.Common.{◌≡◌, ℕ, ◌∙◌, ap, sym, subst, List, take}
 use Rattle.smt_nodes.specs.Internal.Lists.{Lists, first_of, lists_of}
+use Rattle.smt_nodes.specs.Internal.Numbers.{AreNumbered, large_of}
 use Rattle.smt_nodes.specs.Internal.Rows.{IsSound, last_ends, views}
 use Rattle.smt_nodes.specs.Nodes.{rows_of}
 use Rattle.smt_nodes.specs.declared.rows.Ends.{Ends}
 use Rattle.smt_nodes.specs.declared.rows.StoredRow.{StoredRow}
+use Rattle.smt_nodes.proofs.NumberLemmas.{numbered_cut}
 use Rattle.smt_nodes.proofs.SoundLemmas.{sound_cut}
 use Rattle.smt_nodes.proofs.TableLemmas.{views_cut}
 use Rattle.smt_nodes.proofs.table.Nodes.cut.Goals as goal
@@ -23,8 +25,14 @@ invariant_of-self c =
     record {
       sound = left c.args.count nodes.rows.items c.truncate.new.self.items c.as_slice.result.now
           (lists_of nodes.tables) (lists_of c.truncate-2.new.self) c.last_ends-ends.result IsSound
-          c.truncate.ensures.items c.as_slice.ensures.value c.last_ends-ends.ensures c.truncate-2.ensures
+          c.truncate.ensures.items c.as_slice.ensures.value c.last_ends-ends.ensures c.truncate-2.ensures.lists
           (sound_cut c.args.count nodes.rows.items (lists_of nodes.tables) nodes.sound);
+      numbered = left c.args.count nodes.rows.items c.truncate.new.self.items c.as_slice.result.now
+          (lists_of nodes.tables) (lists_of c.truncate-2.new.self) c.last_ends-ends.result
+          (λ rows t. AreNumbered rows t (large_of c.truncate-2.new.self))
+          c.truncate.ensures.items c.as_slice.ensures.value c.last_ends-ends.ensures c.truncate-2.ensures.lists
+          (numbered_cut c.args.count nodes.rows.items (lists_of nodes.tables) (large_of nodes.tables)
+          (large_of c.truncate-2.new.self) nodes.sound nodes.numbered c.truncate-2.ensures.large);
     }
 
 pub returns : goal.returns
@@ -34,5 +42,5 @@ returns c =
     left c.args.count nodes.rows.items c.truncate.new.self.items c.as_slice.result.now
     (lists_of nodes.tables) (lists_of c.truncate-2.new.self) c.last_ends-ends.result
     (λ rows t. views rows t ≡ take c.args.count (views nodes.rows.items (lists_of nodes.tables)))
-    c.truncate.ensures.items c.as_slice.ensures.value c.last_ends-ends.ensures c.truncate-2.ensures
+    c.truncate.ensures.items c.as_slice.ensures.value c.last_ends-ends.ensures c.truncate-2.ensures.lists
     (views_cut c.args.count nodes.rows.items (lists_of nodes.tables) nodes.sound)

@@ -1,14 +1,28 @@
 use Rattle.std.proofs.Common.{List, [], ◌∷◌, ◌++◌, refl, ap, sym, ◌∙◌}
 use Rattle.std.proofs.lemmas.List.{length-map}
 use Rattle.smt_nodes.specs.Internal.Lists.{lengths, lists_of}
+use Rattle.smt_nodes.specs.Internal.Numbers.{large_of}
 use Rattle.smt_nodes.specs.Internal.Rows.{row_view, views}
 use Rattle.smt_nodes.specs.NodeView.{node_view}
 use Rattle.smt_nodes.specs.Nodes.{rows_of}
 use Rattle.smt_nodes.specs.declared.rows.StoredRow.{StoredRow}
 use Rattle.smt_nodes.specs.declared.tables.Tables.{Tables}
+use Rattle.smt_nodes.proofs.NumberLemmas.{numbered_grown}
 use Rattle.smt_nodes.proofs.OutcomeLemmas.{err_as_well, if_ok, on_err, on_ok}
+use Rattle.smt_nodes.proofs.SoundLemmas.{sound_grown}
 use Rattle.smt_nodes.proofs.TableLemmas.{stored_pushed, views_kept}
 use Rattle.smt_nodes.proofs.table.Nodes.push.Goals as goal
+
+pub invariant_of-self : goal.invariant_of-self
+invariant_of-self c =
+    let nodes = c.args.self.now in
+    record {
+      sound = sound_grown nodes.rows.items (lists_of nodes.tables) (lists_of c.store.new.self) nodes.sound
+          c.store.ensures.grown;
+      numbered = numbered_grown nodes.rows.items (lists_of nodes.tables) (lists_of c.store.new.self)
+          (large_of nodes.tables) (large_of c.store.new.self) nodes.sound c.store.ensures.grown
+          c.store.ensures.longer nodes.numbered;
+    }
 
 pub returns-in_err-stored-clause-unchanged : goal.returns-in_err-stored-clause-unchanged
 unfolding rows_of

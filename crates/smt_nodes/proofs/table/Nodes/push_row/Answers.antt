@@ -1,7 +1,9 @@
 use Rattle.std.proofs.Common.{◌≡◌, List, [], ◌∷◌, ◌++◌, sym, ap, ◌∙◌, subst}
 use Rattle.smt_nodes.specs.Internal.Lists.{lists_of}
+use Rattle.smt_nodes.specs.Internal.Numbers.{AreNumbered, large_of}
 use Rattle.smt_nodes.specs.Internal.Rows.{IsSound}
 use Rattle.smt_nodes.specs.declared.rows.StoredRow.{StoredRow}
+use Rattle.smt_nodes.proofs.NumberLemmas.{numbered_pushed}
 use Rattle.smt_nodes.proofs.SoundLemmas.{sound_pushed}
 use Rattle.smt_nodes.proofs.table.Nodes.push_row.Goals as goal
 
@@ -11,7 +13,10 @@ invariant_of-self c =
     let kept : IsSound c.reserve.new.self.items (lists_of nodes.tables) =
     subst (λ (rows : List StoredRow). IsSound rows (lists_of nodes.tables)) (sym c.reserve.ensures.items)
     nodes.sound in
-    record { sound = kept }
+    let numbered : AreNumbered c.reserve.new.self.items (lists_of nodes.tables) (large_of nodes.tables) =
+    subst (λ (rows : List StoredRow). AreNumbered rows (lists_of nodes.tables) (large_of nodes.tables))
+    (sym c.reserve.ensures.items) nodes.numbered in
+    record { sound = kept; numbered = numbered }
 
 pub invariant_of-self-2 : goal.invariant_of-self-2
 invariant_of-self-2 c =
@@ -24,4 +29,8 @@ invariant_of-self-2 c =
     subst (λ (rows : List StoredRow). IsSound rows (lists_of nodes.tables)) (sym pushed)
     (sound_pushed nodes.rows.items (lists_of nodes.tables) new nodes.sound c.in_ok-ends.ensures
     c.requires.held c.requires.below) in
-    record { sound = kept }
+    let numbered : AreNumbered c.push_reserved.new.self.items (lists_of nodes.tables) (large_of nodes.tables) =
+    subst (λ (rows : List StoredRow). AreNumbered rows (lists_of nodes.tables) (large_of nodes.tables)) (sym pushed)
+    (numbered_pushed nodes.rows.items (lists_of nodes.tables) (large_of nodes.tables) new nodes.numbered
+    c.in_ok-ends.ensures c.requires.number) in
+    record { sound = kept; numbered = numbered }

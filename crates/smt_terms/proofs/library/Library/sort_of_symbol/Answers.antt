@@ -35,22 +35,22 @@ returns-in_ok-push-in-Some-clause-node c =
 
 pub returns-in-None-clause-sort : goal.returns-in-None-clause-sort
 returns-in-None-clause-sort c =
-    carried_sort c.sort_applied.result _ _
+    carried_sort c.sort_of_plain.result _ _
     (ap (checking.sort_of_symbol (names_of_library c.args.self.now) c.args.name.now)
     (look_up-sorts (seen_by c.args.draft.now) c.args.name.now
-    ∙ ap (option_map (λ (b : Bound). b.sort)) (sym c.find.ensures ∙ c.in-None.is))) c.sort_applied.ensures.sort
+    ∙ ap (option_map (λ (b : Bound). b.sort)) (sym c.find.ensures ∙ c.in-None.is))) c.sort_of_plain.ensures.sort
 
 pub returns-in-None-clause-open : goal.returns-in-None-clause-open
 returns-in-None-clause-open c =
-    carried_open c.sort_applied.result _ (is_open c.args.draft.now (Atom Symbol c.args.name.now))
+    carried_open c.sort_of_plain.result _ (is_open c.args.draft.now (Atom Symbol c.args.name.now))
     (open-none (seen_by c.args.draft.now) c.args.draft.now.base c.args.name.now
-    (sym c.find.ensures ∙ c.in-None.is)) c.sort_applied.ensures.open
+    (sym c.find.ensures ∙ c.in-None.is)) c.sort_of_plain.ensures.open
 
 pub returns-in-None-clause-node : goal.returns-in-None-clause-node
 returns-in-None-clause-node c =
-    if_answered c.sort_applied.result
-    (AddsApplied c.args.self.now c.args.draft.now c.sort_applied.new.draft (Plain c.args.name.now) [] [])
-    (Stands c.args.self.now c.args.draft.now c.sort_applied.new.draft (Atom Symbol c.args.name.now))
-    (λ found. symbol_stands c.args.self.now c.args.draft.now c.sort_applied.new.draft c.args.name.now found
-    (sym c.find.ensures ∙ c.in-None.is) c.sort_applied.ensures.longer)
-    c.sort_applied.ensures.added
+    if_answered c.sort_of_plain.result
+    (AddsApplied c.args.self.now c.args.draft.now c.sort_of_plain.new.draft (Plain c.args.name.now) [] [])
+    (Stands c.args.self.now c.args.draft.now c.sort_of_plain.new.draft (Atom Symbol c.args.name.now))
+    (λ found. symbol_stands c.args.self.now c.args.draft.now c.sort_of_plain.new.draft c.args.name.now found
+    (sym c.find.ensures ∙ c.in-None.is) c.sort_of_plain.ensures.longer)
+    c.sort_of_plain.ensures.added

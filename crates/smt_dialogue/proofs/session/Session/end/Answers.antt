@@ -1,4 +1,0 @@
-use Rattle.smt_dialogue.proofs.session.Session.end.Goals as goal
-
-pub rest-requires : goal.rest-requires
-rest-requires c = record { fed = (_, c.take_end.ensures.fed c.requires.stands.0 c.requires.stands.1) }

@@ -1,0 +1,4 @@
+use Rattle.smt_dialogue.proofs.session.Session.end_script.Goals as goal
+
+pub rest-requires : goal.rest-requires
+rest-requires c = record { fed = (_, c.take_end.ensures.fed c.requires.stands.0 c.requires.stands.1) }

@@ -1,0 +1,16 @@
+-- The numbers that literals spell.
+use Rattle.std.specs.Prelude.{ℕ, Option, Some, None}
+use Rattle.std.specs.Str.Parse.{digits_value}
+use Rattle.smt_theory.specs.Numbers.{below_word}
+use Rattle.smt_nodes.specs.Node.{Node, Numeral, Hexadecimal, Binary}
+
+-- the number of a literal's digits, if it fits a word of 128 bits
+abbrev pub spelled : Node → Option ℕ
+spelled (Numeral digits) = below_word (digits_value 10 digits)
+spelled (Hexadecimal digits) = below_word (digits_value 16 digits)
+spelled (Binary digits) = below_word (digits_value 2 digits)
+spelled _ = None
+
+abbrev pub literal_number : Option Node → Option ℕ
+literal_number None = None
+literal_number (Some node) = spelled node

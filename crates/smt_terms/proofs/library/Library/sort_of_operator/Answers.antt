@@ -1,0 +1,5 @@
+use Rattle.smt_terms.proofs.TableLemmas.{grows_itself}
+use Rattle.smt_terms.proofs.library.Library.sort_of_operator.Goals as goal
+
+pub returns-in_default-plain_rank-clause-longer : goal.returns-in_default-plain_rank-clause-longer
+returns-in_default-plain_rank-clause-longer c = grows_itself c.args.draft.now

@@ -1,0 +1,44 @@
+-- Operators that hold no number, and those that do.
+use Rattle.std.specs.Prelude.{Bool, true, false}
+use Rattle.smt_theory.specs.declared.op.BitsOp.{BitsOp}
+use Rattle.smt_theory.specs.declared.op.BitsOp.TheVariants as bits
+use Rattle.smt_theory.specs.declared.op.IntsOp.TheVariants as ints
+use Rattle.smt_theory.specs.declared.op.IntsOp.{IntsOp}
+use Rattle.smt_theory.specs.declared.op.Op.{Op}
+use Rattle.smt_theory.specs.declared.op.Op.TheVariants as ops
+use Rattle.smt_theory.specs.declared.op.plain.PlainOp.{PlainOp}
+use Rattle.smt_theory.specs.declared.op.plain.PlainOp.TheVariants.{Core, Arithmetic, Order, Mod, Abs, Concat, Unary}
+use Rattle.smt_theory.specs.declared.op.plain.PlainOp.TheVariants.{Folded, Binary, BitsOrder, Comp}
+
+abbrev pub op_of_plain : PlainOp → Op
+op_of_plain (Core op) = ops.Core op
+op_of_plain (Arithmetic op) = ops.Ints (ints.Arithmetic op)
+op_of_plain (Order op) = ops.Ints (ints.Comparison op)
+op_of_plain Mod = ops.Ints ints.Mod
+op_of_plain Abs = ops.Ints ints.Abs
+op_of_plain Concat = ops.Bits bits.Concat
+op_of_plain (Unary op) = ops.Bits (bits.Unary op)
+op_of_plain (Folded op) = ops.Bits (bits.Folded op)
+op_of_plain (Binary op) = ops.Bits (bits.Binary op)
+op_of_plain (BitsOrder op) = ops.Bits (bits.Comparison op)
+op_of_plain Comp = ops.Bits bits.Comp
+
+-- an operator holds a number
+abbrev ints_number : IntsOp → Bool
+ints_number (ints.Divisible n) = true
+ints_number _ = false
+
+abbrev bits_number : BitsOp → Bool
+bits_number (bits.Constant x width) = true
+bits_number (bits.Extract i j) = true
+bits_number (bits.Repeat i) = true
+bits_number (bits.ZeroExtend i) = true
+bits_number (bits.SignExtend i) = true
+bits_number (bits.RotateLeft i) = true
+bits_number (bits.RotateRight i) = true
+bits_number _ = false
+
+abbrev pub has_number : Op → Bool
+has_number (ops.Core op) = false
+has_number (ops.Ints op) = ints_number op
+has_number (ops.Bits op) = bits_number op
