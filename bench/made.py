@@ -7,6 +7,8 @@ from collections import namedtuple
 
 WIDTHS = (1, 7, 8, 16, 32, 33, 64, 128)
 DEEP = 980  # lists may be 1,000 deep
+LEVELS = 9999  # there may be 10,000 levels, the first one among them
+LONG = 10000  # bytes of a long name
 
 # A constant or a variable: its sort is "Bool", "Int", or the width of its vectors.
 Named = namedtuple("Named", "name sort value")
@@ -371,4 +373,32 @@ def widelet(dialogue, size, random):
     dialogue.check(constants)
 
 
-KINDS = {function.__name__: function for function in (bv, lia, inc, chain, consts, labels, deeplet, widelet)}
+def names(dialogue, size, random):
+    """constants with names of 10,000 bytes, each in one assertion"""
+    dialogue.say("(set-logic QF_BV)")
+    constants = []
+    while dialogue.size < size:
+        name = "n%d_" % len(constants) + "".join(random.choices("abcdefghijklmnopqrstuvwxyz0123456789_", k=LONG))
+        constants.append(Named(name[:LONG], 16, random.getrandbits(16)))
+        dialogue.declare(constants[-1:], known=True)
+    dialogue.check(constants)
+
+
+def levels(dialogue, size, random):
+    """as many levels as there may be, each of a push and two assertions; a check, and a pop of all"""
+    dialogue.say("(set-logic QF_BV)")
+    constants = some_constants((16, "Bool"), 20, random)
+    dialogue.declare(constants, known=True)
+    while dialogue.size < size:
+        level = 0
+        while level < LEVELS and dialogue.size < size:
+            first, second = random.sample(constants, 2)
+            dialogue.say("(push 1)")
+            for constant in (first, second):
+                dialogue.say("(assert (= %s %s))" % (constant.name, literal(constant.value, constant.sort)))
+            level += 1
+        dialogue.check(constants)
+        dialogue.say("(pop %d)" % level)
+
+
+KINDS = {function.__name__: function for function in (bv, lia, inc, chain, consts, labels, deeplet, widelet, names, levels)}

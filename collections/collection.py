@@ -2,6 +2,8 @@
 """Checks the scripts of a collection, and keeps a row of each: check_all.sh, check_one.sh and table.sh are its three commands."""
 import argparse
 import concurrent.futures
+import hashlib
+import itertools
 import json
 import os
 import re
@@ -18,12 +20,13 @@ from typing import Dict, List, NamedTuple, Optional, Sequence, Tuple
 ENVIRONMENT = """
 The environment says the rest:
 
-  SMTCHECK        the program                              (smtcheck)
-  PRINT_SUCCESS   on or off, what it is told of `success`  (off)
-  SOLVER          the solver's command, as 'z3 -smt2'      (none: the answers stand beside the script, in .txt)
-  SOLVER_SECONDS  how long the solver may run              (60)
-  CHECK_SECONDS   how long the check may take              (60)
-  MEMORY_KB       the memory that either may have          (no limit)
+  SMTCHECK          the program                                (smtcheck)
+  PRINT_SUCCESS     on or off, its option --print-success      (off)
+  SMTCHECK_OPTIONS  its other options, as '--profile wide'     (none; spaces separate them, quotes are not read)
+  SOLVER            the solver's command, as 'z3 -smt2'        (none: the answers are in .txt beside the script)
+  SOLVER_SECONDS    how long the solver may run                (60)
+  CHECK_SECONDS     how long the check may run                 (60)
+  MEMORY_KB         the memory of either, by ulimit -v         (no limit)
 """
 STATUSES = """
 exit status:
@@ -39,7 +42,9 @@ COLUMNS = ("script", "solver", "status", "verdict", "confirmed", "refuted", "und
 MEASURED = ("solver_seconds", "solver_mb", "check_seconds", "check_mb")
 COUNTS = re.compile(r"verdict: .*confirmed (\d+), refuted (\d+), undecided (\d+), unchecked (\d+)")
 REFUSED = ("script not taken", "solver stopped", "answers not taken")
-KINDS = {"invalid": 1, "not decided": 2, **{verdict: 2 for verdict in REFUSED}}
+KINDS = {"invalid": 1, "not decided": 2, "not strict": 2, **{verdict: 2 for verdict in REFUSED}}
+STOPPED = (124, 125, 126, 127, 129, 130, 131, 137, 143)
+"""statuses of a program that was stopped or killed from outside, or is missing; no crash, as 134 and 139"""
 KILL_AFTER = "5"
 
 
@@ -52,6 +57,7 @@ class Settings(NamedTuple):
 
     program: str
     print_success: str
+    options: List[str]
     solver: List[str]
     solver_seconds: str
     check_seconds: str
@@ -71,6 +77,14 @@ class Ran(NamedTuple):
     """why its output could not be written"""
 
 
+def options_of_smtcheck() -> List[str]:
+    """The words of SMTCHECK_OPTIONS."""
+    options = os.environ.get("SMTCHECK_OPTIONS", "").split()
+    if any(option.split("=")[0] == "--print-success" for option in options):
+        raise Refused("SMTCHECK_OPTIONS has --print-success: set PRINT_SUCCESS")
+    return options
+
+
 def settings() -> Settings:
     """What the environment says, with what holds where it says nothing."""
     try:
@@ -80,6 +94,7 @@ def settings() -> Settings:
     given = Settings(
         os.environ.get("SMTCHECK") or "smtcheck",
         os.environ.get("PRINT_SUCCESS") or "off",
+        options_of_smtcheck(),
         solver,
         os.environ.get("SOLVER_SECONDS") or "60",
         os.environ.get("CHECK_SECONDS") or "60",
@@ -157,15 +172,29 @@ def needs_program(words: Sequence[str], variable: str) -> None:
 
 
 def version_of(given: Settings) -> str:
-    """What the program says of its version, within its limits."""
+    """What the program says of its version, within its limits. Refuses programs that are missing, and options that the program refuses."""
+    if given.solver:
+        needs_program(given.solver, "SOLVER")
     needs_program([given.program], "SMTCHECK")
     with tempfile.TemporaryDirectory() as folder:
         said, errors = os.path.join(folder, "said"), os.path.join(folder, "errors")
-        ran = PROGRAMS.run([given.program, "--version"], said, errors, "10", given.memory)
+        ran = PROGRAMS.run([given.program, *given.options, "--version"], said, errors, "10", given.memory)
         version = first_line(said)
         if ran.status not in (0, 5) or not version.startswith("smtcheck "):
-            raise Refused(f"{given.program} --version ends with {ran.status}: {version or first_line(errors) or 'it says nothing'}")
+            words = " ".join([given.program, *given.options, "--version"])
+            raise Refused(f"{words} ends with {ran.status}: {version or first_line(errors) or 'it says nothing'}")
     return version
+
+
+def checksum_of(program: str) -> str:
+    """The SHA-256 of the program's file."""
+    name = shutil.which(program)
+    assert name is not None
+    try:
+        with open(name, "rb") as file:
+            return hashlib.sha256(file.read()).hexdigest()
+    except OSError as error:
+        raise Refused(f"{name}: {error.strerror}") from error
 
 
 def try_both(given: Settings) -> None:
@@ -176,9 +205,9 @@ def try_both(given: Settings) -> None:
             file.write("(set-logic QF_BV)\n(check-sat)\n(exit)\n")
         with open(answers, "w") as file:
             file.write("unsat\n")
-        words = [given.program, "--print-success", "off", script, answers]
+        words = [given.program, "--print-success", "off", *given.options, script, answers]
         ran = PROGRAMS.run(words, said, errors, "10", given.memory)
-        if ran.status != 0:
+        if ran.status not in (0, 2):  # (2 with --strict)
             raise Refused(f"{given.program} ends with {ran.status} on a script of one check: {first_line(errors) or first_line(said)}")
         if given.solver:
             ran = PROGRAMS.run([*given.solver, script], said, errors, "10", given.memory)
@@ -186,14 +215,12 @@ def try_both(given: Settings) -> None:
                 raise Refused(f"{' '.join(given.solver)} ends with {ran.status} on a script of one check: {first_line(errors) or first_line(said)}")
 
 
-def same_run(results: str, given: Settings) -> str:
-    """The program's version. What makes the rows stands beside them: refuses RESULTS that have those of another run."""
-    if given.solver:
-        needs_program(given.solver, "SOLVER")
-    version = version_of(given)
-    wanted = f"program: {version}\nsolver: {shlex.join(given.solver) or '-'}\nprint-success: {given.print_success}\n"
+def same_run(results: str, given: Settings, version: str) -> None:
+    """Writes into run.txt what makes the rows. Refuses RESULTS with rows of another run."""
     name = os.path.join(results, "run.txt")
     try:
+        wanted = f"program: {version}\nsha256: {checksum_of(given.program)}\nsolver: {shlex.join(given.solver) or '-'}\n"
+        wanted += f"print-success: {given.print_success}\noptions: {' '.join(given.options) or '-'}\n"
         os.makedirs(results, exist_ok=True)
         if not os.path.exists(name):
             if rows_of(results):
@@ -210,10 +237,9 @@ def same_run(results: str, given: Settings) -> str:
             there = file.read()
     except OSError as error:
         raise Refused(f"{results}: {error.strerror}") from error
-    for old, new in zip(there.splitlines(), wanted.splitlines()):
+    for old, new in itertools.zip_longest(there.splitlines(), wanted.splitlines(), fillvalue=""):
         if old != new:
             raise Refused(f"{results} has the rows of another run: there `{old}`, now `{new}`. Name another folder")
-    return version
 
 
 def name_of(script: str) -> str:
@@ -227,6 +253,8 @@ def verdict_of(solver: Optional[Ran], check: Ran, report: List[str]) -> str:
         return "stopped"
     if check.status > 3:
         return "no report"
+    if check.status == 2 and any(line.startswith("verdict: valid") for line in report):
+        return "not strict"
     if check.status < 3:
         return ("valid", "invalid", "not decided")[check.status]
     fault = next((line for line in report if line.startswith("fault ")), "")
@@ -244,11 +272,6 @@ def line_that_says_most(report: List[str]) -> str:
             if re.fullmatch(form, line):
                 return line
     return ""
-
-
-def is_kept(status: int) -> bool:
-    """Whether this exit status says something of what was checked, and nothing of limits or of programs that are missing."""
-    return status not in (4, 5, 143) and not 124 <= status <= 137
 
 
 class Folder:
@@ -290,14 +313,14 @@ class Folder:
             solver = PROGRAMS.run([*given.solver, script], answers, path + ".solver_errors", given.solver_seconds, given.memory)
             if solver.status in (125, 126, 127) or solver.unwritten:
                 return solver, None
-        words = [given.program, "--print-success", given.print_success, script, answers]
+        words = [given.program, "--print-success", given.print_success, *given.options, script, answers]
         return solver, PROGRAMS.run(words, path + ".report", path + ".errors", given.check_seconds, given.memory)
 
     def keeps(self, solver: Optional[Ran], check: Optional[Ran]) -> bool:
-        """Whether the row is kept, so that the same command leaves it."""
-        if check is None or not is_kept(check.status):
+        """Whether the row is kept, so that the same command leaves it: there is a verdict, and nothing but the solver ended the solver."""
+        if check is None or check.status > 3:
             return False
-        return solver is None or is_kept(solver.status) or solver.status in (4, 5) or (self.keeps_stopped and solver.status in (124, 137))
+        return solver is None or solver.status not in STOPPED or (self.keeps_stopped and solver.status in (124, 137))
 
     def found(self, name: str, solver: Optional[Ran], check: Optional[Ran], report: List[str], path: str) -> Dict[str, object]:
         """What is told of the script."""
@@ -321,7 +344,7 @@ class Folder:
     def write(self, path: str, found: Dict[str, object], kept: bool) -> None:
         """Writes the row and the object, whole or not at all."""
         told: Dict[str, object] = {key: None if value == "-" else value for key, value in found.items()}
-        told.update({"kept": kept, "program": self.version, "command": self.given.solver})
+        told.update({"kept": kept, "program": self.version, "options": self.given.options, "command": self.given.solver})
         replace(path + ".json", json.dumps(told) + "\n")
         if os.path.exists(path + ".again"):
             os.remove(path + ".again")
@@ -405,8 +428,9 @@ def scripts_below(folder: str) -> List[str]:
 def check_all(given: argparse.Namespace) -> int:
     """Checks every script below a folder, and prints the table."""
     scripts, environment = scripts_below(given.folder), settings()
-    version = same_run(given.results, environment)
+    version = version_of(environment)
     try_both(environment)
+    same_run(given.results, environment, version)
     folder, progress = Folder(given.results, environment, version, given.keep_stopped), Progress(len(scripts))
     made: Dict[str, Tuple[str, bool]] = {}
     with concurrent.futures.ThreadPoolExecutor(given.jobs) as pool:
@@ -428,7 +452,8 @@ def check_all(given: argparse.Namespace) -> int:
 def check_one(given: argparse.Namespace) -> int:
     """Checks one script, and writes its row."""
     environment = settings()
-    version = same_run(given.results, environment)
+    version = version_of(environment)
+    same_run(given.results, environment, version)
     row = Folder(given.results, environment, version, given.keep_stopped).check(given.script)
     if PROGRAMS.stopped:
         return PROGRAMS.stopped
@@ -471,7 +496,7 @@ def parser_of(command: str) -> Parser:
     """The command line of one of the three commands."""
     about = {
         "check_all": "Checks every script (*.smt2) below FOLDER, JOBS at once, and prints the table. A script with a row that is kept is left.",
-        "check_one": "Checks one script, and writes its row below RESULTS, unless one is kept there. Status 0: there is a row that is kept.",
+        "check_one": "Checks one script, and writes its row below RESULTS, unless one is kept there. Exit status: 0 if its row is kept, 4 if not, 5 if nothing was run.",
         "table": "Prints the rows below RESULTS by the names of their scripts, and how many there are of each verdict on standard error.",
     }[command]
     epilog = STATUSES if command == "table" else STATUSES + ENVIRONMENT if command == "check_all" else ENVIRONMENT

@@ -71,20 +71,20 @@ def place_of(fault: str, script: bytes, commands: List[Command]) -> Tuple[int, s
     return script.count(b"\n", 0, at) + 1, text
 
 
-def tell(program: str, name: str) -> int:
-    """Prints a line on one script: 0 if it is taken, 1 if it is not, 4 if that can't be told."""
+def tell(program: str, options: List[str], name: str) -> int:
+    """Prints a line on one script: 0 if it is taken, 1 if it is not, 4 if that is unknown, 5 if the program refuses its options."""
     try:
         with open(name, "rb") as file:
             script = file.read()
         commands = list(commands_of(script))
-        words = [program, "--print-success", "off", os.path.join(".", name), "/dev/stdin"]
+        words = [program, "--print-success", "off", *options, os.path.join(".", name), "/dev/stdin"]
         done = subprocess.run(words, input=b"".join(map(answer_to, commands)), stdout=subprocess.PIPE, stderr=subprocess.PIPE)
     except OSError as error:
         sys.stderr.write(f"taken.sh: {error.filename}: {error.strerror}\n")
         return 4
     report = done.stdout.decode("ascii", "replace").splitlines()
     fault = next((line for line in report if line.startswith("fault ")), "")
-    if done.returncode == 0:
+    if done.returncode in (0, 2) and any(line.startswith("verdict: valid") for line in report):  # (2 with --strict)
         print(f"{name}: taken")
         return 0
     if done.returncode == 3 and (fault.startswith("fault C") or " in the script" in fault):
@@ -93,7 +93,7 @@ def tell(program: str, name: str) -> int:
         return 1
     told = fault or done.stderr.decode("utf-8", "replace").strip() or f"{program} ended with {done.returncode}"
     sys.stderr.write(f"taken.sh: {name}: {told}\n")
-    return 4
+    return 5 if done.returncode == 5 else 4
 
 
 def main(words: Sequence[str]) -> int:
@@ -101,18 +101,20 @@ def main(words: Sequence[str]) -> int:
     parser = argparse.ArgumentParser(
         "taken.sh",
         description="Tells of each SCRIPT whether smtcheck takes it whole, with any number of checks and questions, and else the line and the first "
-        "command that is not taken. No solver is run. The environment names the program: SMTCHECK (smtcheck).",
-        epilog="exit status: 0 if all are taken, 1 if some is not, 4 if that could not be told of some, 5 if the command line was refused",
+        "command that is not taken. No solver is run. The environment names the program, SMTCHECK (smtcheck), and its options, SMTCHECK_OPTIONS, as '--profile wide' (none).",
+        epilog="exit status: 0 if all are taken, 1 if some is not, 4 if that is unknown of some, 5 if the command line or an option was refused",
         allow_abbrev=False,
     )
     parser.add_argument("scripts", metavar="SCRIPT", nargs="+", help="a script")
     parser.error = lambda message: parser.exit(5, f"{parser.format_usage()}taken.sh: {message}\n")  # type: ignore[assignment,method-assign]
     given = parser.parse_args(words)
     sys.stdout.reconfigure(errors="surrogateescape")  # type: ignore[union-attr]
-    program = os.environ.get("SMTCHECK") or "smtcheck"
+    program, options = os.environ.get("SMTCHECK") or "smtcheck", os.environ.get("SMTCHECK_OPTIONS", "").split()
+    if any(option.split("=")[0] == "--print-success" for option in options):
+        parser.error("SMTCHECK_OPTIONS has --print-success, which is always off here")
     status = 0
     for script in given.scripts:
-        status = max(status, tell(program, script))
+        status = max(status, tell(program, options, script))
     return status
 
 

@@ -17,7 +17,7 @@ CALLS = (
 HEAD = """# Calling `smt_dialogue`
 
 `validate` gives the whole report of a script and the answers that a solver printed for it. A `Session` is fed with both texts in pieces,
-and gives each line once it is decided. `run` does the same over two sources and a sink. The crate hands on the types that its calls need:
+and gives each line once it is decided. `run` reads two sources and puts the lines into a sink. The crate hands on the types that its calls need:
 `Options`, `Profile`, `Limit`, `Line`, `Verdict`, `Source`, `Sink` and `Device`.
 
 This page is made by `scripts/calling.py`, from `example_session`, which the gate proves and runs, and from the sources of the crate.

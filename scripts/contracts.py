@@ -19,7 +19,7 @@ This page is made from the sources by `scripts/contracts.py`, and the gate's run
 contracts come to.
 
 - The middle column is the first sentence of the comment in the source, which nothing proves: where it says more than the clauses do,
-  only the clauses hold. So no clause says that costs are counted before anything is evaluated, though the comment of one law does.
+  only the clauses hold.
 - The last column names the clauses (`ensures`) that are proved of the function; `result` is a clause without a name.
 - After *asks* are the clauses that a caller has to show first (`requires`); `call` is one without a name.
 - A function with `none` has no clause of its own. It is safe and it returns, as every function does.

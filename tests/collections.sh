@@ -13,7 +13,7 @@ PATH=$(python3 -c 'import os, sys; print(os.path.dirname(sys.executable))'):$PAT
 work=$(mktemp -d)
 trap 'rm -rf "$work"' EXIT
 export SMTCHECK="${SMTCHECK:-$top/crates/smtcheck/out/smtcheck}" PYTHONDONTWRITEBYTECODE=1
-unset SOLVER SOLVER_SECONDS CHECK_SECONDS MEMORY_KB PRINT_SUCCESS
+unset SOLVER SOLVER_SECONDS CHECK_SECONDS MEMORY_KB PRINT_SUCCESS SMTCHECK_OPTIONS
 all=$top/collections/check_all.sh
 one=$top/collections/check_one.sh
 cd tests/collection
@@ -109,6 +109,49 @@ echo row >"$work/nobody/a.row"
 ends 5 "$all" "$work/nobody" . 4
 says 'no run.txt'
 
+# A program built anew under its old version is another one.
+printf '#!/bin/sh\nexec %s "$@"\n' "$SMTCHECK" >"$work/rebuilt"
+chmod +x "$work/rebuilt"
+SMTCHECK="$work/rebuilt" SOLVER="$work/solver --quiet" ends 5 "$all" "$work/solved" . 4
+says 'there `sha256: '
+
+# Options of the program: each run has them, run.txt and the object of a script keep them, and other options are another run. A script has
+# its model item for a label, which the profile `wide` sets aside; no step is enough for sudoku; an `unsat` is not strictly valid.
+export SMTCHECK_OPTIONS='--profile wide'
+ends 0 "$one" "$work/wide" plain/labels.smt2
+[ "$(fields "$work/wide/plain/labels.smt2.row" 3-5)" = '0	valid	1' ] || fail "--profile wide: $(cat "$work/wide/plain/labels.smt2.row")"
+grep -qx 'options: --profile wide' "$work/wide/run.txt" || fail "the options of a run: $(cat "$work/wide/run.txt")"
+grep -qx "sha256: $(python3 -c 'import hashlib, sys; print(hashlib.sha256(open(sys.argv[1], "rb").read()).hexdigest())' "$SMTCHECK")" "$work/wide/run.txt" ||
+    fail "the program of a run: $(cat "$work/wide/run.txt")"
+grep -qF '"options": ["--profile", "wide"]' "$work/wide/plain/labels.smt2.json" || fail "the options of a script: $(cat "$work/wide/plain/labels.smt2.json")"
+ends 1 "$all" "$work/wide" . 4
+[ "$(grep -c '	0	valid	' "$work/table")" = 8 ] || fail "a folder with --profile wide: $(cat "$work/table")"
+echo '(set-logic QF_BV)(push)(check-sat)(pop)' >"$work/push.smt2"
+(cd "$work" && ends 0 "$top/collections/taken.sh" push.smt2)
+SMTCHECK_OPTIONS='--profile base' ends 5 "$one" "$work/wide" plain/unsat.smt2
+says 'has the rows of another run: there `options: --profile wide`, now `options: --profile base`'
+export SMTCHECK_OPTIONS='--steps 0'
+ends 0 "$one" "$work/steps" plain/sudoku.smt2
+[ "$(fields "$work/steps/plain/sudoku.smt2.row" 4,9 | sed 's/ at command.*: /: /')" = 'not decided	check 1: too long' ] ||
+    fail "--steps 0: $(cat "$work/steps/plain/sudoku.smt2.row")"
+export SMTCHECK_OPTIONS=--strict
+mkdir "$work/strictly"
+cp plain/unsat.* plain/sudoku.* "$work/strictly"
+ends 2 "$all" "$work/strict" "$work/strictly"
+[ "$(tail -n +2 "$work/table" | cut -f 3-8)" = '0	valid	1	0	0	0
+2	not strict	0	0	0	1' ] || fail "--strict: $(cat "$work/table")"
+ends 0 "$top/collections/table.sh" --fails-on 'not decided' "$work/strict"
+ends 2 "$top/collections/table.sh" --fails-on 'not strict' "$work/strict"
+ends 0 "$top/collections/taken.sh" plain/unsat.smt2
+# A misspelt option keeps nothing, and writes no run.txt that would refuse the right one.
+for wrong in '--profile wied' '--print-success on' --stepps; do
+    SMTCHECK_OPTIONS=$wrong ends 5 "$one" "$work/misspelt" plain/sudoku.smt2
+    SMTCHECK_OPTIONS=$wrong ends 5 "$all" "$work/misspelt" . 4
+    SMTCHECK_OPTIONS=$wrong ends 5 "$top/collections/taken.sh" plain/sudoku.smt2
+done
+ends 0 "$one" "$work/misspelt" plain/sudoku.smt2
+unset SMTCHECK_OPTIONS
+
 # The organiser's own mistakes: nothing is run, and nothing is kept.
 SMTCHECK=smtchekc ends 5 "$all" "$work/none" . 4
 says 'smtchekc is not there'
@@ -135,6 +178,16 @@ SOLVER="$work/slow" SOLVER_SECONDS=1 ends 0 "$one" --keep-stopped "$work/slowly"
 [ ! -e "$work/slowly/plain/sudoku.smt2.again" ] && [ -e "$work/slowly/plain/sudoku.smt2.row" ] || fail 'the row of a stopped solver is not kept'
 (SOLVER="$work/deaf" SOLVER_SECONDS=1 "$one" "$work/deafly" plain/sudoku.smt2 2>&1 || echo "$?" >"$work/deafened") &
 deaf=$!
+# One that crashes would crash again: its row is kept. A check that crashes has no verdict, and no row that is kept.
+printf '#!/bin/sh\nulimit -c 0\necho sat\nkill -ABRT $$\n' >"$work/aborts"
+printf '#!/bin/sh\nulimit -c 0\ncase $* in --version) echo smtcheck 0; exit 0;; esac\nkill -SEGV $$\n' >"$work/crashes"
+chmod +x "$work/aborts" "$work/crashes"
+SOLVER="$work/aborts" ends 0 "$one" "$work/aborted" plain/sudoku.smt2
+[ "$(fields "$work/aborted/plain/sudoku.smt2.row" 2-4)" = '134	3	solver stopped' ] || fail "a solver that aborts: $(cat "$work/aborted/plain/sudoku.smt2.row")"
+ends 2 "$top/collections/table.sh" "$work/aborted"
+SMTCHECK="$work/crashes" ends 4 "$one" "$work/crashed" plain/sudoku.smt2
+[ "$(fields "$work/crashed/plain/sudoku.smt2.again" 3,4)" = '139	no report' ] || fail "a check that crashes: $(cat "$work/crashed/plain/sudoku.smt2.again")"
+ends 4 "$top/collections/table.sh" "$work/crashed"
 # One that prints no answers.
 SOLVER="$work/talker" ends 1 "$all" "$work/talked" .
 [ "$(fields "$work/talked/plain/sudoku.smt2.row" 4)" = 'answers not taken' ] || fail "rubbish: $(cat "$work/talked/plain/sudoku.smt2.row")"

@@ -2,17 +2,18 @@
 computes itself: docs/CONTRACTS.md, the sizes in docs/CLAIMS.md, and the table of wrong bodies in docs/TESTING.md.
 
 - docs/CONTRACTS.md, crates/smt_dialogue/CALLING.md and docs/crates.svg are what scripts/contracts.py, calling.py and picture.py write.
-- Layers (docs/ARCHITECTURE.md): each crate of crates.txt is in one row, and the crates that it uses are in lower ones.
-- 'Stands on': the crates that a row names are those of crates.txt; 'and those below' adds what these use.
-- The files of `src/`: each is in the row of its crate; `laws/..` is all laws.
+- Layers (docs/ARCHITECTURE.md): each crate of crates.txt has one row, and the crates that it uses are in lower layers.
+- The crates that a row says its crate uses are those of crates.txt; 'and those below' adds what these use.
+- The files of `src/`: each is in the line of its crate; `laws/..` is all laws.
 - docs/CLAIMS.md: its copy of 'valid' is the file's text; the definitions to read are those that specs/Validity.antt of smt_dialogue imports,
-  and those that they import; their numbers are right.
+  and those that they import, and in the last row those that specs/Report.antt adds; their numbers are right.
+- The crates of the kit that README.md and docs/CLAIMS.md name as trusted are those that crates.txt uses.
 - docs/TESTING.md: its numbers and the table of wrong bodies are right. README.md has the number of those apart, if it has one.
 - Names: in CLAIMS, TESTING, ARCHITECTURE and DEVELOPING each name in backquotes is declared in crates/, of `a::b` the second one in the first; a small
-  word may also be one that a definition quotes, as `exit`, or the name of a file or a library. Names in capitals, as QF_LIA, are left out.
+  word may also be one that a definition quotes, as `exit`, or the name of a file, a library or a thing of std. Names in capitals, as QF_LIA, are left out.
 - Each path in backquotes that begins with a folder of the repository exists. In the pages of PAGES each link leads to a file and a heading.
 - On these four pages each file in backquotes, as `src/op.rt`, is the end of a path in the repository.
-- CLAIMS has at most 1,200 words, TESTING and DEVELOPING 2,000 each.
+- CLAIMS has at most 1,200 words, TESTING and DEVELOPING 2,000 each; all pages together 30,000 that no script writes.
 """
 import glob
 import os
@@ -26,12 +27,20 @@ import contracts  # noqa: E402
 import picture  # noqa: E402
 
 CLAIMS, TESTING, ARCHITECTURE = "docs/CLAIMS.md", "docs/TESTING.md", "docs/ARCHITECTURE.md"
-PAGES = [CLAIMS, TESTING, ARCHITECTURE, "docs/CONTRACTS.md", "docs/DEVELOPING.md", "docs/EMBEDDING.md", "docs/COLLECTIONS.md", "README.md", "docs/SECURITY.md", "docs/DECISIONS.md"]
+PAGES = ["README.md", "CONTRIBUTING.md"] + ["docs/%s.md" % name for name in (
+    "ARCHITECTURE", "CLAIMS", "COLLECTIONS", "CONTRACTS", "DECISIONS", "DEVELOPING", "EMBEDDING", "LANGUAGE", "SECURITY", "SOLVERS", "SPEED", "TESTING")]
 NAMED = [CLAIMS, TESTING, ARCHITECTURE, "docs/DEVELOPING.md"]
 WORDS = {CLAIMS: 1200, TESTING: 2000, "docs/DEVELOPING.md": 2000}
+# Words written by hand, in all pages: without the pages that scripts write, and what bench/plot writes into docs/SPEED.md.
+ALL_WORDS = 30000
+WRITTEN = ["docs/CONTRACTS.md", "crates/smt_dialogue/CALLING.md"]
 VALIDITY = "smt_dialogue/specs/Validity"
+REPORT = "smt_dialogue/specs/Report"
 BODIES = "| crate | in the gate | apart | of those apart |"
+LAYERS = "| layer | crates | what it does | what it may not know | uses |"
+FILES = "## The files of each crate"
 READING = "| order | files in `crates/` | lines |"
+NOTATION = {"abbrev", "ghost", "record", "Goals"}
 
 wrong = []
 
@@ -73,8 +82,10 @@ def named(cell):
 
 def layers(text, uses):
     layer = {}
-    for number, names, _ in rows(text, "| layer | crates |"):
-        for name in named(names):
+    for number, cell, *_ in rows(text, LAYERS):
+        if len(named(cell)) != 1:
+            wrong.append("ARCHITECTURE: a row of layer %s is of one crate, and not of: %s" % (number, cell))
+        for name in named(cell):
             if name in layer:
                 wrong.append("ARCHITECTURE: %s is in two layers" % name)
             layer[name] = int(number)
@@ -96,25 +107,25 @@ def closure(names, uses):
     return found
 
 
-def stands_on(text, uses):
-    told = {cells[0].strip("`"): cells[2] for cells in rows(text, "| crate | what it does | stands on |")}
-    for name in sorted(set(uses) ^ set(told)):
-        wrong.append("ARCHITECTURE: %s: in the rows of what crates stand on, or in crates.txt alone" % name)
-    for name, cell in told.items():
+def used(text, uses):
+    for _, crate, _, _, cell in rows(text, LAYERS):
+        name = crate.strip("`")
         said = set(named(cell))
         if "and those below" in cell:
             said = closure(said, uses)
         missing = set(uses.get(name, [])) - said
         if missing:
-            wrong.append("ARCHITECTURE: %s stands on %s too" % (name, ", ".join(sorted(missing))))
+            wrong.append("ARCHITECTURE: %s uses %s too" % (name, ", ".join(sorted(missing))))
         for other in sorted(set(named(cell)) - set(uses.get(name, []))):
-            wrong.append("ARCHITECTURE: %s does not stand on %s" % (name, other))
+            wrong.append("ARCHITECTURE: %s does not use %s" % (name, other))
 
 
 def files_of_src(text, uses):
     told = {}
-    for cells in rows(text, "| crate | the files of its `src/`"):
-        told[cells[0].strip("`")] = re.findall(r"`([\w./]+)`", cells[1])
+    for name, cell in re.findall(r"^- `(\w+)`: (.*)$", text[text.index(FILES):], re.M):
+        if name in told:
+            wrong.append("ARCHITECTURE: the files of %s are listed twice" % name)
+        told[name] = re.findall(r"`([\w./]+)`", cell)
     for name in sorted(set(told) - set(uses)):
         wrong.append("ARCHITECTURE: there is no crate %s, whose files are listed" % name)
     for name in uses:
@@ -124,7 +135,7 @@ def files_of_src(text, uses):
         for word in told.get(name, []):
             said |= {file for file in found if (file + "/").startswith(word[:-2])} if word.endswith("/..") else {word}
         for file in sorted(found - said):
-            wrong.append("ARCHITECTURE: the row of %s lacks the file %s" % (name, file))
+            wrong.append("ARCHITECTURE: the files of %s lack %s" % (name, file))
         for file in sorted(said - found):
             wrong.append("ARCHITECTURE: %s has no file %s" % (name, file))
 
@@ -150,9 +161,9 @@ def imports_of(file):
             yield "%s/specs/%s" % (crate, place.replace(".", "/"))
 
 
-def definitions():
-    """The files of definitions that 'valid' rests on, each with its lines but for comments, imports and empty ones."""
-    found, left = {}, [VALIDITY]
+def definitions(first):
+    """The files of definitions that the first one rests on, each with its lines but for comments, imports and empty ones."""
+    found, left = {}, [first]
     while left:
         file = left.pop()
         if file not in found:
@@ -175,32 +186,52 @@ def files_in(cell):
 
 def reading_list(text, writes):
     """Looks that the list of definitions to read is right; gives the page, with the numbers that it should have."""
-    sizes = definitions()
-    listed = []
+    valid, report = definitions(VALIDITY), definitions(REPORT)
+    sizes = {**report, **valid}
+    listed, last = [], []
     for order, cell, lines in rows(text, READING):
-        files = list(files_in(cell))
-        listed += files
-        right = sum(sizes.get(file, 0) for file in files)
+        last = list(files_in(cell))
+        listed += last
+        right = sum(sizes.get(file, 0) for file in last)
         if str(right) != lines:
             if not writes:
                 wrong.append("CLAIMS: row %s of the definitions has %d lines, and not %s" % (order, right, lines))
             text = text.replace("| %s | %s | %s |" % (order, cell, lines), "| %s | %s | %d |" % (order, cell, right))
-    for file in sorted(set(sizes) - set(listed)):
-        wrong.append("CLAIMS: 'valid' rests on %s, which is not listed" % file)
+    for file in sorted(set(valid) - set(listed) | set(valid) & set(last)):
+        wrong.append("CLAIMS: 'valid' rests on %s, which is not listed before the last row" % file)
+    for file in sorted(set(report) - set(listed)):
+        wrong.append("CLAIMS: the report rests on %s, which is not listed" % file)
     for file in sorted(set(listed) - set(sizes)):
-        wrong.append("CLAIMS: 'valid' does not rest on %s, which is listed" % file)
+        wrong.append("CLAIMS: neither 'valid' nor the report rests on %s, which is listed" % file)
+    for file in sorted(set(listed) - set(last) - set(valid)):
+        wrong.append("CLAIMS: 'valid' does not rest on %s, which is listed before the last row" % file)
     for file in sorted({file for file in listed if listed.count(file) > 1}):
         wrong.append("CLAIMS: %s is listed twice" % file)
-    return number(text, "CLAIMS", r"(\d+) files, [\d,]+ lines", len(sizes), writes, number(
-        text, "CLAIMS", r"\d+ files, ([\d,]+) lines", sum(sizes.values()), writes))
+    for start, found in (("", valid), (r"`IsReport`\) rests on ", report)):
+        text = number(text, "CLAIMS", start + r"(\d+) files, [\d,]+ lines", len(found), writes)
+        text = number(text, "CLAIMS", start + r"\d+ files, ([\d,]+) lines", sum(found.values()), writes)
+    return text
+
+
+# What is trusted, in README.md and docs/CLAIMS.md
+
+
+def trusted(page, text, uses):
+    """Looks that the crates of the kit that a page names are those that crates.txt uses."""
+    right = {name for below in uses.values() for name in below} - set(uses)
+    found = re.search(r"the kit's crates ((?:`\w+`(?:, | and )?)+)", text)
+    said = set(named(found.group(1))) if found else set()
+    for name in sorted(right - said):
+        wrong.append("%s: the crates of the kit that are trusted lack %s" % (page, name))
+    for name in sorted(said - right):
+        wrong.append("%s: %s is named as trusted, and crates.txt does not use it" % (page, name))
 
 
 # Numbers
 
 
-def number(text, page, pattern, right, writes, others=None):
+def number(text, page, pattern, right, writes):
     """Looks that the number which a page has at a pattern is right; gives the page with that number."""
-    text = others if others is not None else text
     found = re.search(pattern, text)
     if not found:
         wrong.append("%s: there is no number where one is expected: %s" % (page, pattern))
@@ -349,10 +380,13 @@ class Declared:
 
 def names(page, text, declared):
     text = re.sub(r"^```.*?^```", "", text, flags=re.M | re.S)
-    others = {"ensures", "requires"} | {os.path.basename(path) for path in glob.glob("*/*")} | {used for each in crates().values() for used in each}
+    others = {"ensures", "requires"} | NOTATION | {os.path.basename(path) for path in glob.glob("*/*")} | {used for each in crates().values() for used in each}
     others |= {os.path.basename(path).split(".")[0] for path in glob.glob("crates/*/*") + glob.glob("crates/*/data/*")}
     for path in glob.glob("crates/*/specs/**/*.antt", recursive=True):
         others |= set(re.findall(r'codes "([^"]*)"', read(path)))
+    for path in glob.glob("crates/*/src/**/*.rt", recursive=True) + glob.glob("crates/*/specs/**/*.antt", recursive=True):
+        for group in re.findall(r"^ *(?:ghost )?use Rattle\.std\.[\w.]+\.\{([^}]*)\}", read(path), re.M):
+            others |= set(re.findall(r"\w+", group))
     for word in re.findall(r"`([^`\n]+)`", text):
         word = re.sub(r"\(\)$", "", word)
         if re.fullmatch(r"\w+(::\w+)+", word):
@@ -402,6 +436,14 @@ def links(path, text):
             wrong.append("%s: a link leads to %s, and there is no such heading" % (path, target))
 
 
+def all_words():
+    """All pages together have no more words than ALL_WORDS."""
+    pages = [path for path in glob.glob("**/*.md", recursive=True) if path not in WRITTEN and "/out/" not in path]
+    found = sum(len(re.sub("<!-- (real|made|summary) -->.*?<!-- end -->", "", read(path), flags=re.S).split()) for path in pages)
+    if found > ALL_WORDS:
+        wrong.append("the pages have %d words by hand, %d are enough" % (found, ALL_WORDS))
+
+
 def words(path, most):
     count = len(read(path).split())
     if count > most:
@@ -420,7 +462,7 @@ def main():
     uses = crates()
     architecture, claims, testing = read(ARCHITECTURE), read(CLAIMS), read(TESTING)
     layers(architecture, uses)
-    stands_on(architecture, uses)
+    used(architecture, uses)
     files_of_src(architecture, uses)
     copies(claims)
     right = {CLAIMS: reading_list(claims, writes), TESTING: wrong_bodies(numbers(testing, writes), uses, writes)}
@@ -428,6 +470,8 @@ def main():
         for path, text in right.items():
             write(path, text)
     readme()
+    for page in ("README.md", CLAIMS):
+        trusted(page, read(page), uses)
     declared = Declared()
     for page in NAMED:
         names(page, read(page), declared)
@@ -438,6 +482,7 @@ def main():
         links(path, read(path))
     for path, most in WORDS.items():
         words(path, most)
+    all_words()
     for line in wrong:
         print("docs: " + line)
     return 1 if wrong else 0

@@ -1,12 +1,16 @@
 #!/bin/sh
 # Tries the wrong bodies that the gate leaves out, for want of time: tests/wrong_bodies/CRATE holds them, in the form of must-fail/.
 # With names of crates, those of these crates alone. It takes more than an hour. For each crate whose edits were all tried, a line of
-# tests/wrong_bodies/tried says how many of how many were refused, and of which commit; docs/TESTING.md has these lines in its table.
+# tests/wrong_bodies/tried says how many of how many were refused, and of which commit (`no commit` in a copy without a repository);
+# docs/TESTING.md has these lines in its table.
 set -e
 cd "$(dirname "$0")/.."
 top=$PWD
-commit=$(git rev-parse --short HEAD)
-[ -z "$(git status --porcelain crates crates.txt tests/wrong_bodies)" ] || commit="$commit with changes"
+if [ -e .git ] && commit=$(git rev-parse --short HEAD 2>&1); then
+    [ -z "$(git status --porcelain crates crates.txt tests/wrong_bodies)" ] || commit="$commit with changes"
+else
+    commit='no commit'
+fi
 room=$(mktemp -d)
 trap 'rm -rf "$room"' EXIT
 cp -r HANDLES crates crates.txt "$room"

@@ -52,7 +52,7 @@ __all__ = [
     "Detail", "Explained", "Explanation", "Item", "LibraryError", "Line", "PROFILES", "Part", "Place", "Report", "STEPS", "Session", "Spot",
     "VERDICTS", "Value", "check", "check_files", "explain", "explanation_of", "line_of", "main", "version",
 ]
-__version__ = "0.7.1"
+__version__ = "0.7.2"
 
 VERDICTS = ("valid", "invalid", "not decided", "refused")
 PROFILES = ("base", "wide")

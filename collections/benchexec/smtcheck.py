@@ -24,7 +24,7 @@ class Tool(benchexec.tools.template.BaseTool2):
         return None
 
     def version(self, executable):
-        # Some versions end with 5 behind --version, so what it prints counts.
+        # Some versions end with 5 after --version, so what it prints counts.
         return self._version_from_tool(executable, line_prefix="smtcheck ", ignore_stderr=True)
 
     def cmdline(self, executable, options, task, rlimits):

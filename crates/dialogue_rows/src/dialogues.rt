@@ -1,5 +1,5 @@
-//! Rows of dialogues: each with its report and the exit status, and what else comes where it is told in
-//! pieces. This file looks into no report.
+//! Rows of dialogues: each with its report and the exit status, and what differs where its texts come in pieces.
+//! This file looks into no report.
 
 pub(crate) mod pieces;
 mod seen;
@@ -12,8 +12,8 @@ use std::alloc::{AllocError, Global};
 use std::io;
 use std::io::Write;
 
-/// Prints the report on a dialogue, and the status. Where the texts come in pieces each line is the same,
-/// or the first that isn't is told.
+/// Prints the report on a dialogue, and the exit status. Where the texts come in pieces, it prints the first line
+/// that differs, if one does.
 pub(crate) fn print<W: Write>(
     alloc: Global,
     out: &mut W,
@@ -38,13 +38,12 @@ pub(crate) fn print<W: Write>(
     print_dialogue(alloc, out, script, answers, options)
 }
 
-/// The limit on steps that the program has where its command line names none.
+/// The program's limit on steps, if its command line names none.
 pub(crate) fn usual_limit() -> Limit {
     Limit { steps: 10_000_000 }
 }
 
-// The profile that the first field names, if it names one, and the fields behind it. Where none is named it is
-// `base`.
+// The profile that the first field names, and the fields after it. Without one it is `base`.
 fn split_profile<'a, 'b>(fields: &'b [Field<'a>]) -> Result<(Profile, &'b [Field<'a>])> {
     match fields.split_first() {
         Some((first, rest)) if first.key == "profile" => match first.text.as_str() {
@@ -56,7 +55,7 @@ fn split_profile<'a, 'b>(fields: &'b [Field<'a>]) -> Result<(Profile, &'b [Field
     }
 }
 
-// The limit on steps: that of a field, or the usual one.
+// The limit on steps that a field names, or the usual one.
 fn limit_of(fields: &[Field]) -> Result<Limit> {
     match fields {
         [] => Ok(usual_limit()),
@@ -88,8 +87,7 @@ fn print_dialogue<W: Write>(
     print_told(alloc, out, dialogue)
 }
 
-// Prints the report on the whole texts, and the first line that is another where they come in
-// pieces.
+// Prints the report on the whole texts, and the first line that differs where they come in pieces.
 fn print_told<W: Write>(alloc: Global, out: &mut W, dialogue: Dialogue) -> Result<()> {
     match &validate(alloc, dialogue.script, dialogue.answers, dialogue.options) {
         Ok(report) => {

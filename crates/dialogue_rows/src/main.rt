@@ -1,7 +1,7 @@
-//! dialogue_rows: prints what comes of the dialogues in the files that its words name, whole and told in pieces.
-//! No claim rests on it.
+//! dialogue_rows: reads the files named on its command line, and prints the results of their dialogues, whole and
+//! in pieces. No claim rests on it.
 //!
-//! Of a file that holds a row of a dialogue it prints the row's title, the report and the status:
+//! For a file that holds a row of a dialogue it prints the row's title, the report and the status:
 //!
 //! ```text
 //! dialogue: one check                             // one check
@@ -24,7 +24,7 @@ fn main(rt: HostRuntime) -> Result<()> {
     row_texts::run(&rt, &ByDialogue)
 }
 
-/// What is answered to rows of dialogues, sessions and runs.
+/// The results of rows of dialogues, sessions and runs.
 struct ByDialogue;
 
 impl Answers for ByDialogue {

@@ -1,5 +1,5 @@
-//! Rows of runs: a dialogue over two readers and a writer, of which one fails, at each of its calls in turn.
-//! This file looks into no line.
+//! Rows of runs: a dialogue over two readers and a writer. One of them fails, at each of its calls in turn. This
+//! file looks into no line.
 
 mod devices;
 
@@ -13,7 +13,7 @@ use smt_streams::Device;
 use std::alloc::Global;
 use std::io::Write;
 
-// The most runs of a field.
+// The limit on the runs of a field.
 const MOST: u64 = 10_000;
 
 // What fails in a run.
@@ -22,23 +22,23 @@ enum Failing {
     Script,
     Answers,
     Output,
-    /// A write takes no byte.
+    /// A write accepts no byte.
     Stops,
 }
 
-// What came of a run.
+// The outcome of a run.
 #[derive(Drop)]
 struct Ran {
     outcome: Result<Verdict, RunFault>,
     written: Vec<u8>,
-    /// Whether the call that fails was made.
+    /// Whether the run made the call that fails.
     met: bool,
-    /// How many calls the two readers and the writer got.
+    /// The number of calls to the script's reader, the answers' reader and the writer.
     calls: [u64; 3],
 }
 
-/// Prints the report on a dialogue, and how many bytes it has. Then each further field says what fails: its
-/// first call in a run, its second in another, and so on, until a run makes no such call.
+/// Prints the report on a dialogue, and its size in bytes. Each further field says what fails: at its first call in
+/// one run, at its second in another, and so on, until a run makes no such call.
 pub(crate) fn print<W: Write>(
     alloc: Global,
     out: &mut W,
@@ -98,7 +98,7 @@ fn report_of(alloc: Global, dialogue: Dialogue) -> Result<Vec<u8>> {
     }
 }
 
-// Prints what comes of the runs in which the device of a field fails.
+// Prints the outcomes of the runs in which the device of a field fails.
 fn print_runs<W: Write>(
     alloc: Global,
     out: &mut W,
@@ -127,7 +127,7 @@ fn failing_of(field: &Field) -> Result<Failing> {
     }
 }
 
-// A run in which the call of this number fails, and the writer has room for so many bytes.
+// A run in which the call of this number fails, and the writer has `room` bytes of space.
 fn run_failing(
     alloc: Global,
     dialogue: Dialogue,
@@ -161,7 +161,7 @@ fn run_failing(
     })
 }
 
-// The calls of a device, of which that of this number fails, or none.
+// The calls of a device: the one of this number fails, or none does.
 fn calls_of(fails: bool, number: u64) -> Calls {
     if fails {
         Calls::failing(number)
@@ -183,8 +183,8 @@ fn run_over(
     run(alloc, &mut script, &mut answers, &mut out, options)
 }
 
-// Writes why a run ended, and how many bytes of the report were written. A run to which memory was refused ends
-// the program.
+// Writes why a run ended, and how many bytes of the report it wrote. Where memory was refused to the run, the
+// program ends.
 fn write_ran<W: Write>(
     out: &mut W,
     field: &Field,

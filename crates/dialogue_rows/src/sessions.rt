@@ -1,5 +1,5 @@
-//! Rows of sessions: both texts come piece by piece, and the lines that are decided are shown where a
-//! row asks for them. This file looks into no line.
+//! Rows of sessions: both texts come piece by piece, and a row asks in places for the lines decided so far. This
+//! file looks into no line.
 
 ghost use Rattle.std.specs.Prelude.{◌≡◌, false, IfOk};
 ghost use Rattle.smt_dialogue.specs.History.{History};
@@ -13,15 +13,14 @@ use std::alloc::Global;
 use std::io;
 use std::io::Write;
 
-// Of which texts the end was told.
+// Which of the two texts has ended.
 #[derive(Clone, Copy)]
 struct Ended {
     script: bool,
     answers: bool,
 }
 
-/// Prints what a session is told, in order, and the lines that are decided where a field asks for
-/// them.
+/// Prints what a session is fed, in order, and the decided lines where a field asks for them.
 pub(crate) fn print<W: Write>(
     alloc: Global,
     out: &mut W,
@@ -43,7 +42,7 @@ pub(crate) fn print<W: Write>(
     outcome
 }
 
-// Tells a session of which nothing has come what each field says.
+// Feeds a new session what each field says.
 fn print_fields<W: Write>(
     alloc: Global,
     out: &mut W,
@@ -135,7 +134,7 @@ fn tell_answers<W: Write>(
     went(out, session.answers(piece.as_slice()))
 }
 
-// Tells the end of the text that a field names.
+// Ends the text that a field names.
 fn tell_end<W: Write>(
     out: &mut W,
     session: &mut Session,
@@ -172,7 +171,7 @@ fn tell_end<W: Write>(
     }
 }
 
-// Prints that a session has failed. Whatever it is told behind that, it answers the same.
+// Prints that a session has failed, if it has. A failed session returns the same failure ever after.
 fn went<W: Write>(out: &mut W, told: Result<(), Failed>) -> Result<()> {
     match told {
         Ok(()) => {}
@@ -182,7 +181,7 @@ fn went<W: Write>(out: &mut W, told: Result<(), Failed>) -> Result<()> {
     Ok(())
 }
 
-// Prints the lines that are decided and were not taken, or `none`.
+// Prints the decided lines that were not yet returned, or `none`.
 fn print_lines<W: Write>(out: &mut W, session: &mut Session) -> io::Result<()>
     ensures stands { (h : History) → StandsFor session.old h
         → (g : History) × StandsFor session.new g }

@@ -1,5 +1,4 @@
-//! example_session: a session that is fed by hand. Each line of the report is printed once it is
-//! decided.
+//! example_session: feeds a session by hand, and prints each line of the report once it is decided.
 //!
 //! A tool that runs a solver does the same with the pieces that it sends and receives. This program judges nothing,
 //! and uses no crate but `smt_dialogue`.
@@ -13,7 +12,7 @@ use smt_dialogue::{Failed, Limit, Options, Profile, Session, Verdict};
 use std::process::ExitCode;
 
 fn main(rt: HostRuntime) -> ExitCode {
-    // z3, cvc5 and cvc4 print no `success` unless they are told to.
+    // (z3, cvc5 and cvc4 print no `success` by default.)
     let options = Options {
         print_success: false,
         profile: Profile::Base,
@@ -29,7 +28,7 @@ fn main(rt: HostRuntime) -> ExitCode {
     }
 }
 
-// Tells both texts, a command and its answer at a time, and their ends.
+// Feeds both texts, a command and its answer at a time, and then ends them.
 fn follow<R: Print>(rt: &R, session: &mut Session) -> Result<(), Failed>
     requires stands { (h : History) × StandsFor session.old h }
     requires script { is_script_ended session.old ≡ false }
@@ -46,7 +45,7 @@ fn follow<R: Print>(rt: &R, session: &mut Session) -> Result<(), Failed>
     end_both(rt, session)
 }
 
-// Tells a piece of the script.
+// Feeds a piece of the script, and prints the lines decided since.
 fn tell_script<R: Print>(
     rt: &R,
     session: &mut Session,
@@ -64,7 +63,7 @@ fn tell_script<R: Print>(
     outcome
 }
 
-// Tells a piece of the answers.
+// Feeds a piece of the answers, and prints the lines decided since.
 fn tell_answers<R: Print>(
     rt: &R,
     session: &mut Session,
@@ -82,7 +81,7 @@ fn tell_answers<R: Print>(
     outcome
 }
 
-// Tells the ends of both texts.
+// Ends both texts, and prints the lines decided since.
 fn end_both<R: Print>(rt: &R, session: &mut Session) -> Result<(), Failed>
     requires stands { (h : History) × StandsFor session.old h }
     requires script { is_script_ended session.old ≡ false }
@@ -94,7 +93,7 @@ fn end_both<R: Print>(rt: &R, session: &mut Session) -> Result<(), Failed>
     Ok(())
 }
 
-// Prints what was told, and the lines that are decided since.
+// Prints what has just happened, and the lines decided since.
 fn print_lines<R: Print>(rt: &R, session: &mut Session, told: &str)
     ensures stands { (h : History) → StandsFor session.old h
         → (g : History) × StandsFor session.new g }

@@ -1,13 +1,13 @@
-//! The texts of fields, which stand for bytes. This file knows no field and no row.
+//! The texts of fields, and the bytes that they stand for. This file knows no field and no row.
 //!
 //! | written | stands for |
 //! |---|---|
 //! | `\n`, `\t`, `\r` | line feed, tab, carriage return |
-//! | `\\`, `\{`, `\}` | the byte behind the backslash |
+//! | `\\`, `\{`, `\}` | the byte after the backslash |
 //! | `\x0a` | the byte of this number, by two hexadecimal digits |
-//! | `\*12{..}` | what stands in the braces, 12 times |
-//! | `\#`, `\-` | in braces: the number of the time, counted from 1, and the number before it |
-//! | `\*#{..}` | in braces: what stands in these, as often as the number of the outer time |
+//! | `\*12{..}` | the text in the braces, 12 times |
+//! | `\#`, `\-` | in braces: the number of the present repetition, from 1, and the number before it |
+//! | `\*#{..}` | in braces: the text in these, as often as the number of the outer repetition |
 //!
 //! Every other byte but `}` in braces stands for itself.
 
@@ -20,7 +20,7 @@ use std::{io, mem};
 #[derive(Clone, Copy)]
 enum Times {
     Count(u64),
-    /// As often as the number of the time outside.
+    /// As often as the number of the outer repetition.
     Outer,
 }
 
@@ -28,37 +28,37 @@ enum Times {
 #[derive(Drop)]
 enum Part {
     Byte(u8),
-    /// The number of the time.
+    /// The number of the repetition.
     Number,
     /// The number before it.
     Before,
     Repeat { times: Times, parts: Vec<Part> },
 }
 
-/// How far an escape has been read.
+/// The state of the reader: how much of an escape it has read.
 #[derive(Clone, Copy)]
 enum State {
-    /// There is none.
+    /// It is in no escape.
     Outside,
     Backslash,
     /// The two digits of a byte come next.
     Byte,
     /// The second of them comes next.
     SecondDigit { first: u8 },
-    /// The times of a repetition come next.
+    /// The count of a repetition comes next.
     Repeat,
     /// The opening brace comes next, or one more digit.
     Brace { times: Times },
 }
 
-/// The parts of the text so far.
+/// The reader, with the parts of the text so far.
 #[derive(Drop)]
 struct Reader {
     alloc: Global,
     state: State,
-    /// The parts behind the last brace that is open.
+    /// The parts after the last open brace.
     parts: Vec<Part>,
-    /// For each open brace the parts before it, and how often it is repeated.
+    /// For each open brace the parts before it, and how often its text is repeated.
     outer: Vec<(Vec<Part>, Times)>,
 }
 
@@ -95,7 +95,7 @@ impl Reader {
         Ok(())
     }
 
-    // Consumes one byte, and answers the state behind it.
+    // Consumes one byte, and returns the state after it.
     fn take(&mut self, byte: u8) -> Result<State> {
         match self.state {
             State::Outside => Ok(self.take_outside(byte)?),
@@ -157,7 +157,7 @@ impl Reader {
         }
     }
 
-    // Ends the innermost repetition; outside of all it is a brace like any other byte.
+    // Ends the innermost repetition. Outside of every repetition the brace is a byte like any other.
     fn close_brace(&mut self) -> Result<State, AllocError> {
         match self.outer.pop() {
             Some((before, times)) => {
@@ -175,7 +175,7 @@ impl Reader {
 }
 
 impl Part {
-    // Writes the part, in a repetition for the time of this number.
+    // Writes the part; `number` is that of the repetition it is in.
     fn write(&self, number: u64, bytes: &mut Vec<u8>) -> io::Result<()> {
         match self {
             Part::Byte(byte) => bytes.push(*byte)?,
@@ -197,7 +197,7 @@ impl Part {
     }
 }
 
-// The byte that stands behind a backslash for one byte.
+// The byte that an escape of one letter stands for.
 fn escaped(byte: u8) -> Result<u8> {
     match byte {
         b'n' => Ok(b'\n'),

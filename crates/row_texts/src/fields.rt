@@ -1,9 +1,9 @@
-//! What the fields of several kinds of rows say alike. This file knows no row.
+//! What several kinds of rows ask of their fields. This file knows no row.
 
 use crate::rows::Field;
 use anyhow::{Result, bail};
 
-/// Refuses a field of another key than it is to have.
+/// Refuses a field whose key is not this one.
 pub fn want_key(field: &Field, key: &str) -> Result<()> {
     if field.key == key {
         Ok(())
@@ -12,12 +12,13 @@ pub fn want_key(field: &Field, key: &str) -> Result<()> {
     }
 }
 
-/// Says that a row has a field of another key than it may.
+/// Refuses a field whose key its row may not have; the error names the line.
 pub fn refuse(field: &Field) -> Result<()> {
     bail!("line {}: `{}` can't stand here", field.line, field.key)
 }
 
-/// Whether the solver prints `success` before a command sets it, as a field says.
+/// Whether a field says that the solver prints `success` before a command sets it: `on` or `off`. Any other text is
+/// an error.
 pub fn is_on(field: &Field) -> Result<bool> {
     match field.text.as_str() {
         "on" => Ok(true),

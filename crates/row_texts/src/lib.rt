@@ -1,9 +1,9 @@
-//! The form of the files of rows that the test programs read: rows of fields, and the escapes of their texts.
+//! The form of the files of rows that the test programs read: rows of fields, and the escapes in their texts.
 //!
-//! No claim rests on this crate, which is no part of the program: its calls are proved safe, and what they
-//! answer is seen in what the test programs print.
+//! No claim rests on this crate, which is no part of the program. Its calls are proved safe; what they return is
+//! seen in what the test programs print.
 //!
-//! A call, of a file that holds `terms: over p` and, on the next line, `term: (not \x70)`:
+//! A call, for a file that holds `terms: over p` and, on the next line, `term: (not \x70)`:
 //!
 //! ```text
 //! let rows = read(alloc, text)?;                  // one row of two fields

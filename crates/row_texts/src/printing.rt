@@ -1,5 +1,5 @@
-//! A program of rows: it prints what is answered to the rows of the files that its words name. This file knows
-//! no kind of row.
+//! A program of rows: it reads the files named on its command line, and prints the results of their rows. This file
+//! knows no kind of row.
 
 use crate::rows::{Field, read};
 use anyhow::{Context, Result};
@@ -8,9 +8,9 @@ use std::io::{BufWriter, Write};
 use std::rt::{Env, Files};
 use std::{env, fs, io};
 
-/// What is answered to rows.
+/// The results of rows.
 pub trait Answers {
-    /// Prints what is answered to a row of this title.
+    /// Prints the results of the fields of a row with this title.
     fn print<W: Write>(
         &self,
         alloc: Global,
@@ -20,8 +20,8 @@ pub trait Answers {
     ) -> Result<()>;
 }
 
-/// Prints each row of the files that the words of the command line name: its title, what is answered to it, and
-/// an empty line.
+/// Prints each row of the files named on the command line: its title, its results, and an empty line. It ends at
+/// the first error.
 pub fn run<R: Files + Env + AllocGlobal + Print, A: Answers>(rt: &R, answers: &A) -> Result<()> {
     let mut out = BufWriter::new(rt.alloc(), io::writer(rt))?;
     let outcome = print_files(rt, &mut out, answers);

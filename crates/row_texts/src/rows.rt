@@ -1,8 +1,8 @@
 //! The form of the files of rows. This file knows no key, and no escape.
 //!
-//! A file is rows, with an empty line or more between them. A row is fields, each on a line of its own, such
-//! as `term: (and p q)`; the first is its title, whose key is the row's kind. A line that begins with two
-//! spaces continues the field above it, and one that begins with `#` is a comment.
+//! A file has rows, with at least one empty line between them. A row has fields, each on a line of its own, such as
+//! `term: (and p q)`. The first field is the title of the row, and its key is the kind of the row. A line that
+//! begins with two spaces continues the field above it, and a line that begins with `#` is a comment.
 
 use crate::escapes::unescape;
 use anyhow::{Context, Result, bail};
@@ -12,22 +12,22 @@ use std::mem;
 /// A field of a row.
 #[derive(Drop)]
 pub struct Field<'a> {
-    /// The line on which the field begins; lines count from 1.
+    /// The line on which the field begins, from 1.
     pub line: u64,
     pub key: &'a str,
-    /// What stands behind the key, as it is written.
+    /// The text after the key, as the file has it.
     pub text: String,
 }
 
 impl Field<'_> {
-    /// The bytes that the text stands for.
+    /// The bytes that the text stands for; the error of a faulty escape names the line.
     pub fn bytes(&self, alloc: Global) -> Result<Vec<u8>> {
         let line = self.line;
         unescape(alloc, self.text.as_str()).context(format_args!("line {line}"))
     }
 }
 
-/// The rows of a file, none of them empty.
+/// The rows of a file, none of them empty. A line without a colon, or one that continues no field, is an error.
 pub fn read<'a>(alloc: Global, text: &'a str) -> Result<Vec<Vec<Field<'a>>>> {
     let mut rows = Vec::new(alloc);
     let mut row = Vec::new(alloc);
@@ -35,7 +35,7 @@ pub fn read<'a>(alloc: Global, text: &'a str) -> Result<Vec<Vec<Field<'a>>>> {
     Ok(rows)
 }
 
-// Adds the rows of a text; one that is open is emptied.
+// Adds the rows of a text. The row under way is empty afterwards.
 fn read_lines<'a>(
     alloc: Global,
     rows: &mut Vec<Vec<Field<'a>>>,
@@ -67,7 +67,7 @@ fn end_row<'a>(
     Ok(())
 }
 
-// Adds what a line continues the last field with.
+// Adds a line to the text of the last field.
 fn continue_field(row: &mut Vec<Field>, number: u64, more: &str) -> Result<()> {
     match row.last_mut() {
         Some(field) => Ok(field.text.push_str(more)?),
@@ -75,7 +75,7 @@ fn continue_field(row: &mut Vec<Field>, number: u64, more: &str) -> Result<()> {
     }
 }
 
-// Adds the field that begins with a line. One space behind the colon is no part of the text.
+// Adds the field that begins with a line. One space after the colon is no part of the text.
 fn add_field<'a>(
     alloc: Global,
     row: &mut Vec<Field<'a>>,

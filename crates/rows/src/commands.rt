@@ -1,4 +1,4 @@
-//! Rows of commands: each with `done` or its flaw, and then what is in force. This file reads no answers of
+//! Rows of commands: each command with `done` or its flaw, and then what is in force. This file reads no answers of
 //! solvers, and evaluates nothing.
 
 ghost use Rattle.std.specs.Prelude.{◌<◌, ◌≤◌};
@@ -14,8 +14,8 @@ use std::alloc::Global;
 use std::io;
 use std::io::Write;
 
-/// Prints of each command `done` or its flaw, in order, and then what the stack holds. Each command has the
-/// number of its place behind `profile` and `start`, from 1, also where an earlier one was refused.
+/// Prints each command in order with `done` or its flaw, and then what the stack holds. The number of a command is
+/// its place after `profile` and `start`, from 1; a refused command counts too.
 pub(crate) fn print<W: Write>(alloc: Global, out: &mut W, fields: &[Field]) -> Result<()> {
     let (profile, fields) = split_profile(alloc, fields)?;
     let (print_success, fields) = split_print_success(fields)?;
@@ -27,7 +27,7 @@ pub(crate) fn print<W: Write>(alloc: Global, out: &mut W, fields: &[Field]) -> R
     print_from_start(alloc, out, &mut stack, fields)
 }
 
-// Prints what becomes of the commands of a row, of which the stack has had none yet, and then what it holds.
+// Prints the outcomes of the commands of a row on a new stack, and then what the stack holds.
 fn print_from_start<W: Write>(
     alloc: Global,
     out: &mut W,
@@ -78,8 +78,8 @@ fn print_outcome<W: Write>(
     Ok(())
 }
 
-// Whether the solver prints `success` before a command sets it, as the first field says, and the fields
-// behind it. Where none says so, it does.
+// Whether the solver prints `success` before a command sets it, and the fields after the one that says so. Without
+// such a field, it does.
 fn split_print_success<'a, 'b>(fields: &'b [Field<'a>]) -> Result<(bool, &'b [Field<'a>])> {
     match fields.split_first() {
         Some((first, rest)) if first.key == "start" => Ok((is_on(first)?, rest)),
@@ -98,7 +98,7 @@ fn take(stack: &mut Stack, number: u64, tree: Tree) -> Result<(), CommandFault>
     outcome
 }
 
-// Applies a command to the stack, and once more where memory was refused: nothing has changed then.
+// Applies a command to the stack, and once more where memory was refused: the first time has then changed nothing.
 fn apply(stack: &mut Stack, number: u64, command: &Command) -> Result<(), CommandFault>
     requires { last_of stack.old < number }
     ensures { last_of stack.new ≤ number }
@@ -109,8 +109,8 @@ fn apply(stack: &mut Stack, number: u64, command: &Command) -> Result<(), Comman
     }
 }
 
-// Prints what is in force: names, the numbers of the commands of the assertions, levels, and what the solver
-// was told.
+// Prints what is in force: names, the numbers of the commands with assertions, the depth of levels, whether the
+// solver prints `success`, and whether it has exited.
 fn print_stack<W: Write>(out: &mut W, stack: &Stack) -> io::Result<()> {
     print_counts(out, "names", stack.library())?;
     print_assertions(out, stack.assertions())?;

@@ -1,4 +1,4 @@
-//! Rows of items: each item of a model that a library takes, or its fault. This file evaluates nothing.
+//! Rows of items: each item of a model, accepted by a library or with its fault. This file evaluates nothing.
 
 ghost use Rattle.smt_terms.specs.Library.{HasTheoriesOf};
 
@@ -11,9 +11,9 @@ use std::alloc::Global;
 use std::io;
 use std::io::Write;
 
-/// Prints what is answered to declarations, and then to items of a model of the declared names, in order.
-/// Each declaration is the command of its place behind the logic. An item that is refused defines nothing,
-/// and those behind it are answered all the same.
+/// Prints the results of declarations, and then of items of a model of the declared names, in order. The number of
+/// a declaration's command is its place after the logic. A refused item defines nothing, and the items after it
+/// have their results all the same.
 pub(crate) fn print<W: Write>(
     alloc: Global,
     out: &mut W,
@@ -24,7 +24,7 @@ pub(crate) fn print<W: Write>(
     print_items(alloc, out, script, items)
 }
 
-// Declares, defines and asserts what the first fields say, and answers the fields behind them.
+// Declares, defines and asserts what the first fields say, and returns the fields after them.
 fn declare_all<'a, 'b, W: Write>(
     alloc: Global,
     out: &mut W,
@@ -91,7 +91,7 @@ fn print_field<W: Write>(
     }
 }
 
-// Defines the item that a field holds, and prints the answer.
+// Defines the item in a field, and prints the result.
 fn define_item<W: Write>(
     alloc: Global,
     out: &mut W,
@@ -113,7 +113,7 @@ fn define_item<W: Write>(
     print_answer(out, field, done, answer.err())
 }
 
-// Prints where the name that a field is stands among the declared names and among the items.
+// Prints the place of the name in a field, among the names of the script and among the items.
 fn find<W: Write>(
     alloc: Global,
     out: &mut W,

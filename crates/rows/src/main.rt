@@ -1,6 +1,7 @@
-//! rows: prints what the crates answer to the rows of the files that its words name. No claim rests on it.
+//! rows: reads the files named on its command line, and prints what the crates return for their rows. No claim
+//! rests on it.
 //!
-//! Of a file that holds a row of terms it prints the row's title and each term with its sort:
+//! For a file that holds a row of terms it prints the row's title and each term with its sort:
 //!
 //! ```text
 //! terms: over p                                   // terms over p
@@ -32,7 +33,7 @@ fn main(rt: HostRuntime) -> Result<()> {
     row_texts::run(&rt, &Rows)
 }
 
-/// What is answered to rows of texts, terms, models, values and commands.
+/// The results of rows of texts, terms, models, values, items and commands.
 struct Rows;
 
 impl Answers for Rows {
@@ -51,8 +52,7 @@ impl Answers for Rows {
     }
 }
 
-// Prints what is answered to a row over a library of the logic that its first field names, or of all
-// theories.
+// Prints the results of a row over a library of the logic that its first field names; without one, of all theories.
 fn print_over_library<W: Write>(
     alloc: Global,
     out: &mut W,

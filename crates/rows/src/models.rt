@@ -1,4 +1,4 @@
-//! Rows of models: each with the names that it defines, or its first fault. This file evaluates nothing.
+//! Rows of models: each model with the names that it defines, or its first fault. This file evaluates nothing.
 
 ghost use Rattle.std.specs.Prelude.{IfOk, MatchOption};
 ghost use Rattle.smt_eval.specs.Interpretation.{Fits};
@@ -16,8 +16,8 @@ use std::alloc::Global;
 use std::io;
 use std::io::Write;
 
-/// Prints what is answered to declarations, definitions, assertions and models, in order. Each declaration is the
-/// command of its place behind the logic.
+/// Prints the results of declarations, definitions, assertions and models, in order. The number of a declaration's
+/// command is its place after the logic.
 pub(crate) fn print<W: Write>(
     alloc: Global,
     out: &mut W,
@@ -50,8 +50,7 @@ fn print_if_defined<W: Write>(
     Ok(())
 }
 
-/// Prints what is answered to a model of the declared names, and answers its interpretation, if it has no
-/// fault.
+/// Prints the result of a model of the declared names, and returns its interpretation if it has no fault.
 pub(crate) fn print_model<W: Write>(
     alloc: Global,
     out: &mut W,
@@ -95,14 +94,14 @@ fn print_read<W: Write>(
     Ok(())
 }
 
-// Prints the names that a model without a fault defines, in order, each behind a space, and ends the line.
+// Prints the names that a model without a fault defines, in order, each after a space, and ends the line.
 fn print_names<W: Write>(out: &mut W, declared: &Library, model: &Trees) -> Result<()> {
     let definitions = definitions_of(declared, model)?;
     write_names(out, &definitions)?;
     Ok(())
 }
 
-/// The library of what the items of a model without a fault define.
+/// A library of what the items of a model without a fault define.
 pub(crate) fn definitions_of(declared: &Library, model: &Trees) -> Result<Library> {
     let Ok(mut definitions) = declared.for_model() else {
         bail!("out of memory");

@@ -1,4 +1,4 @@
-//! What a library says of its names. This file changes no library.
+//! The names of a library, as the rows show them. This file changes no library.
 
 use anyhow::Result;
 use row_texts::Field;
@@ -8,7 +8,7 @@ use std::alloc::Global;
 use std::io;
 use std::io::Write;
 
-/// Prints where a library has the name that a field is, and its rank.
+/// Prints the place and the rank, in a library, of the name in a field.
 pub(crate) fn print_name<W: Write>(
     alloc: Global,
     out: &mut W,
@@ -21,7 +21,7 @@ pub(crate) fn print_name<W: Write>(
     Ok(())
 }
 
-/// Prints behind a title how many names a library has that are declared, and how many that are defined.
+/// Prints a title, and how many declared and how many defined names a library has.
 pub(crate) fn print_counts<W: Write>(
     out: &mut W,
     title: &str,
@@ -32,8 +32,7 @@ pub(crate) fn print_counts<W: Write>(
     writeln!(out, "{title} => {declared} declared, {definitions} defined")
 }
 
-/// Writes where a library has a name, by its place among the declared names or among the definitions, from 0,
-/// and its rank.
+/// Writes the place of a name in a library, from 0 among the declared names or among the definitions, and its rank.
 pub(crate) fn write_found<W: Write>(out: &mut W, library: &Library, name: &[u8]) -> io::Result<()> {
     match library.find(name) {
         Some(Found::Declared(place)) => {
@@ -57,8 +56,7 @@ pub(crate) fn write_sort<W: Write>(out: &mut W, sort: &Sort) -> io::Result<()> {
     }
 }
 
-// Writes the command of a declared name and its rank, as ` by command 2: (Int Bool) Int`, or that nothing is
-// at its place.
+// Writes the command of a declared name and its rank, as ` by command 2: (Int Bool) Int`, or that its place is empty.
 fn write_declared<W: Write>(out: &mut W, declared: Option<&Declared>) -> io::Result<()> {
     let Some(declared) = declared else {
         return write!(out, ", and is not there");
@@ -72,8 +70,8 @@ fn write_declared<W: Write>(out: &mut W, declared: Option<&Declared>) -> io::Res
     write_sort(out, &declared.result)
 }
 
-// Writes the parameters of a definition and the sort of its result, as `: ((a Int) (b Bool)) Int`, or that
-// nothing is at its place.
+// Writes the parameters of a definition and the sort of its result, as `: ((a Int) (b Bool)) Int`, or that its
+// place is empty.
 fn write_definition<W: Write>(out: &mut W, definition: Option<&Definition>) -> io::Result<()> {
     let Some(definition) = definition else {
         return write!(out, ", and is not there");

@@ -1,5 +1,5 @@
-//! Rows of terms: each with its sort, or the first fault that is told of it; and of definitions, assertions
-//! and names. This file evaluates nothing.
+//! Rows of terms: each term with its sort or its first fault; and of definitions, assertions and names. This file
+//! evaluates nothing.
 
 use crate::names::{print_counts, print_name, write_sort};
 use crate::trees::{assert, declare, define, flaw_of, tree_of};
@@ -10,8 +10,7 @@ use smt_trees::Tree;
 use std::alloc::Global;
 use std::io::Write;
 
-/// Prints what is answered to the fields, in order. Each declaration is the command of its place behind the
-/// logic.
+/// Prints the results of the fields, in order. The number of a declaration's command is its place after the logic.
 pub(crate) fn print<W: Write>(
     alloc: Global,
     out: &mut W,

@@ -1,4 +1,4 @@
-//! Rows of texts: each with what is read of it, whole and in pieces. This file knows no term.
+//! Rows of texts: each text with its trees, read whole and in pieces. This file knows no term.
 
 ghost use Rattle.std.specs.Prelude.{◌≤◌, length};
 
@@ -10,7 +10,7 @@ use row_texts::{Field, want_key};
 use std::alloc::{AllocError, Global};
 use std::io::Write;
 
-/// Prints what is read of each text.
+/// Prints what the reader returns for each text.
 pub(crate) fn print<W: Write>(alloc: Global, out: &mut W, fields: &[Field]) -> Result<()> {
     for field in fields {
         want_key(field, "text")?;
@@ -25,7 +25,7 @@ fn print_text<W: Write>(alloc: Global, out: &mut W, field: &Field) -> Result<()>
     write_read(alloc, out, text.as_slice())
 }
 
-// Writes what is read of a whole text, and what else is read of it in pieces, and ends the line.
+// Writes the result for a whole text, and a result for its pieces that differs, and ends the line.
 fn write_read<W: Write>(alloc: Global, out: &mut W, text: &[u8]) -> Result<()> {
     let whole = reading::read_whole(alloc, text)?;
     out.write_all(whole.as_slice())?;
@@ -34,8 +34,7 @@ fn write_read<W: Write>(alloc: Global, out: &mut W, text: &[u8]) -> Result<()> {
     Ok(())
 }
 
-// Cuts a text at every two places. Where something else is read of the pieces, writes the first two such
-// places, and what it is.
+// Cuts a text at every two places. At the first two where the result differs, it writes the places and that result.
 fn write_other<W: Write>(alloc: Global, out: &mut W, text: &[u8], whole: &[u8]) -> Result<()> {
     for first in 0..text.len() {
         for second in first..text.len() {
@@ -54,7 +53,7 @@ fn write_cut<W: Write>(out: &mut W, first: usize, second: usize, read: &[u8]) ->
     Ok(())
 }
 
-// What is read of a text that is cut before the bytes at two places.
+// The result for a text that is cut before the bytes at two places.
 fn read_cut(alloc: Global, text: &[u8], first: usize, second: usize) -> Result<Vec<u8>, AllocError>
     requires ordered { first ≤ second }
     requires inside { second ≤ length text.now }

@@ -1,5 +1,5 @@
-//! The trees that fields hold, profiles and logics, declarations, definitions and assertions, and what is
-//! answered to them. This file knows no kind of row.
+//! The trees in fields; profiles and logics; and the results of declarations, definitions and assertions. This file
+//! knows no kind of row.
 
 ghost use Rattle.smt_terms.specs.Library.{StandsFor};
 ghost use Rattle.smt_terms.specs.Signature.{Signature};
@@ -15,7 +15,7 @@ use smt_trees::{Tree, Trees};
 use std::alloc::Global;
 use std::io::Write;
 
-/// The trees of a field.
+/// The trees in a field.
 pub(crate) fn trees_of(alloc: Global, field: &Field) -> Result<Trees> {
     let bytes = field.bytes(alloc)?;
     match read_trees(alloc, bytes.as_slice()) {
@@ -25,7 +25,7 @@ pub(crate) fn trees_of(alloc: Global, field: &Field) -> Result<Trees> {
     }
 }
 
-/// The one tree of a field.
+/// The one tree in a field; any other number of trees is an error.
 pub(crate) fn tree_of(alloc: Global, field: &Field) -> Result<Tree> {
     match trees_of(alloc, field)?.as_slice() {
         [tree] => Ok(tree.copy(alloc)?),
@@ -33,7 +33,7 @@ pub(crate) fn tree_of(alloc: Global, field: &Field) -> Result<Tree> {
     }
 }
 
-/// The parts of the list that a field is.
+/// The parts of the list in a field; any other tree is an error.
 pub(crate) fn parts_of(alloc: Global, field: &Field) -> Result<Trees> {
     match trees_of(alloc, field)?.as_slice() {
         [Tree::List(parts)] => Ok(parts.copy(alloc)?),
@@ -41,8 +41,8 @@ pub(crate) fn parts_of(alloc: Global, field: &Field) -> Result<Trees> {
     }
 }
 
-/// The theories of the profile and the logic that the first fields name, and the fields behind them. Where no
-/// profile is named it is `base`; where no logic is named there are all theories.
+/// The theories of the profile and the logic that the first fields name, and the fields after these. Without a
+/// profile it is `base`; without a logic there are all theories.
 pub(crate) fn split_logic<'a, 'b>(
     alloc: Global,
     fields: &'b [Field<'a>],
@@ -59,7 +59,7 @@ pub(crate) fn split_logic<'a, 'b>(
     }
 }
 
-/// The profile that the first field names, and the fields behind it. Where none is named it is `base`.
+/// The profile that the first field names, and the fields after it. Without one it is `base`.
 pub(crate) fn split_profile<'a, 'b>(
     alloc: Global,
     fields: &'b [Field<'a>],
@@ -74,8 +74,8 @@ pub(crate) fn split_profile<'a, 'b>(
     }
 }
 
-/// Declares the name that a field holds, by the command of this number, and prints the answer. Behind the
-/// name stand the sort, or the list of the parameters' sorts and the result's.
+/// Declares the name in a field by the command of this number, and prints the result. After the name the field has
+/// the sort, or a list of the parameters' sorts and the sort of the result.
 pub(crate) fn declare<W: Write>(
     alloc: Global,
     out: &mut W,
@@ -100,8 +100,8 @@ pub(crate) fn declare<W: Write>(
     print_answer(out, field, "declared", answer.err())
 }
 
-/// Defines the name that a field holds, and prints the answer. Behind the name stand the parameters, the sort
-/// and the body.
+/// Defines the name in a field, and prints the result. After the name the field has the parameters, the sort and
+/// the body.
 pub(crate) fn define<W: Write>(
     alloc: Global,
     out: &mut W,
@@ -130,7 +130,7 @@ pub(crate) fn define<W: Write>(
     print_answer(out, field, "defined", answer.err())
 }
 
-/// Asserts the term that a field holds, and prints the answer.
+/// Asserts the term in a field, and prints the result.
 pub(crate) fn assert<W: Write>(
     alloc: Global,
     out: &mut W,
@@ -143,7 +143,7 @@ pub(crate) fn assert<W: Write>(
     print_answer(out, field, "asserted", library.assert(&term).err())
 }
 
-/// Prints the fault of what a field holds, or, where it has none, what was done with it.
+/// Prints the flaw of what a field holds; without a fault, what was done with it.
 pub(crate) fn print_answer<W: Write>(
     out: &mut W,
     field: &Field,
@@ -160,7 +160,8 @@ pub(crate) fn print_answer<W: Write>(
     Ok(())
 }
 
-/// What is wrong with a term, a sort or a definition, by its fault: want of memory ends the program.
+/// The flaw that a fault reports, of a term, a sort or a definition. Refused memory is an error, which ends the
+/// program.
 pub(crate) fn flaw_of(fault: TermFault) -> Result<TermFlaw> {
     match fault.flaw() {
         Some(flaw) => Ok(flaw),

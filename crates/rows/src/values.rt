@@ -1,4 +1,4 @@
-//! Rows of values: terms over the definitions of a model, each with its known value, which is found twice: by
+//! Rows of values: terms over the definitions of a model, each with its known value. Two ways find the value: by
 //! the term's tree, and by its node. This file computes no value itself.
 
 ghost use Rattle.std.specs.Prelude.{◌<◌, ◌-◌, ◌^◌, IfOk};
@@ -23,7 +23,7 @@ use std::alloc::Global;
 use std::io;
 use std::io::Write;
 
-/// Prints what is answered to a model and to terms over it, in order. The library gets the names that the
+/// Prints the results of a model and of terms over it, in order. It declares in the library the names that the
 /// model defines.
 pub(crate) fn print<W: Write>(
     alloc: Global,
@@ -96,7 +96,7 @@ fn print_terms<W: Write>(
     Ok(())
 }
 
-// Prints how many steps are left of those that stand before a term, when it was evaluated.
+// Prints how many of the steps given in a field are left after the evaluation of its term.
 fn print_left<W: Write>(
     alloc: Global,
     out: &mut W,
@@ -115,7 +115,7 @@ fn print_left<W: Write>(
     Ok(())
 }
 
-// The number of steps and the term that a field holds.
+// The number of steps and the term in a field.
 fn steps_of(alloc: Global, field: &Field) -> Result<(u64, Tree)>
     ensures { IfOk result (λ found. found.0 < 2 ^ 64 - 1) }
 {
@@ -149,7 +149,7 @@ fn print_value<W: Write>(
     Ok(())
 }
 
-// What is known of a term by its tree.
+// The known value of a term, found by its tree.
 fn known_by_tree(
     alloc: Global,
     script: &Library,
@@ -168,8 +168,8 @@ fn known_by_tree(
     }
 }
 
-// Writes what is known of a term by its tree, and behind it what its node gives, if that differs, or why the
-// term is refused.
+// Writes the known value of a term by its tree. Where its node gives another value, it writes that too; where the
+// term is refused, the flaw.
 fn write_value<W: Write>(
     out: &mut W,
     field: &Field,

@@ -14,7 +14,7 @@ pub fn bvneg(s: Bits) -> Bits
     Bits::new(s.width(), s.number().wrapping_neg())
 }
 
-/// `bvadd`: the sum modulo 2^m. Asks for two vectors of one width.
+/// `bvadd`: the sum modulo 2^m. Requires two vectors of one width.
 pub fn bvadd(s: Bits, t: Bits) -> Bits
     requires { s.width ≡ t.width }
     ensures { result ≡ vector s.width (meaning.bvadd s.width s.number t.number) }
@@ -22,7 +22,7 @@ pub fn bvadd(s: Bits, t: Bits) -> Bits
     Bits::new(s.width(), s.number().wrapping_add(t.number()))
 }
 
-/// `bvsub`: the difference modulo 2^m. Asks for two vectors of one width.
+/// `bvsub`: the difference modulo 2^m. Requires two vectors of one width.
 pub fn bvsub(s: Bits, t: Bits) -> Bits
     requires { s.width ≡ t.width }
     ensures { result ≡ vector s.width (meaning.bvsub s.width s.number t.number) }
@@ -30,7 +30,7 @@ pub fn bvsub(s: Bits, t: Bits) -> Bits
     Bits::new(s.width(), s.number().wrapping_sub(t.number()))
 }
 
-/// `bvmul`: the product modulo 2^m. Asks for two vectors of one width.
+/// `bvmul`: the product modulo 2^m. Requires two vectors of one width.
 pub fn bvmul(s: Bits, t: Bits) -> Bits
     requires { s.width ≡ t.width }
     ensures { result ≡ vector s.width (meaning.bvmul s.width s.number t.number) }
@@ -38,7 +38,7 @@ pub fn bvmul(s: Bits, t: Bits) -> Bits
     Bits::new(s.width(), s.number().wrapping_mul(t.number()))
 }
 
-/// `bvudiv`: the quotient rounded down; by 0 all bits are set. Asks for two vectors of one width.
+/// `bvudiv`: the quotient rounded down; by 0 all bits are set. Requires two vectors of one width.
 pub fn bvudiv(s: Bits, t: Bits) -> Bits
     requires { s.width ≡ t.width }
     ensures { result ≡ vector s.width (meaning.bvudiv s.width s.number t.number) }
@@ -50,7 +50,7 @@ pub fn bvudiv(s: Bits, t: Bits) -> Bits
     }
 }
 
-/// `bvurem`: the remainder of that quotient; by 0 it is the dividend. Asks for two vectors of one width.
+/// `bvurem`: the remainder of that quotient; by 0 it is the dividend. Requires two vectors of one width.
 pub fn bvurem(s: Bits, t: Bits) -> Bits
     requires { s.width ≡ t.width }
     ensures { result ≡ vector s.width (meaning.bvurem s.width s.number t.number) }

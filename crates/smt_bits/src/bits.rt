@@ -38,14 +38,14 @@ impl Bits {
         }
     }
 
-    /// How many bits it has.
+    /// The width, in bits.
     pub fn width(self) -> Width
         ensures { result ≡ self.width }
     {
         self.width
     }
 
-    /// The number that its bits are, below 2^width; the first bit is the highest.
+    /// The number that the bits are, below 2^width; the first bit is the highest.
     pub fn number(self) -> u128
         ensures value { result ≡ self.number }
         ensures below { result < 2 ^ self.width }
@@ -53,7 +53,7 @@ impl Bits {
         self.bits
     }
 
-    /// The integer that its bits are, read as signed: -2^127 to 2^127 - 1.
+    /// The integer that the bits are, read as signed: from -2^127 to 2^127 - 1.
     pub fn signed(self) -> i128
         ensures { result ≡ signed self.width self.number }
     {
@@ -61,7 +61,7 @@ impl Bits {
         (self.bits << unused).cast_signed() >> unused
     }
 
-    // The bit vector of this width for an integer modulo 2^width.
+    // The bit vector of this width for an integer, modulo 2^width.
     pub(crate) fn from_signed(width: Width, z: i128) -> Bits
         ensures { result ≡ vector width (modulo width z) }
     {
@@ -69,7 +69,7 @@ impl Bits {
     }
 }
 
-// The number whose bits are all set up to the width.
+// The number with the lowest `width` bits set, and no other bit.
 fn mask(width: Width) -> u128
     ensures { result ≡ 2 ^ width - 1 }
 {

@@ -1,4 +1,4 @@
-//! Operators that go bit by bit (SMT-LIB 2.6, theory FixedSizeBitVectors; from `bvxor` on, of logic QF_BV).
+//! Operators that work bit by bit (SMT-LIB 2.6, theory FixedSizeBitVectors; from `bvxor` on, of logic QF_BV).
 //! No function here changes a width.
 
 ghost use Rattle.std.specs.Prelude.{◌≡◌};
@@ -7,14 +7,14 @@ ghost use Rattle.smt_bits.specs.Operators as meaning;
 
 use crate::bits::Bits;
 
-/// `bvnot`: each bit is the other one.
+/// `bvnot`: the complement of each bit.
 pub fn bvnot(s: Bits) -> Bits
     ensures { result ≡ vector s.width (meaning.bvnot s.width s.number) }
 {
     Bits::new(s.width(), !s.number())
 }
 
-/// `bvand`: bit by bit, whether both are set. Asks for two vectors of one width.
+/// `bvand`: bit by bit, whether both are set. Requires two vectors of one width.
 pub fn bvand(s: Bits, t: Bits) -> Bits
     requires { s.width ≡ t.width }
     ensures { result ≡ vector s.width (meaning.bvand s.width s.number t.number) }
@@ -22,7 +22,7 @@ pub fn bvand(s: Bits, t: Bits) -> Bits
     Bits::new(s.width(), s.number() & t.number())
 }
 
-/// `bvor`: bit by bit, whether one of them is set. Asks for two vectors of one width.
+/// `bvor`: bit by bit, whether one of them is set. Requires two vectors of one width.
 pub fn bvor(s: Bits, t: Bits) -> Bits
     requires { s.width ≡ t.width }
     ensures { result ≡ vector s.width (meaning.bvor s.width s.number t.number) }
@@ -30,7 +30,7 @@ pub fn bvor(s: Bits, t: Bits) -> Bits
     Bits::new(s.width(), s.number() | t.number())
 }
 
-/// `bvxor`: bit by bit, whether just one is set. Asks for two vectors of one width.
+/// `bvxor`: bit by bit, whether just one is set. Requires two vectors of one width.
 pub fn bvxor(s: Bits, t: Bits) -> Bits
     requires { s.width ≡ t.width }
     ensures { result ≡ vector s.width (meaning.bvxor s.width s.number t.number) }
@@ -38,7 +38,7 @@ pub fn bvxor(s: Bits, t: Bits) -> Bits
     Bits::new(s.width(), s.number() ^ t.number())
 }
 
-/// `bvnand`: bit by bit, whether not both are set. Asks for two vectors of one width.
+/// `bvnand`: bit by bit, whether not both are set. Requires two vectors of one width.
 pub fn bvnand(s: Bits, t: Bits) -> Bits
     requires { s.width ≡ t.width }
     ensures { result ≡ vector s.width (meaning.bvnand s.width s.number t.number) }
@@ -46,7 +46,7 @@ pub fn bvnand(s: Bits, t: Bits) -> Bits
     Bits::new(s.width(), !(s.number() & t.number()))
 }
 
-/// `bvnor`: bit by bit, whether neither is set. Asks for two vectors of one width.
+/// `bvnor`: bit by bit, whether neither is set. Requires two vectors of one width.
 pub fn bvnor(s: Bits, t: Bits) -> Bits
     requires { s.width ≡ t.width }
     ensures { result ≡ vector s.width (meaning.bvnor s.width s.number t.number) }
@@ -54,7 +54,7 @@ pub fn bvnor(s: Bits, t: Bits) -> Bits
     Bits::new(s.width(), !(s.number() | t.number()))
 }
 
-/// `bvxnor`: bit by bit, whether they are equal. Asks for two vectors of one width.
+/// `bvxnor`: bit by bit, whether they are equal. Requires two vectors of one width.
 pub fn bvxnor(s: Bits, t: Bits) -> Bits
     requires { s.width ≡ t.width }
     ensures { result ≡ vector s.width (meaning.bvxnor s.width s.number t.number) }

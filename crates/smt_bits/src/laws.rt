@@ -1,4 +1,4 @@
-//! What holds of the definitions that the contracts name. Nothing here does anything: each contract is a law.
+//! Laws of the definitions that the contracts name. Nothing here does anything: each contract is a law.
 
 pub mod arithmetic;
 pub mod bitwise;

@@ -5,10 +5,10 @@
 //! QF_BV adds, under the operator's own name. Nothing here allocates, or knows a term or a sort.
 //!
 //! **The contract for the layer above**: each function gives the vector, or the truth value, that
-//! `specs/Operators.antt` has for the operator, on numbers of any size: the words of 128 bits stand in the
-//! code alone. What the definitions come to is said by the laws of [`laws`].
+//! `specs/Operators.antt` has for the operator. The definitions speak of numbers of any size; only the code
+//! has words of 128 bits. The laws of [`laws`] say what follows from the definitions.
 //!
-//! A call, of `(bvudiv #x07 #x02)`:
+//! A call, for `(bvudiv #x07 #x02)`:
 //!
 //! ```text
 //! let seven = literals::hex(b"07")?;                                        // 7 in 8 bits

@@ -10,8 +10,9 @@ use crate::bits::Bits;
 use smt_theory::{Width, digit};
 
 /// The bit vector that hexadecimal digits of either case spell, four bits a digit (SMT-LIB 2.6, section 3.1
-/// and theory FixedSizeBitVectors); `None` where there is none or more than 32. What comes of other bytes
-/// than digits is of no interest.
+/// and theory FixedSizeBitVectors).
+///
+/// `None` where there are no digits or more than 32. For bytes that are no digits the result means nothing.
 pub fn hex(digits: &[u8]) -> Option<Bits>
     ensures { result ≡ known_constant 16 4 digits.now }
 {
@@ -19,15 +20,16 @@ pub fn hex(digits: &[u8]) -> Option<Bits>
 }
 
 /// The bit vector that binary digits spell, one bit a digit (SMT-LIB 2.6, section 3.1 and theory
-/// FixedSizeBitVectors); `None` where there is none or more than 128. What comes of other bytes than digits
-/// is of no interest.
+/// FixedSizeBitVectors).
+///
+/// `None` where there are no digits or more than 128. For bytes that are no digits the result means nothing.
 pub fn bin(digits: &[u8]) -> Option<Bits>
     ensures { result ≡ known_constant 2 1 digits.now }
 {
     constant(2, 1, None, digits)
 }
 
-/// The same as `hex`, where the number that the digits spell is known: what `smt_theory::number` says of them.
+/// The bit vector that `hex` gives, where `number` is what `smt_theory::number` returns for the digits.
 pub fn hex_of(number: Option<u128>, digits: &[u8]) -> Option<Bits>
     requires { number ≡ below_word (digits_value 16 digits.now) }
     ensures { result ≡ known_constant 16 4 digits.now }
@@ -35,7 +37,7 @@ pub fn hex_of(number: Option<u128>, digits: &[u8]) -> Option<Bits>
     constant(16, 4, number, digits)
 }
 
-/// The same as `bin`, where the number that the digits spell is known: what `smt_theory::number` says of them.
+/// The bit vector that `bin` gives, where `number` is what `smt_theory::number` returns for the digits.
 pub fn bin_of(number: Option<u128>, digits: &[u8]) -> Option<Bits>
     requires { number ≡ below_word (digits_value 2 digits.now) }
     ensures { result ≡ known_constant 2 1 digits.now }
@@ -43,7 +45,8 @@ pub fn bin_of(number: Option<u128>, digits: &[u8]) -> Option<Bits>
     constant(2, 1, number, digits)
 }
 
-// The digits in a base, each of so many bits. Their number is read of them, where it is not known already.
+// The bit vector of digits in a base, each of `bits` bits. Their number is computed where it is not known
+// already.
 fn constant(base: u8, bits: u8, known: Option<u128>, digits: &[u8]) -> Option<Bits>
     requires some { 1 ≤ bits }
     requires within { bits ≤ 4 }

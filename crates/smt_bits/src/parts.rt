@@ -10,7 +10,7 @@ ghost use Rattle.smt_bits.specs.Parts.{concatenation, extraction, repetition, si
 use crate::bits::Bits;
 use smt_theory::Width;
 
-/// `concat`: the bits of s before those of t. `None` where they pass 128 bits together.
+/// `concat`: the bits of s before those of t. `None` where they are more than 128 bits together.
 pub fn concat(s: Bits, t: Bits) -> Option<Bits>
     ensures { result ≡ concatenation s t }
 {
@@ -19,7 +19,8 @@ pub fn concat(s: Bits, t: Bits) -> Option<Bits>
     Some(Bits::new(width, s.number() << below | t.number()))
 }
 
-/// `(_ extract i j)`: the bits from i down to j, of which 0 is the lowest. `None` unless `j <= i < m`.
+/// `(_ extract i j)`: the bits from place i down to place j, where 0 is the lowest. `None` unless
+/// `j <= i < m`.
 pub fn extract(i: u64, j: u64, s: Bits) -> Option<Bits>
     ensures { result ≡ extraction i j s }
 {
@@ -30,7 +31,8 @@ pub fn extract(i: u64, j: u64, s: Bits) -> Option<Bits>
     Some(Bits::new(width, s.number() >> j))
 }
 
-/// `(_ repeat i)`: the bits of s, i times. `None` for 0 times, and where they pass 128 bits together.
+/// `(_ repeat i)`: the bits of s, i times. `None` for 0 times, and where they are more than 128 bits
+/// together.
 pub fn repeat(i: u64, s: Bits) -> Option<Bits>
     ensures { result ≡ repetition i s }
 {
@@ -44,14 +46,14 @@ pub fn repeat(i: u64, s: Bits) -> Option<Bits>
     Some(repeated)
 }
 
-/// `(_ zero_extend i)`: the bits of s after i zeros. `None` where they pass 128 bits together.
+/// `(_ zero_extend i)`: the bits of s after i zeros. `None` where they are more than 128 bits together.
 pub fn zero_extend(i: u64, s: Bits) -> Option<Bits>
     ensures { result ≡ zero_extension i s }
 {
     Some(Bits::new(extended(s.width(), i)?, s.number()))
 }
 
-/// `(_ sign_extend i)`: the bits of s after i copies of the highest. `None` where they pass 128 bits
+/// `(_ sign_extend i)`: the bits of s after i copies of the highest. `None` where they are more than 128 bits
 /// together.
 pub fn sign_extend(i: u64, s: Bits) -> Option<Bits>
     ensures { result ≡ sign_extension i s }
@@ -59,14 +61,14 @@ pub fn sign_extend(i: u64, s: Bits) -> Option<Bits>
     Some(Bits::from_signed(extended(s.width(), i)?, s.signed()))
 }
 
-/// `(_ rotate_left i)`: the bits of s, of which the highest i % m stand last.
+/// `(_ rotate_left i)`: the bits of s, with the highest i % m moved to the end.
 pub fn rotate_left(i: u64, s: Bits) -> Bits
     ensures { result ≡ vector s.width (meaning.rotate_left i s.width s.number) }
 {
     rotated(i % s.width().bits(), s)
 }
 
-/// `(_ rotate_right i)`: the bits of s, of which the lowest i % m stand first.
+/// `(_ rotate_right i)`: the bits of s, with the lowest i % m moved to the front.
 pub fn rotate_right(i: u64, s: Bits) -> Bits
     ensures { result ≡ vector s.width (meaning.rotate_right i s.width s.number) }
 {
@@ -74,15 +76,15 @@ pub fn rotate_right(i: u64, s: Bits) -> Bits
     rotated(m - i % m, s)
 }
 
-// The width with i bits more, if it is one.
+// The width with i more bits, if it is a width.
 fn extended(width: Width, i: u64) -> Option<Width>
     ensures { result ≡ width_of (width + i) }
 {
     Width::new(width.bits().checked_add(i)?)
 }
 
-// To the left by k, at most the whole width. By 0 and by m nothing is shifted, since 128 is no shift of a
-// `u128`.
+// A rotation to the left by k, at most the whole width. By 0 and by m nothing is shifted, since a `u128`
+// cannot be shifted by 128.
 fn rotated(k: u64, s: Bits) -> Bits
     requires { k ≤ s.width }
     ensures { result ≡ vector s.width (meaning.rotated_left k s.width s.number) }

@@ -8,7 +8,7 @@ use crate::bits::Bits;
 use smt_theory::Width;
 
 /// `bvsdiv`: the quotient of the signed readings, rounded towards 0. By 0 it is 1 for a negative dividend,
-/// and -1 for others. Asks for two vectors of one width.
+/// and -1 for others. Requires two vectors of one width.
 pub fn bvsdiv(s: Bits, t: Bits) -> Bits
     requires { s.width ≡ t.width }
     ensures { result ≡ vector s.width (meaning.bvsdiv s.width s.number t.number) }
@@ -20,7 +20,7 @@ pub fn bvsdiv(s: Bits, t: Bits) -> Bits
     Bits::from_signed(s.width(), s.signed().wrapping_div(t.signed()))
 }
 
-/// `bvsrem`: the remainder of that division, with the dividend's sign. By 0 it is the dividend. Asks for two
+/// `bvsrem`: the remainder of that division, with the dividend's sign. By 0 it is the dividend. Requires two
 /// vectors of one width.
 pub fn bvsrem(s: Bits, t: Bits) -> Bits
     requires { s.width ≡ t.width }
@@ -33,7 +33,7 @@ pub fn bvsrem(s: Bits, t: Bits) -> Bits
 }
 
 /// `bvsmod`: the remainder of the division that rounds down, with the divisor's sign. By 0 it is the
-/// dividend. Asks for two vectors of one width.
+/// dividend. Requires two vectors of one width.
 pub fn bvsmod(s: Bits, t: Bits) -> Bits
     requires { s.width ≡ t.width }
     ensures { result ≡ vector s.width (meaning.bvsmod s.width s.number t.number) }
@@ -44,7 +44,7 @@ pub fn bvsmod(s: Bits, t: Bits) -> Bits
     Bits::from_signed(s.width(), flooring_remainder(s.signed(), t.signed()))
 }
 
-/// `bvcomp`: one bit, set where the two are equal. Asks for two vectors of one width.
+/// `bvcomp`: one bit, set where the two are equal. Requires two vectors of one width.
 pub fn bvcomp(s: Bits, t: Bits) -> Bits
     requires { s.width ≡ t.width }
     ensures { result ≡ vector 1 (meaning.bvcomp s.number t.number) }
@@ -52,7 +52,7 @@ pub fn bvcomp(s: Bits, t: Bits) -> Bits
     Bits::new(Width::new(1).unwrap(), u128::from(s.number() == t.number()))
 }
 
-// The remainder of the division that rounds down: 0, or of the divisor's sign.
+// The remainder of the division that rounds down: 0, or with the divisor's sign.
 fn flooring_remainder(a: i128, n: i128) -> i128
     requires { n ≢ pos 0 }
     ensures { result ≡ meaning.flooring_remainder a n }

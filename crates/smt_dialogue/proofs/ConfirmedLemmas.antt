@@ -40,29 +40,29 @@ use Rattle.smt_report.specs.declared.line.Line.{Line}
 use Rattle.smt_theory.specs.declared.profile.Profile.{Profile}
 
 -- the lines of a pair are among those of all pairs
-pub lines_at : (profile : Profile) (steps : ℕ) (before : List Pair) (p : Pair) (after : List Pair)
-    → lines_in profile steps true [] (before ++ p ∷ after) []
-    ≡ lines_in profile steps true [] before ((p ∷ after) ++ [])
-    ++ (lines_of_pair profile steps true before p after ++ lines_in profile steps true (before ++ p ∷ []) after [])
-lines_at profile steps before p after =
-    lines_in-append profile steps true [] before (p ∷ after) []
-    ∙ ap (λ (a : List Pair). lines_in profile steps true [] before ((p ∷ after) ++ [])
-    ++ (lines_of_pair profile steps true before p a ++ lines_in profile steps true (before ++ p ∷ []) after []))
+pub lines_at : (profile : Profile) (steps : ℕ) (closed : Bool) (before : List Pair) (p : Pair) (after : List Pair)
+    → lines_in profile steps closed [] (before ++ p ∷ after) []
+    ≡ lines_in profile steps closed [] before ((p ∷ after) ++ [])
+    ++ (lines_of_pair profile steps closed before p after ++ lines_in profile steps closed (before ++ p ∷ []) after [])
+lines_at profile steps closed before p after =
+    lines_in-append profile steps closed [] before (p ∷ after) []
+    ∙ ap (λ (a : List Pair). lines_in profile steps closed [] before ((p ∷ after) ++ [])
+    ++ (lines_of_pair profile steps closed before p a ++ lines_in profile steps closed (before ++ p ∷ []) after []))
     (append-nil after)
 
 -- the lines of a check that was answered sat
-pub lines_of_sat_at : (profile : Profile) (steps : ℕ) (before after : List Pair) (p : Pair) → IsSatCheck p
-    → lines_of_pair profile steps true before p after
-    ≡ lines_of_sat steps true (checks_in before + 1) (length before + 1) (signature_after profile before)
+pub lines_of_sat_at : (profile : Profile) (steps : ℕ) (closed : Bool) (before after : List Pair) (p : Pair)
+    → IsSatCheck p → lines_of_pair profile steps closed before p after
+    ≡ lines_of_sat steps closed (checks_in before + 1) (length before + 1) (signature_after profile before)
     (claims_of_check profile before p.command) ((length before + 1) + 1) after
-lines_of_sat_at profile steps before after p s =
+lines_of_sat_at profile steps closed before after p s =
     let w = is_word (codes "sat") s.answer s.sat in
     let e : s.answer ≡ Atom sexp.Symbol (codes "sat") = w.1 ∙ ap (λ (x : List ℕ). Atom sexp.Symbol x) w.2 in
     let claims = claims_of_check profile before p.command in
-    ap (λ (b : Bool). cond b (lines_of_answer profile steps true before claims
+    ap (λ (b : Bool). cond b (lines_of_answer profile steps closed before claims
     (checks_in before + 1) p.answer after) [])
     s.check
-    ∙ ap (λ (o : Option Sexp). lines_of_answer profile steps true before claims (checks_in before + 1) o after)
+    ∙ ap (λ (o : Option Sexp). lines_of_answer profile steps closed before claims (checks_in before + 1) o after)
     (s.answered ∙ ap (λ (a : Sexp). Some a) e)
 
 -- ## Judgements
@@ -179,7 +179,7 @@ judged_confirmed k n g (judgements.NotDecided a) h = absurd (cc)
 judged_confirmed k n g judgements.Confirmed h = refl
 
 -- where no model has a line, each is confirmed
-all_confirmed : (steps : ℕ) (k n : ℕ) (names : Signature) (as' : List Claimed) (ms : List Printed)
+pub all_confirmed : (steps : ℕ) (k n : ℕ) (names : Signature) (as' : List Claimed) (ms : List Printed)
     → unconfirmed_line steps k n names as' ms ≡ None
     → AllByRecursion (λ (m : Printed). judgement_of steps names as' m.parts ≡ judgements.Confirmed) ms
 all_confirmed steps k n names as' [] h = tt
@@ -260,10 +260,10 @@ confirmed_at profile steps laws pairs before after p place faultless refuted und
     let parts : lines_in profile steps true [] pairs []
     ≡ lines_in profile steps true [] before ((p ∷ after) ++ [])
     ++ (lines_of_pair profile steps true before p after ++ lines_in profile steps true (before ++ p ∷ []) after []) =
-    ap (λ (ps : List Pair). lines_in profile steps true [] ps []) place ∙ lines_at profile steps before p after in
+    ap (λ (ps : List Pair). lines_in profile steps true [] ps []) place ∙ lines_at profile steps true before p after in
     let here : (test : Line → Bool) → list_any test (lines_in profile steps true [] pairs []) ≡ false
     → list_any test (lines_of_sat steps true k n names claimed (n + 1) after) ≡ false =
-    λ test h. ap (list_any test) (sym (lines_of_sat_at profile steps before after p sat))
+    λ test h. ap (list_any test) (sym (lines_of_sat_at profile steps true before after p sat))
     ∙ (none_of test (lines_of_pair profile steps true before p after)
     (lines_in profile steps true (before ++ p ∷ []) after [])
     (none_of test (lines_in profile steps true [] before ((p ∷ after) ++ []))

@@ -20,6 +20,7 @@ pub mod ReadSoFarLemmas
 pub mod ConfirmedLemmas
 pub mod ValidityLemmas
 pub mod VerdictLawLemmas
+pub mod DecidedLemmas
 pub mod WindowLemmas
 pub mod StructureLemmas
 pub mod TreesLemmas

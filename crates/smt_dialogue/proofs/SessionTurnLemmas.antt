@@ -5,12 +5,13 @@ use Rattle.std.specs.List.{list_any}
 use Rattle.smt_dialogue.specs.InForce.{start_by}
 use Rattle.smt_dialogue.proofs.AdvanceLemmas.{cut_at}
 use Rattle.smt_dialogue.proofs.CheckLineLemmas.{no_verdicts}
+use Rattle.smt_dialogue.proofs.FirstFaultLemmas.{none_of}
 use Rattle.smt_dialogue.proofs.SessionGrowthLemmas.{AreTold, ended_lines, ended_verdict}
 use Rattle.smt_dialogue.specs.FirstFault.{TextSoFar, Waits, turn_at}
 use Rattle.smt_dialogue.specs.History.{AreDecided, AreFirstDecided, History, Told}
 use Rattle.smt_dialogue.specs.Report.{ArePaired}
 use Rattle.smt_dialogue.specs.Session.{AreCounted, AreLines, IsCounted, IsVerdictIn, StandsFor, lines_waiting}
-use Rattle.smt_dialogue.specs.SoFar.{is_verdict_line}
+use Rattle.smt_dialogue.specs.SoFar.{IsBeginning, is_verdict_line}
 use Rattle.smt_dialogue.specs.Internal.PairingView.{HasAdvanced, HasRested, IsAdvance, IsCut, waiting}
 use Rattle.smt_dialogue.specs.Internal.SessionStep.{IsFed, IsFedBy, IsGoingOn}
 use Rattle.smt_dialogue.specs.Internal.SessionView.{AreRead, GoesOn, HasEnded, texts_of}
@@ -234,3 +235,13 @@ pub pause_less : (a : Advance) (enough : Option ℕ) (before after : ℕ) → a 
     → IsAdvance a enough before after → (is_some enough ≡ true) × (2 ^ 64 - after < 2 ^ 64 - before)
 pause_less Pauses enough before after is h = (h.0, omega (arith, h.1, h.2))
 pause_less (Rests verdict) enough before after is h = absurd (cc)
+
+-- ---- lines are added, and no line of a verdict is among all
+
+pub none_added : (taken before after : List Line) → IsBeginning before after
+    → list_any is_verdict_line (taken ++ after) ≡ false
+    → list_any is_verdict_line after ≡ list_any is_verdict_line before
+none_added taken before after begins silent =
+    let none = (none_of is_verdict_line taken after silent).1 in
+    none
+    ∙ sym (none_of is_verdict_line before begins.0 (ap (list_any is_verdict_line) (sym begins.1) ∙ none)).0

@@ -415,7 +415,7 @@ invalid_means laws options script answers st at' ls v rs ra j verdict h =
     let line = lines.Refuted k n found.model.model.command claim in
     let same : found.model.refuted.claim ≡ claim = sym over.2.claim_is in
     let here : lines_of_pair options.profile options.limit.steps true before p at_pair.last ≡ line ∷ [] =
-    lines_of_sat_at options.profile options.limit.steps before at_pair.last p check.sat ∙ found.lines_are
+    lines_of_sat_at options.profile options.limit.steps true before at_pair.last p check.sat ∙ found.lines_are
     ∙ ap (λ (l : Line). l ∷ []) found.model.refuted.line_is
     ∙ ap (λ (c : Claim). lines.Refuted k n found.model.model.command c ∷ []) same in
     let end : List Line = lines.Verdict (verdict_of (mine ++ lines_of_end j.fault))
@@ -450,7 +450,7 @@ invalid_means laws options script answers st at' ls v rs ra j verdict h =
       line = j.lines_are
           ∙ ap (λ (x : List Line). x ++ end)
           (no_fault ∙ ap (λ (ps : List Pair). lines_in options.profile options.limit.steps true [] ps []) at_pair.place
-          ∙ lines_at options.profile options.limit.steps before p at_pair.last
+          ∙ lines_at options.profile options.limit.steps true before p at_pair.last
           ∙ ap (λ (x : List Line). l1 ++ (x ++ l2)) here)
           ∙ line_place l1 l2 end line;
     }

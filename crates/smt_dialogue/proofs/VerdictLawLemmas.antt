@@ -41,7 +41,7 @@ confirmed options script answers before check after c v =
     v.confirmed before after check (valid_pairs options script answers (before ++ check ∷ after) v c.paired)
     c.sat
 
-all_at : {A : Type 0} (P : A → Type 0) (xs : List A) (x : A) (ys : List A) → AllByRecursion P (xs ++ x ∷ ys)
+pub all_at : {A : Type 0} (P : A → Type 0) (xs : List A) (x : A) (ys : List A) → AllByRecursion P (xs ++ x ∷ ys)
     → P x
 all_at P [] x ys h = h.0
 all_at P (y ∷ xs) x ys h = all_at P xs x ys h.1

@@ -50,6 +50,8 @@ pub record HasRun (options : Options) (before after : Devices) (verdict : Verdic
   pub script : List ℕ
   pub answers : List ℕ
   pub pulled : ArePulled before after script answers
+  pub script_ended : after.script.ended ≡ true
+  pub answers_ended : after.answers.ended ≡ true
   pub script_end : IsAtEnd after.script.to_come
   pub answers_end : IsAtEnd after.answers.to_come
   pub lines : List Line

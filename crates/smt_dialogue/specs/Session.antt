@@ -17,6 +17,10 @@ use Rattle.smt_report.specs.declared.verdict.Verdict.{Verdict}
 abbrev pub lines_waiting : Session → List Line
 lines_waiting s = s.exchange.dialogue.decided.lines.items
 
+-- whether the line of the verdict is among them
+abbrev pub is_verdict_waiting : Session → Bool
+is_verdict_waiting s = list_any is_verdict_line (lines_waiting s)
+
 -- why a call has failed, if one has
 abbrev pub failure_of : Session → Option Failed
 failure_of s = s.failure

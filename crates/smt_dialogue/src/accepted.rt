@@ -1,5 +1,5 @@
-//! The dialogue so far: what is in force, the checks, and the lines of the report. This file pairs nothing: it is
-//! handed each command with its answer.
+//! The dialogue so far: what is in force, the checks, and the lines of the report. This file pairs nothing: its
+//! caller gives it each command with its answer.
 
 ghost use Rattle.std.specs.Prelude.{Bool, ◌≡◌, ◌≤◌, ◌<◌, ◌+◌, ◌^◌, ◌++◌, ◌∷◌, List, [], None, Some, true};
 ghost use Rattle.std.specs.Prelude.{IfOk, IfErr, OnErr, OnOk, false, is_some, option_map};
@@ -34,14 +34,14 @@ use smt_report::{Line, Verdict};
 use smt_script::{Command, CommandFault, Kind, Stack};
 use std::alloc::Global;
 
-/// The dialogue so far, for the pairs of a command and an answer that it accepted.
+/// The dialogue so far: its state after the accepted commands, each with its answer.
 #[derive(Drop)]
 pub struct AcceptedPairs {
     pub stack: Stack,
     pub checks: Checks,
-    /// The lines that are decided.
+    /// The decided lines that were not handed out, and the count of all.
     pub decided: LineQueue,
-    /// How many commands and answers there were.
+    /// How many commands were accepted, and (in `answers`) how many of them have an answer.
     pub commands: u64,
     pub answers: u64,
 }
@@ -62,8 +62,8 @@ impl AcceptedPairs {
         }
     }
 
-    /// Accepts one more command, of this kind, with what it takes of the answers. At a fault of its effect the
-    /// dialogue stays as it is. Of an answer that is a model nothing may be left.
+    /// Accepts one more command, of this kind, with its answer, if it has one. Where the command has a flaw, the
+    /// dialogue stays as it is. The trees of an answer that is a model may be gone after the call.
     pub(crate) fn accept(
         &mut self,
         command: &Command,
@@ -112,7 +112,7 @@ impl AcceptedPairs {
         Ok(())
     }
 
-    /// Whether so many lines wait, and a model may be judged next.
+    /// Whether at least `enough` lines wait and a model may be judged next. With `None` there are never enough.
     pub(crate) fn has_enough(&self, enough: Option<usize>) -> bool
         ensures { result ≡ true → is_some enough ≡ true }
     {
@@ -122,7 +122,7 @@ impl AcceptedPairs {
         }
     }
 
-    /// Has every line decided where the dialogue waits, with every window closed or not.
+    /// Decides the lines that are due where the dialogue waits: where `closed`, the open window ends, with its line.
     pub(crate) fn settle(&mut self, closed: bool) -> Result<(), Memory>
         requires few { self.old.checks.count < 2 ^ 64 }
         ensures settled { OnOk result ((taken : List ReportLine) (early : Bool) (pairs : List Pair)
@@ -141,8 +141,8 @@ impl AcceptedPairs {
         Ok(())
     }
 
-    /// Has every line decided where the dialogue ends, with the line of a fault or without one, and behind them
-    /// that of the verdict.
+    /// Ends the dialogue, and returns its verdict. Decides the line of the open window, then the line of the fault,
+    /// if there is one, and then the verdict line.
     pub(crate) fn end(&mut self, fault: Option<Line>) -> Result<Verdict, Memory>
         requires fault { IsFaultLine fault }
         requires few { self.old.checks.count < 2 ^ 64 }
@@ -165,7 +165,8 @@ impl AcceptedPairs {
         Ok(verdict)
     }
 
-    /// Ends the window of the last check, where what comes next closes it.
+    /// Ends the window of the last check, and decides its line, if that was not decided before. The caller knows that
+    /// what comes next closes the window.
     pub(crate) fn end_window(&mut self) -> Result<(), Memory>
         requires few { self.old.checks.count < 2 ^ 64 }
         ensures stands { OnOk result ((taken : List ReportLine) (early : Bool) (pairs : List Pair)
@@ -183,7 +184,7 @@ impl AcceptedPairs {
     }
 }
 
-// Applies a command to what is in force, if it took effect by its answer.
+// Applies a command to what is in force, if by its answer the command took effect.
 fn apply_if(
     answer: &Option<TakenAnswer>,
     stack: &mut Stack,

@@ -1,5 +1,5 @@
-//! What an answer says. A tree is asked once, where a command may take it. This file knows no pairs, and nothing
-//! that is in force.
+//! What an answer says. Each command that may accept a tree classifies it once. This file knows no pairs, and
+//! nothing that is in force.
 
 ghost use Rattle.std.specs.Prelude.{◌≡◌, option_map};
 ghost use Rattle.smt_trees.specs.Tree.{sexp_of};
@@ -29,7 +29,7 @@ pub enum Answer {
     Other,
 }
 
-/// An answer that a command took.
+/// An answer that a command accepted: what it says, and its tree.
 #[derive(Drop)]
 pub struct TakenAnswer {
     pub says: Answer,
@@ -37,7 +37,7 @@ pub struct TakenAnswer {
 }
 
 impl Answer {
-    /// Whether it has a form.
+    /// Whether the answer has a form.
     pub(crate) fn has(self, form: AnswerForm) -> bool
         ensures { result ≡ view.has form self }
     {
@@ -54,14 +54,14 @@ impl Answer {
         }
     }
 
-    /// Whether it says that its command took no effect (section 3.9.1).
+    /// Whether the answer says that its command took no effect (SMT-LIB 2.6, section 3.9.1).
     pub(crate) fn refuses(self) -> bool
         ensures { result ≡ view.refuses self }
     {
         matches!(self, Answer::Unsupported | Answer::Error)
     }
 
-    /// What a report says of a check with this answer, if that isn't `sat`.
+    /// What a report says of a check with this answer; `None` for `sat`, and for what is no answer to a check.
     pub(crate) fn unchecked(self) -> Option<CheckAnswer>
         ensures { result ≡ view.unchecked self }
     {
@@ -96,7 +96,7 @@ pub(crate) fn answer_of(tree: &Tree) -> Answer
     }
 }
 
-// Whether an answer is an error: a list of the symbol `error` and a string (section 3.9.1).
+// Whether an answer is an error: a list of the symbol `error` and a string (SMT-LIB 2.6, section 3.9.1).
 fn is_error(answer: &Tree) -> bool
     ensures { result ≡ answers.is_error (sexp_of answer.now) }
 {
@@ -112,7 +112,7 @@ fn is_error(answer: &Tree) -> bool
     }
 }
 
-// What a tree says that is no word of an answer, and no error.
+// What a tree says as an answer, where it is neither an error nor one of the symbols in `answer_of`.
 fn other_answer(tree: &Tree) -> Answer
     ensures { result ≡ view.other_answer (sexp_of tree.now) }
 {

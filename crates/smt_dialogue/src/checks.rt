@@ -1,5 +1,5 @@
-//! The window of a check: the models printed behind it, and its line. This file knows no text, and not what
-//! makes a model true.
+//! The window of a check: the models printed after the check, and its line. This file knows no text, and does
+//! not know what makes a model true.
 
 ghost use Rattle.std.specs.Prelude.{◌≡◌, ◌<◌, ◌+◌, ◌^◌, List, None, IfOk, Some, if◌then◌else◌, option_map, true};
 ghost use Rattle.smt_trees.specs.Tree.{sexp_of};
@@ -23,7 +23,7 @@ use smt_script::{Kind, Stack};
 use smt_trees::{Tree, Trees};
 use std::alloc::Global;
 
-/// A check that was answered `sat`, whose window has not ended.
+/// A check that was answered `sat`, whose window has not ended and whose line is not decided.
 #[derive(Clone, Copy)]
 pub struct PendingCheck {
     /// The number of the check, from 1.
@@ -37,14 +37,14 @@ pub struct PendingCheck {
 /// The lines that a command decides, in this order.
 #[derive(Clone, Copy)]
 pub struct NewLines {
-    /// That of the check whose window it ends.
+    /// The line of the check before: the command ends its window, or prints a model for it that is not confirmed.
     pub ended: Option<Line>,
-    /// Its own, where it is a check that was not answered `sat`.
+    /// The command's own line, where it is a check that was not answered `sat`.
     pub own: Option<Line>,
 }
 
 impl NewLines {
-    /// At most the line of a check whose window ends.
+    /// At most the line of the check before.
     pub(crate) fn of_ended(ended: Option<Line>) -> Self
         ensures { result ≡ record { ended = ended; own = None } }
     {
@@ -52,19 +52,19 @@ impl NewLines {
     }
 }
 
-/// The checks so far: how many steps a model may take, how many checks there were, and the one whose window has
-/// not ended.
+/// The checks so far: how many steps the evaluation of a model may take, and how many checks there were. `pending` is
+/// the last check, where it was answered `sat` and its line is not decided.
 #[derive(Drop)]
 pub struct Checks {
     pub limit: Limit,
     pub count: u64,
     pub pending: Option<PendingCheck>,
-    /// What evaluates models, one after another.
+    /// The machine that evaluates the models, one after another.
     pub machine: Machine,
 }
 
 impl Checks {
-    /// No checks.
+    /// The state before the first check.
     pub(crate) fn new(alloc: Global, limit: Limit) -> Self
         ensures checks { checks_state result
             ≡ record { limit = limit.steps; count = 0; pending = None } }
@@ -78,8 +78,8 @@ impl Checks {
         }
     }
 
-    /// Takes the command of this number and kind with its answer, and what is in force after it. Returns the
-    /// lines that it decides. Of a model nothing may be left.
+    /// Adds a command of this number (from 1) and kind, with its answer. `stack` holds what is in force after the
+    /// command. Returns the lines that it decides. The trees of an answer that is a model may be gone afterwards.
     pub(crate) fn take(
         &mut self,
         number: u64,
@@ -105,7 +105,7 @@ impl Checks {
         }
     }
 
-    // Takes a check: it ends the window of the one before it, and begins one if its answer is `sat`.
+    // Adds a check: it ends the window of the check before it, and begins one if its answer is `sat`.
     fn take_check(&mut self, number: u64, answer: &Option<TakenAnswer>) -> NewLines
         requires count { self.old.count + 1 < 2 ^ 64 }
         requires known { AreKnown answer.now }
@@ -122,7 +122,7 @@ impl Checks {
         NewLines { ended, own }
     }
 
-    // Begins the window of the last check, if its answer is `sat`; else the check has this line.
+    // Begins the window of the last check, if its answer is `sat`; otherwise returns the line of that check.
     fn begin_window(&mut self, command: u64, answer: Answer) -> Option<Line>
         requires { self.old.pending ≡ None }
         ensures limit { self.new.limit ≡ self.old.limit }
@@ -197,7 +197,7 @@ impl Checks {
             model.old))) }
     {
         let judgement = judge(&mut self.machine, stack, model, self.limit)?;
-        // What was large is not kept until the next model comes.
+        // (the machine gives up large memory now, and not when the next model comes)
         self.machine.forget();
         let line = line_of_judgement(pending, number, judgement);
         self.pending = if line.is_some() {
@@ -211,7 +211,7 @@ impl Checks {
         Ok(NewLines::of_ended(line))
     }
 
-    // Ends the window where a command took effect.
+    // Ends the window of the last check, if by this answer the command took effect.
     fn end_window_if(&mut self, answer: &Option<TakenAnswer>) -> NewLines
         requires { AreKnown answer.now }
         ensures limit { self.new.limit ≡ self.old.limit }
@@ -226,7 +226,8 @@ impl Checks {
         }
     }
 
-    /// Ends the window of the last check, if it has not ended, with its line: each model in it is confirmed.
+    /// Ends the window of the last check, and returns its line, if that was not decided before: each model in the
+    /// window is confirmed, or there is none.
     pub(crate) fn end_window(&mut self) -> Option<Line>
         ensures limit { self.new.limit ≡ self.old.limit }
         ensures line { result ≡ closing_line self.old.pending }
@@ -238,7 +239,7 @@ impl Checks {
     }
 }
 
-// The line of a check whose models are all confirmed.
+// The line of a check at the end of its window: all its models are confirmed, or it has none.
 fn confirmed_line(pending: PendingCheck) -> Line
     ensures { result ≡ check_lines.confirmed_line pending.check pending.command pending.some_model }
 {
@@ -251,7 +252,7 @@ fn confirmed_line(pending: PendingCheck) -> Line
     }
 }
 
-// The line of a check at a model, printed for command `model`, that isn't confirmed.
+// The line of a check for a model that the command of number `model` printed; `None` where it is confirmed.
 fn line_of_judgement(pending: PendingCheck, model: u64, judgement: Judgement) -> Option<Line>
     ensures { result ≡ check_lines.line_of_judgement pending.check pending.command model judgement }
 {

@@ -18,17 +18,17 @@ pub struct ReadClaim {
     pub term: TermId,
 }
 
-/// The claims that are left: assertions in force, and behind them the assumptions of the last check.
+/// The claims that are left: assertions in force, and after them the assumptions of the last check.
 #[derive(Clone, Copy)]
 pub(crate) struct Claims<'a> {
     pub(crate) assertions: &'a [Assertion],
     pub(crate) assumptions: &'a [TermId],
-    /// How many assumptions were taken.
+    /// How many assumptions `next` has returned.
     pub(crate) taken: usize,
 }
 
 impl<'a> Claims<'a> {
-    /// All of them.
+    /// All claims of a stack.
     pub(crate) fn new(stack: &'a Stack) -> Claims<'a>
         ensures { (commands : List Numbered) → StandsFor stack.now commands
             → AreClaimed (terms_of (library_of stack.now)) (claims_left result)
@@ -42,7 +42,7 @@ impl<'a> Claims<'a> {
         }
     }
 
-    /// Takes the next.
+    /// Removes and returns the next claim; `None` where none is left.
     pub(crate) fn next(&mut self) -> Option<ReadClaim>
         ensures { MatchOption result (claims_left self.old ≡ [])
             (λ next. claims_left self.old ≡ next ∷ claims_left self.new) }

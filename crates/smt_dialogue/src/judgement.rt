@@ -1,4 +1,4 @@
-//! What is found of a model under what is in force. This file knows no windows, and no lines of a report.
+//! Judges a model under what is in force. This file knows no windows, and no lines of a report.
 
 ghost use Rattle.std.specs.Prelude.{◌≡◌, ◌≤◌, List, Some, true, false, IfOk, IsTrue, MatchOption};
 ghost use Rattle.smt_values.specs.Element.{Truth, known_element};
@@ -28,10 +28,10 @@ use smt_trees::Trees;
 use smt_values::Value;
 use std::mem;
 
-// How many nodes a pass over all counts in the time that one step of a walk takes.
+// How many nodes a pass over all nodes counts in the time of one step of a walk.
 const NODES_A_STEP: u64 = 16;
 
-/// What is found of a model. Commands, and items of a model, count from 1.
+/// The judgement on a model. Commands, and items of a model, count from 1.
 #[derive(Clone, Copy)]
 pub enum Judgement {
     /// The first item with a flaw.
@@ -48,8 +48,8 @@ pub enum Judgement {
     Confirmed,
 }
 
-/// Judges a model under what is in force, which is evaluated where it costs as much as the limit or less. The
-/// machine keeps nothing of what it evaluated before but its memory.
+/// Judges a model under what is in force. The claims are evaluated only where all together cost at most the limit.
+/// Of what it evaluated before, the machine keeps nothing but its memory.
 pub(crate) fn judge(
     machine: &mut Machine,
     stack: &Stack,
@@ -63,7 +63,7 @@ pub(crate) fn judge(
 {
     let library = stack.library();
     let read = Interpretation::read(library, model);
-    // Its trees are gone before it is evaluated.
+    // (frees the trees of the model before its evaluation)
     *model = Trees::new(Vec::new(library.alloc()));
     match read {
         Ok(mut interpretation) => {
@@ -90,8 +90,8 @@ fn judgement_of_flaw(flaw: ModelFlaw) -> Judgement
     }
 }
 
-// The same of a model that was read. What costs little is found from the claims down, whatever else stands in
-// the script. Else all nodes are counted at once, if that takes no longer than the limit lets a walk take.
+// Judges a model that was read. A walk from the claims down is enough where they cost little, whatever else is in
+// the script. Otherwise a pass counts all nodes, if that takes no longer than the limit lets a walk take.
 fn judge_read(
     machine: &mut Machine,
     library: &Library,
@@ -121,7 +121,7 @@ fn judge_read(
     judge_within(machine, library, interpretation, claims, limit)
 }
 
-// Of the steps of a limit no more than a pass over so many nodes takes the time of.
+// The limit, but no more steps than a walk makes in the time of one pass over so many nodes.
 fn few_of(limit: Limit, nodes: u64) -> Limit
     ensures { result.steps ≤ limit.steps }
 {
@@ -133,15 +133,15 @@ fn few_of(limit: Limit, nodes: u64) -> Limit
     }
 }
 
-// Whether a judgement is another than that the limit is not enough.
+// Whether a judgement is final: `false` where the limit is not enough.
 fn is_decided(judgement: &Judgement) -> bool
     ensures { IsTrue result → judgement.now ≡ TooLong → ⊥ }
 {
     !matches!(judgement, Judgement::TooLong)
 }
 
-// What is found of claims over the definitions of a model and the script's own: nothing is evaluated
-// before it is known that the limit is enough for all.
+// Judges claims over the definitions of a model and the script's own. It evaluates nothing before it knows that
+// the limit is enough for all.
 fn judge_within(
     machine: &mut Machine,
     library: &Library,
@@ -164,8 +164,8 @@ fn judge_within(
     judge_counted(machine, library, interpretation, claims, steps)
 }
 
-// The first claim that is false, else the first that is open, where there are steps enough for all. The machine
-// is a local while it evaluates, since its fields are then held in registers.
+// Judges claims as `judge_claims` does, with a machine that is a local while it evaluates: so its fields are held
+// in registers. The steps are enough for all claims.
 fn judge_counted(
     machine: &mut Machine,
     library: &Library,
@@ -192,7 +192,7 @@ fn judge_counted(
     judgement
 }
 
-// What the evaluation of all claims costs, if it is no more than the limit.
+// The cost of evaluating all claims; `None` where it is more than the limit.
 fn cost_of_all(
     library: &Library,
     interpretation: &Interpretation,
@@ -219,8 +219,8 @@ fn cost_of_all(
     Ok(Some(limit.steps - steps))
 }
 
-// The first claim that is false over the definitions of a model and the script's own, else the first that is
-// open. There are steps enough for all.
+// Finds the first claim that is false over the definitions of a model and the script's own, else the first that
+// is open. The steps are enough for all claims.
 fn judge_claims(
     machine: &mut Machine,
     library: &Library,

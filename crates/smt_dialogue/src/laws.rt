@@ -44,7 +44,7 @@ ghost use Rattle.smt_report.specs.declared.line.Line.TheVariants.{Refuted};
 use smt_script::laws::assertions_in_force_stand;
 use smt_text::laws::{every_text_reads, one_forest, one_reading};
 
-/// So many commands have at most one pairing with the answers, and it leaves the same.
+/// So many commands have at most one pairing with the answers, and it leaves the same trees of both texts.
 pub fn one_pairing()
     ensures { (start : Start) (xs ys : List Pair) (trees answers later later' rest rest' : Sexps)
         → length xs ≡ length ys → IsPairing start xs trees later answers rest
@@ -52,8 +52,8 @@ pub fn one_pairing()
         → (xs ≡ ys) × (later ≡ later') × (rest ≡ rest') }
 {}
 
-/// A dialogue so far, with the ends of its texts told or not, is at rest behind some pairs, and behind no
-/// others: it waits there, or has ended. Where both ends were told it has ended.
+/// A dialogue so far, whether the ends of its texts were reported or not, is at rest after some pairs, and after no
+/// others: it waits there, or has ended. Where both ends were reported it has ended.
 pub fn one_rest()
     ensures some { (start : Start) (script answers : TextSoFar)
         → (pairs : List Pair) × (turn : Turn) × IsRest turn
@@ -152,9 +152,8 @@ pub fn ill_sorted_assumption_is_not_valid()
         → IsValid options script answers → ⊥ }
 {}
 
-/// In a valid dialogue the definitions of a model of a `sat` are those of a model of the names in force, and
-/// with the script's own behind them they are a structure: each well sorted over the earlier ones, and none
-/// twice.
+/// In a valid dialogue the definitions of a model of a `sat` are those of a model of the names in force. Followed
+/// by the script's own they are a structure: each well sorted over the earlier ones, and none twice.
 pub fn definitions_of_valid_are_well_sorted()
     ensures { (options : Options) (script answers : List ℕ) (before after : List Pair)
         (check : Pair)
@@ -166,8 +165,8 @@ pub fn definitions_of_valid_are_well_sorted()
         × IsStructure (structure_at options.profile definitions before) }
 {}
 
-/// A dialogue in which a model of a check that was answered `sat` makes an assertion in force other than
-/// true, for one choice at least of what division by zero gives, is not valid.
+/// A dialogue is not valid where a model of a check that was answered `sat` makes an assertion in force other than
+/// true. One choice of what division by zero gives is enough.
 pub fn untrue_assertion_is_not_valid()
     ensures { (options : Options) (script answers : List ℕ) (before after earlier : List Pair)
         (check : Pair)
@@ -180,8 +179,8 @@ pub fn untrue_assertion_is_not_valid()
         → IsValid options script answers → ⊥ }
 {}
 
-/// A dialogue in which a model of a check that was answered `sat` makes an assumption of the check other than
-/// true, for one choice at least of what division by zero gives, is not valid.
+/// A dialogue is not valid where a model of a check that was answered `sat` makes an assumption of the check other
+/// than true. One choice of what division by zero gives is enough.
 pub fn untrue_assumption_is_not_valid()
     ensures { (options : Options) (script answers : List ℕ) (before after : List Pair)
         (check : Pair)
@@ -194,9 +193,9 @@ pub fn untrue_assumption_is_not_valid()
         → IsValid options script answers → ⊥ }
 {}
 
-/// An invalid dialogue has a check that was answered `sat`, with a complete model in its window that makes an
-/// assertion in force or an assumption of the check, which is a formula, false in the structure that it gives,
-/// whatever division by zero gives; and the line that names the three.
+/// An invalid dialogue has a check that was answered `sat`, with a complete model in its window. An assertion in
+/// force or an assumption of the check, which is a formula, is false in the structure that this model gives,
+/// whatever division by zero gives. The report has the line that names the three.
 pub fn invalid_names_what_is_false()
     ensures { (options : Options) (script answers : List ℕ) (ls : List Line)
         → IsInvalid options script answers ls
@@ -215,8 +214,8 @@ pub fn invalid_names_what_is_false()
         (length before + 1) model.command claim ∷ last) }
 {}
 
-/// A model is too long exactly where it is one of the names in force, and what is claimed of it costs more than
-/// the limit: no model with a fault is, and none is evaluated before.
+/// A model is too long exactly where it is a model of the names in force, and its claims cost more than the limit.
+/// So no model with a fault is too long.
 pub fn too_long_models_cost_more_than_the_limit()
     ensures long { (steps : ℕ) (names : Signature) (claims : List Claimed) (parts : Sexps)
         → judgement_of steps names claims parts ≡ TooLong
@@ -228,8 +227,8 @@ pub fn too_long_models_cost_more_than_the_limit()
         → judgement_of steps names claims parts ≡ TooLong }
 {}
 
-/// In the window of a check nothing that is in force changes, nor do its assumptions, where it took effect, and
-/// it goes on to the first command that ends it.
+/// In the window of a check nothing that is in force changes, and neither do the assumptions of a check that took
+/// effect. The window goes on to the first command that ends it.
 pub fn nothing_changes_in_a_window()
     ensures unchanged { (profile : Profile) (before after first last : List Pair) (check : Pair)
         → is_check check.command ≡ true
@@ -244,8 +243,9 @@ pub fn nothing_changes_in_a_window()
         × ((next : Pair) (later : List Pair) → rest ≡ next ∷ later → closes next ≡ true) }
 {}
 
-/// The assertions in force behind pairs are those of pairs that took effect and stand: an assertion does
-/// behind itself, and stays behind a pair that removes nothing of its level (SMT-LIB 2.6, section 4.1.4).
+/// The assertions in force after pairs are those of pairs that took effect, and that no later pair removed. An
+/// assertion is in force right after its own pair, and stays in force after a pair that removes nothing of its level
+/// (SMT-LIB 2.6, section 4.1.4).
 pub fn assertions_in_force_are_asserted()
     ensures found { (profile : Profile) (before : List Pair) (first last : List Asserted) (a : Asserted)
         → assertions_after profile before ≡ first ++ a ∷ last

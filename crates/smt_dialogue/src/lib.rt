@@ -1,9 +1,20 @@
-//! The dialogue of a script and its answers: which answer belongs to which command, what each `sat` comes to,
-//! and the report.
+//! The dialogue of a script and its answers: which answer belongs to which command, whether the models confirm
+//! each `sat`, and the report.
 //!
-//! The layer above uses one contract: `validate` answers the report of the two texts, and its verdict means
-//! what it says. So of the script `(check-sat)` and the answer `unsat` the lines are `check 1 at command 1:
-//! unsat` and that of the verdict, which is valid.
+//! The layer above uses one contract: `validate` returns the report of the two texts, and its verdict means what
+//! it says. `Session` accepts the texts in pieces, and `run` pulls them from two sources.
+//!
+//! A call, and the lines of the report that it returns:
+//!
+//! ```text
+//! let options = Options { print_success: false, profile: Profile::Base, limit: Limit { steps: 10_000_000 } };
+//! let script = b"(declare-const p Bool)(assert p)(check-sat)(get-model)(assert (not p))(check-sat)";
+//! let answers = b"sat ((define-fun p () Bool true)) unsat";
+//! validate(alloc, script, answers, options)?                                // its `lines`:
+//! check 1 at command 3: sat, confirmed
+//! check 2 at command 6: unsat
+//! verdict: valid, confirmed 1, refuted 0, undecided 0, unchecked 1
+//! ```
 #![tactic(auto)]
 
 mod accepted;

@@ -1,5 +1,5 @@
-//! Lines that are decided, in their order: those that were not handed out are kept, and all are counted. This
-//! file knows no dialogue.
+//! Decided lines, in order: the queue keeps the lines that it has not handed out, and counts all. This file knows
+//! no dialogue.
 
 ghost use Rattle.std.specs.Prelude.{◌≡◌, ◌<◌, ◌+◌, ◌^◌, ◌++◌, List, [], false, length, IfOk, OnOk, OnErr};
 ghost use Rattle.std.specs.List.{list_any};
@@ -16,7 +16,7 @@ use smt_report::{Line, Tally, Verdict};
 use std::alloc::Global;
 use std::mem;
 
-/// Lines that are decided and were not handed out, and how many of each kind were decided in all.
+/// The decided lines that were not handed out, and how many of each kind were decided in all.
 #[derive(Drop)]
 pub struct LineQueue {
     alloc: Global,
@@ -25,7 +25,7 @@ pub struct LineQueue {
 }
 
 impl LineQueue {
-    /// No line.
+    /// A queue of no line.
     pub(crate) fn new(alloc: Global) -> Self
         ensures lines { result.lines.items ≡ [] }
         ensures tally { result.tally ≡ tally_of [] }
@@ -37,7 +37,7 @@ impl LineQueue {
         }
     }
 
-    /// Adds the lines that a command decided. Where memory is refused, nothing is changed.
+    /// Adds the lines that a command decided. Where memory is refused, nothing changes.
     pub(crate) fn add(&mut self, new: NewLines) -> Result<(), Memory>
         ensures lines { OnOk result (self.new.lines.items ≡ self.old.lines.items ++ new_lines new) }
         ensures tally { OnOk result ((earlier : List ReportLine) → self.old.tally ≡ tally_of earlier
@@ -52,7 +52,7 @@ impl LineQueue {
         }
     }
 
-    // Adds lines, behind those that there are.
+    // Adds lines after the lines that wait.
     fn add_all(&mut self, lines: &[Line]) -> Result<(), Memory>
         ensures lines { OnOk result (self.new.lines.items ≡ self.old.lines.items ++ lines.now) }
         ensures tally { OnOk result ((earlier : List ReportLine) → self.old.tally ≡ tally_of earlier
@@ -66,7 +66,8 @@ impl LineQueue {
         Ok(())
     }
 
-    /// Ends with the line of a fault or without one, and that of the verdict.
+    /// Adds the line of the fault, if there is one, and then the verdict line, and returns the verdict. Where memory
+    /// is refused, the line of the fault may have been added, and no verdict line.
     pub(crate) fn end(&mut self, fault: Option<Line>) -> Result<Verdict, Memory>
         requires { IsFaultLine fault }
         ensures ended { IfOk result (λ verdict. (earlier : List ReportLine)
@@ -78,7 +79,7 @@ impl LineQueue {
             (IsPartOf self.old.lines.items (lines_of_end fault) self.new.lines.items) }
         ensures more { IsBeginning self.old.lines.items self.new.lines.items }
     {
-        // (the line of a fault is none of those that are counted)
+        // (the tally does not count the line of a fault)
         let tally = self.tally;
         let verdict = tally.verdict(fault.is_some());
         if let Some(line) = fault {
@@ -88,7 +89,7 @@ impl LineQueue {
         Ok(verdict)
     }
 
-    /// Hands the lines out.
+    /// Returns the lines that wait, and keeps none. The tally stays.
     pub(crate) fn take(&mut self) -> Vec<Line>
         ensures taken { result.items ≡ self.old.lines.items }
         ensures rest { self.new.lines.items ≡ [] }

@@ -6,7 +6,7 @@ ghost use Rattle.smt_dialogue.specs.Answers as answers;
 use smt_script::Kind;
 use smt_theory::Profile;
 
-/// Which answers a command takes (SMT-LIB 2.6, section 3.9.1).
+/// Which answers a command accepts (SMT-LIB 2.6, section 3.9.1).
 #[derive(Clone, Copy)]
 pub enum AnswerForm {
     /// `success`, `unsupported` or an error.
@@ -28,16 +28,16 @@ pub enum AnswerForm {
 /// What a command needs of the answers.
 #[derive(Clone, Copy)]
 pub enum Need {
-    /// It takes none.
+    /// It accepts no answer.
     Nothing,
-    /// It takes the next one exactly where that has this form.
+    /// It accepts the next answer exactly where that has this form.
     Optional(AnswerForm),
-    /// It takes the next one, which has to have this form.
+    /// It accepts the next answer, which must have this form.
     Needed(AnswerForm),
 }
 
-/// What a command of this kind needs of the answers in a profile, where `success` is printed for a command that
-/// has no answer of its own, or is not (SMT-LIB 2.6, section 4.1.7).
+/// What a command of this kind needs of the answers in a profile. `print_success` says whether the solver prints
+/// `success` for a command that has no answer of its own (SMT-LIB 2.6, section 4.1.7).
 pub(crate) fn need_of(profile: Profile, print_success: bool, kind: Kind) -> Need
     ensures { result ≡ answers.need_of_kind profile print_success kind }
 {
@@ -58,8 +58,8 @@ pub(crate) fn need_of(profile: Profile, print_success: bool, kind: Kind) -> Need
     }
 }
 
-// What a command that sets a logic needs where `success` is not printed: in the wide profile it may be told
-// that its logic is not known.
+// What a command that sets a logic needs where the solver prints no `success`: in the wide profile the solver may
+// answer that it does not know the logic.
 fn silent_logic_need(profile: Profile) -> Need
     ensures { result ≡ answers.silent_logic_need profile }
 {

@@ -1,4 +1,4 @@
-//! What a command takes of the answers so far. This file knows nothing that is in force.
+//! The answer that a command accepts from the answers so far. This file knows nothing that is in force.
 
 ghost use Rattle.std.specs.Prelude.{◌≡◌, List, ℕ, IfOk, MatchOption, Some, None, true, false};
 ghost use Rattle.smt_text.specs.Reader.{bytes_fed, is_finished};
@@ -17,20 +17,20 @@ use crate::tree_queue::{Ahead, TreeQueue};
 use smt_eval::Memory;
 use smt_faults::TextFlaw;
 
-/// What is taken of the answers for a command.
+/// What a command finds in the answers so far.
 #[derive(Drop)]
 pub enum NextAnswer {
-    /// The next answer, or none.
+    /// It accepts the next answer, or none.
     Takes(Option<TakenAnswer>),
-    /// It has to wait for one.
+    /// It waits for more of the answers.
     Waits,
-    /// It needs an answer, and none comes: the fault behind the last, if there is one.
+    /// It needs an answer, and none comes. With the fault after the last answer, if there is one.
     Missing(Option<TextFlaw>),
-    /// It needs an answer, and the next one is none of its own.
+    /// It needs an answer, and the next one does not have the form that it needs.
     Unexpected,
 }
 
-/// What a command that needs this takes of the answers.
+/// Finds the answer of a command that needs this, and takes it out of the queue where the command accepts it.
 pub(crate) fn take_answer(need: Need, answers: &mut TreeQueue) -> Result<NextAnswer, Memory>
     ensures taken { IfOk result (λ found. (bytes : List ℕ) (text : TextSoFar) (rest : Sexps)
         → HasQueue answers.old bytes text rest → IsTaken found need text rest bytes answers.new) }
@@ -56,7 +56,7 @@ pub(crate) fn take_answer(need: Need, answers: &mut TreeQueue) -> Result<NextAns
     }
 }
 
-// Takes the answer that stands ready, where it has this form.
+// Takes the ready answer out of the queue, where it has this form.
 fn take_if(form: AnswerForm, answers: &mut TreeQueue) -> Option<TakenAnswer>
     ensures taken { (bytes : List ℕ) (text : TextSoFar) (rest : Sexps)
         → HasQueue answers.old bytes text rest

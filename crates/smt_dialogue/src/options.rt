@@ -1,24 +1,25 @@
-//! What a dialogue is checked with, beside its two texts. This file knows no command line.
+//! The options of a dialogue, beside its two texts. This file knows no command line.
 
 ghost use Rattle.std.specs.Prelude.{◌<◌, ◌-◌, ◌^◌};
 
 use smt_script::Start;
 use smt_theory::Profile;
 
-/// How many terms may be evaluated for a model: what the assertions in force cost (`smt_eval::cost`). A model
-/// that costs more is not evaluated.
+/// How many steps the evaluation of a model may cost: the sum over the assertions in force and the assumptions of
+/// the check (`smt_eval::cost`), from 0 to 2^64 - 2. A model that costs more is reported as too long, and is not
+/// evaluated.
 #[derive(Clone, Copy)]
 pub struct Limit {
     pub steps: u64,
-    // costs are counted up to 2^64 - 1, which says that much or more
+    // (costs are counted up to 2^64 - 1, which means that much or more)
     pub ghost below: { steps < 2 ^ 64 - 1 },
 }
 
-/// What is said of a dialogue beside its two texts.
+/// The options of a dialogue, beside its two texts.
 #[derive(Clone, Copy)]
 pub struct Options {
-    /// Whether the solver prints `success`, from the start on, for commands without an answer of their own
-    /// (SMT-LIB 2.6, section 4.1.7); a script may say otherwise later.
+    /// Whether the solver prints `success`, from the start, for commands without an answer of their own (SMT-LIB
+    /// 2.6, section 4.1.7). A script may change that later.
     pub print_success: bool,
     /// Which language the script and the answers are in.
     pub profile: Profile,
@@ -29,7 +30,7 @@ impl Options {
     ghost use Rattle.std.specs.Prelude.{◌≡◌};
     ghost use Rattle.smt_dialogue.specs.InForce.{start_by};
 
-    /// What holds before the first command of the script.
+    /// The options that hold before the first command of the script.
     pub(crate) fn start(self) -> Start
         ensures { result ≡ start_by self }
     {

@@ -1,5 +1,5 @@
-//! Where the lines go that a session decides while it is told its texts: into a sink, or they wait in the session.
-//! This file decides nothing.
+//! Where decided lines go while a session is fed its texts: into a sink, or they wait in the session. This file
+//! decides nothing.
 
 ghost use Rattle.std.specs.Prelude.{◌≡◌, ◌<◌, ℕ, Bool, List, [], None, Option, Some, true, false, take};
 ghost use Rattle.std.specs.Prelude.{IfErr, IfOk, MatchResult, OnErr, OnOk, string_bytes};
@@ -21,8 +21,8 @@ use smt_report::Line;
 use smt_streams::{Sink, put_all};
 use std::alloc::Global;
 
-// How often each line is put alone before a model is judged, and how many lines wait for a put from then on: so a
-// run that takes long shows what it has decided, and a long report costs few calls.
+// Before a model is judged, each of the first `EARLY` puts needs one waiting line, and every later put needs `MANY`.
+// So a run that takes long shows what it has decided, and a long report costs few calls.
 const EARLY: u64 = 4096;
 
 const MANY: usize = 64;
@@ -41,7 +41,7 @@ pub(crate) trait Outlet {
     /// No line of the session is left to put.
     ghost is_done: { State → Type 0 };
 
-    /// Takes turns as far as both texts have come. The lines that they decide go out, or wait in the session.
+    /// Takes turns as far as both texts have come. The decided lines go out, or wait in the session.
     fn settle(&mut self, alloc: Global, session: &mut Session) -> Result<(), RunFault>
         requires fed { (h : History) × IsFed session.old h }
         requires sound { is_broken self.old ≡ false }
@@ -77,7 +77,7 @@ impl Outlet for Kept {
     }
 }
 
-/// Lines are put into a sink, each with byte 10 behind it.
+/// Lines are put into a sink, each followed by byte 10. `puts` counts the puts before a model.
 #[derive(Drop)]
 pub(crate) struct Put<'o, W> {
     pub(crate) out: &'o mut W,
@@ -104,13 +104,13 @@ impl<W: Sink> Outlet for Put<'_, W> {
     }
 }
 
-// How many lines that wait are worth a put before a model is judged, behind so many such puts.
+// How many waiting lines are enough for a put before a model is judged, after so many such puts.
 fn enough(puts: u64) -> usize {
     if puts < EARLY { 1 } else { MANY }
 }
 
-// Takes turns until so many lines wait before a model that may come, or as far as both texts have come, and puts
-// the lines. Returns whether turns may be left.
+// Takes turns until `enough` lines wait where a model may come next, or as far as both texts have come. Then it
+// puts the lines. Returns whether turns may be left.
 fn put_some<W: Sink>(
     alloc: Global,
     session: &mut Session,
@@ -145,7 +145,7 @@ fn put_some<W: Sink>(
     }
 }
 
-// What a failure of the session is called here.
+// The fault of a run for a failure of its session.
 fn fault_of(failed: Failed) -> RunFault
     ensures { IsFailure result (Some failed) }
 {
@@ -155,7 +155,7 @@ fn fault_of(failed: Failed) -> RunFault
     }
 }
 
-// Puts the lines that are decided.
+// Puts the decided lines that wait in the session.
 fn put_lines<W: Sink>(alloc: Global, session: &mut Session, out: &mut W) -> Result<(), RunFault>
     requires sound { W.is_broken out.old ≡ false }
     ensures stands { (h : History) → StandsFor session.old h
@@ -185,7 +185,7 @@ fn put_lines<W: Sink>(alloc: Global, session: &mut Session, out: &mut W) -> Resu
     }
 }
 
-// The text of lines, each with its end.
+// The text of lines, each followed by byte 10.
 fn text_of_lines(alloc: Global, lines: &[Line]) -> Result<String, Memory>
     ensures { IfOk result (λ text. string_bytes text ≡ runs.text_of_lines lines.now) }
 {

@@ -1,4 +1,4 @@
-//! The exchange of commands and answers, as far as both texts have come. What a command does is not known here.
+//! Pairs commands with answers, as far as both texts have come. This file does not know what a command does.
 
 ghost use Rattle.std.specs.Prelude.{◌≡◌, ◌<◌, ◌+◌, ◌^◌, ◌++◌, List, [], IfOk, OnErr, None};
 ghost use Rattle.std.specs.Prelude.{is_some, false, length, true};
@@ -23,7 +23,7 @@ use smt_script::{Command, CommandFlaw, read_command};
 use smt_text::laws::{every_text_reads, read_trees_stay, trees_are_no_more_than_bytes};
 use std::alloc::Global;
 
-// A law: of a text no more trees are read than it has bytes, whether its end was told or not.
+// A law: no more trees are read from a text than it has bytes, whether its end was reported or not.
 fn trees_are_few()
     ensures few { TreesAreFew }
 {
@@ -32,27 +32,27 @@ fn trees_are_few()
     trees_are_no_more_than_bytes();
 }
 
-/// How far turns were taken.
+/// How far the turns went.
 #[derive(Clone, Copy)]
 pub enum Advance {
-    /// More may be left: lines are decided that are worth handing out before.
+    /// More turns may be left, and enough decided lines wait to be handed out first.
     Pauses,
-    /// As far as both texts have come, or to the end of the dialogue, with this verdict.
+    /// As far as both texts have come, or to the end of the dialogue, which then has this verdict.
     Rests(Option<Verdict>),
 }
 
-/// Both texts so far, and the dialogue of what was taken up of them.
+/// Both texts so far, and the dialogue of the pairs accepted from them.
 #[derive(Drop)]
 pub struct Pairing {
     pub dialogue: AcceptedPairs,
     pub script: TreeQueue,
     pub answers: TreeQueue,
-    /// The command in turn, where it was read and waits for its answer.
+    /// The command in turn, if one was read and waits for its answer.
     pub command: Option<Command>,
 }
 
 impl Pairing {
-    /// Of texts of which nothing has come.
+    /// The pairing of two texts of which nothing has come.
     pub(crate) fn new(alloc: Global, options: Options) -> Self
         ensures way { (script answers : TextSoFar) → IsRead false [] script
             → IsRead false [] answers
@@ -78,7 +78,7 @@ impl Pairing {
         }
     }
 
-    /// Returns the lines that are decided.
+    /// Returns the decided lines that wait, and keeps none.
     pub(crate) fn take_lines(&mut self) -> Vec<Line>
         ensures lines { result.items ≡ waiting self.old }
         ensures rest { waiting self.new ≡ [] }
@@ -95,9 +95,9 @@ impl Pairing {
         self.dialogue.decided.take()
     }
 
-    /// Takes turns until more of a text is waited for, or the dialogue ends; but no further than to a check whose
-    /// models may come next, where so many lines wait by then. Where memory is refused, the lines that wait are
-    /// the first of those that are decided.
+    /// Takes turns until the dialogue waits for more of a text, or ends. It pauses before that at a check whose
+    /// models may come next, where at least `enough` lines wait by then. Where memory is refused, the waiting lines
+    /// are the first of the decided lines.
     pub(crate) fn advance(&mut self, enough: Option<usize>) -> Result<Advance, Memory>
         requires script_room { bytes_fed self.old.script.reader < 2 ^ 64 }
         requires answers_room { bytes_fed self.old.answers.reader < 2 ^ 64 }
@@ -149,7 +149,7 @@ impl Pairing {
         }
     }
 
-    /// Tells the end of a text.
+    /// Accepts the end of a text.
     pub(crate) fn finish(&mut self, side: Side)
         requires open { is_finished (queue_at side self.old).reader ≡ false }
         ensures way { (texts : Texts) → GoesOnWith side self.old self.new texts true
@@ -162,7 +162,7 @@ impl Pairing {
         }
     }
 
-    /// One turn: takes up the command in turn with what it takes of the answers, or returns why not.
+    /// Takes one turn: accepts the command in turn with its answer, or returns why it cannot.
     pub(crate) fn take_turn(&mut self) -> Result<Turn, Memory>
         requires room { HasRoom self.old }
         ensures turn { IfOk result (λ turn. AllTurned turn self.old self.new) }
@@ -185,7 +185,7 @@ impl Pairing {
         Ok(turn)
     }
 
-    // Reads the next command of the script where none is in turn, or returns the turn that comes in its place.
+    // Reads the next command of the script, if none is in turn. Where none can be read, returns the turn instead.
     fn next_command(&mut self) -> Result<Option<Turn>, Memory>
         requires room { HasRoom self.old }
         ensures next { IfOk result (λ turn. AllNext turn self.old self.new) }
@@ -205,7 +205,8 @@ impl Pairing {
         }
     }
 
-    // After the last command of a script that has ended: what comes of the answers.
+    // The turn after the last command of a script that has ended. The dialogue waits for more answers or ends; an
+    // answer that is left over is a fault, and so is a flaw of the answers.
     fn end_of_script(&mut self) -> Result<Turn, Memory>
         requires room { HasRoom self.old }
         requires none { self.old.command ≡ None }
@@ -226,7 +227,8 @@ impl Pairing {
         }
     }
 
-    // Reads the tree that is ready as the command in turn.
+    // Reads the ready tree as the command in turn. Where the command is refused, returns the turn that ends the
+    // dialogue.
     fn read_next(&mut self) -> Option<Turn>
         requires none { self.old.command ≡ None }
         requires ready { is_some self.old.script.next ≡ true }

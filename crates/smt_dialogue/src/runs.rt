@@ -1,5 +1,5 @@
-//! A session over two sources and a sink: pieces are pulled of the text that the session waits for, and each line
-//! is put once it is decided. This file decides nothing.
+//! A session over two sources and a sink: it pulls pieces of the text that the session waits for, and puts the
+//! decided lines. This file decides nothing.
 
 ghost use Rattle.std.specs.Prelude.{◌≡◌, ◌<◌, Bool, [], Some, false, length};
 ghost use Rattle.std.specs.Prelude.{IfErr, IfOk, OnOk};
@@ -21,8 +21,7 @@ use smt_streams::{Sink, Source};
 use std::alloc::Global;
 use thiserror::Error;
 
-/// The most bytes of a text that are pulled at a time: their trees are taken while they are in the processor's
-/// cache.
+/// The most bytes of a text in one pull: their trees are read while the bytes are in the processor's cache.
 pub(crate) const PIECE: usize = 4096;
 
 /// Why a run gives no verdict.
@@ -45,12 +44,15 @@ pub enum RunFault {
     Long,
 }
 
-/// Checks a dialogue as it comes: pulls the script and the answers to their ends, and puts each line of the
-/// report once it is decided, with byte 10 behind it. Where a source fails, every line that is decided by then
-/// was put; at another fault the first of their bytes. Nothing is pulled or put behind a fault.
+/// Checks a dialogue as it comes: pulls the script and the answers to their ends, and puts the lines of the report,
+/// each followed by byte 10. It returns the verdict.
 ///
-/// What is decided is put before a model is judged, which may take long: the first 4,096 times each line, and
-/// from then on once 64 lines wait.
+/// The judgement of a model may take long. So `run` puts the decided lines before the next model is judged: the
+/// first 4,096 times wherever a line waits, after that only where 64 lines or more wait. In any case it puts all
+/// decided lines before it pulls again, and a pull returns at most 4,096 bytes.
+///
+/// Where a source fails, every line decided by then has been put. At any other fault a beginning of the text of
+/// those lines has been put. Nothing is pulled or put after a fault.
 pub fn run<R1: Source, R2: Source, W: Sink>(
     alloc: Global,
     script: &mut R1,
@@ -95,7 +97,7 @@ pub(crate) struct Streams<'s, 'a, R1, R2, L> {
     pub(crate) lines: L,
 }
 
-// Pulls both texts to their ends, and answers the verdict. Each line is put.
+// Pulls both texts to their ends, and returns the verdict. Every line is put.
 fn verdict_over<R1: Source, R2: Source, L: Outlet>(
     alloc: Global,
     session: &mut Session,
@@ -124,8 +126,8 @@ fn verdict_over<R1: Source, R2: Source, L: Outlet>(
     }
 }
 
-/// Pulls the text that the session waits for, a piece at a time, until both have ended, and settles behind each
-/// piece what it decides.
+/// Pulls the text that the session waits for, a piece at a time, until both have ended. After each piece it settles
+/// what the piece decides.
 pub(crate) fn follow<R1: Source, R2: Source, L: Outlet>(
     alloc: Global,
     session: &mut Session,
@@ -186,7 +188,7 @@ fn step<R1: Source, R2: Source, L: Outlet>(
     }
 }
 
-// The same of the text of one side.
+// Pulls the next piece of a text, or its end, from its source, and settles what the piece decides.
 fn step_text<R: Source, L: Outlet>(
     alloc: Global,
     session: &mut Session,
@@ -226,7 +228,7 @@ fn step_text<R: Source, L: Outlet>(
     }
 }
 
-// How a source that fails is told.
+// The fault of a run where the source of this side fails.
 fn source_fault(side: Side) -> RunFault
     ensures { result ≡ fault_at side }
 {

@@ -1,13 +1,14 @@
-//! Sessions: a dialogue whose two texts come piece by piece, and whose lines are handed out as they are decided.
-//! This file decides nothing.
+//! Sessions: the two texts of a dialogue come piece by piece, and the session hands out each line once it is
+//! decided. This file decides nothing.
 
-ghost use Rattle.std.specs.Prelude.{◌≡◌, ◌<◌, ◌++◌, List, [], None, Some, false, true, IfOk, MatchResult, length};
+ghost use Rattle.std.specs.Prelude.{◌≡◌, ◌<◌, ◌++◌, List, [], None, Some, false, true, length};
+ghost use Rattle.std.specs.Prelude.{IfOk, MatchResult, OnErr};
 ghost use Rattle.std.specs.Prelude.{nat_eq};
 ghost use Rattle.smt_dialogue.specs.History.{History, begun, with_answers, with_answers_end, with_script};
 ghost use Rattle.smt_dialogue.specs.History.{of_side, other_side, with_end, with_more, with_piece, with_script_end};
 ghost use Rattle.smt_dialogue.specs.History.{with_taken};
 ghost use Rattle.smt_dialogue.specs.Session.{IsVerdictIn, StandsFor, failure_of, is_answers_ended, is_script_ended};
-ghost use Rattle.smt_dialogue.specs.Session.{is_ended, lines_waiting};
+ghost use Rattle.smt_dialogue.specs.Session.{is_ended, is_verdict_waiting, lines_waiting};
 ghost use Rattle.smt_dialogue.specs.SoFar.{IsBeginning};
 ghost use Rattle.smt_dialogue.specs.Validity.{IsInvalid, IsValid};
 ghost use Rattle.smt_dialogue.specs.Internal.SessionStep.{HasTurned, IsFed, IsGoingOn, IsPause, IsWanted, TextLaws};
@@ -35,7 +36,7 @@ pub enum Failed {
     Long,
 }
 
-// Laws: of each text something is read, and it is one answer that stays.
+// Laws: every text has a reading, it has no other, and the trees and the fault that were read stay.
 fn text_laws()
     ensures { TextLaws }
 {
@@ -45,9 +46,9 @@ fn text_laws()
     read_trees_stay();
 }
 
-/// A solver's dialogue that is checked as it comes: pieces of the script that the solver reads, and of the
-/// answers that it prints, in any order, each text to its end. Each line of the report waits to be taken once it
-/// is decided, and none is taken back.
+/// A solver's dialogue that is checked as it comes. It accepts pieces of the script that the solver reads, and of
+/// the answers that it prints, in any order, each text to its end. Each line of the report waits for `take_lines`
+/// once it is decided, and the session withdraws no line.
 #[derive(Drop)]
 pub struct Session {
     exchange: Pairing,
@@ -57,7 +58,7 @@ pub struct Session {
     failure: Option<Failed>,
 }
 
-/// What was fed of a text: how many bytes, and whether its end was told.
+/// What was fed of a text: how many bytes, and whether its end was reported.
 #[derive(Clone, Copy)]
 struct Fed {
     bytes: u64,
@@ -89,8 +90,9 @@ impl Session {
         }
     }
 
-    /// Takes the next piece of the script, of which the end was not told. A session that has failed answers the
-    /// same failure, and its lines stay.
+    /// Accepts the next piece of the script, whose end was not reported before. It fails with `Memory`, or with `Long`
+    /// where the script has more than 2^64 - 1 bytes. A session that has failed returns the same failure, and its
+    /// lines stay. A call that fails adds no verdict line.
     pub fn script(&mut self, piece: &[u8]) -> Result<(), Failed>
         requires stands { (h : History) × StandsFor self.old h }
         requires open { is_script_ended self.old ≡ false }
@@ -102,6 +104,8 @@ impl Session {
             → (failure_of self.new ≡ Some failed)
             × (lines_waiting self.new ≡ lines_waiting self.old) }
         ensures kept { IsBeginning (lines_waiting self.old) (lines_waiting self.new) }
+        ensures no_verdict { OnErr result (is_verdict_waiting self.new
+            ≡ is_verdict_waiting self.old) }
         ensures script_ended { is_script_ended self.new ≡ is_script_ended self.old }
         ensures answers_ended { is_answers_ended self.new ≡ is_answers_ended self.old }
     {
@@ -109,8 +113,9 @@ impl Session {
         self.rest()
     }
 
-    /// Takes the next piece of the answers, of which the end was not told. A session that has failed answers the
-    /// same failure, and its lines stay.
+    /// Accepts the next piece of the answers, whose end was not reported before. It fails with `Memory`, or with
+    /// `Long` where the answers have more than 2^64 - 1 bytes. A session that has failed returns the same failure, and
+    /// its lines stay. A call that fails adds no verdict line.
     pub fn answers(&mut self, piece: &[u8]) -> Result<(), Failed>
         requires stands { (h : History) × StandsFor self.old h }
         requires open { is_answers_ended self.old ≡ false }
@@ -122,6 +127,8 @@ impl Session {
             → (failure_of self.new ≡ Some failed)
             × (lines_waiting self.new ≡ lines_waiting self.old) }
         ensures kept { IsBeginning (lines_waiting self.old) (lines_waiting self.new) }
+        ensures no_verdict { OnErr result (is_verdict_waiting self.new
+            ≡ is_verdict_waiting self.old) }
         ensures script_ended { is_script_ended self.new ≡ is_script_ended self.old }
         ensures answers_ended { is_answers_ended self.new ≡ is_answers_ended self.old }
     {
@@ -129,7 +136,8 @@ impl Session {
         self.rest()
     }
 
-    /// Takes the end of the script, which was not told before. An end that answers a failure counts.
+    /// Accepts the end of the script, which was not reported before. It fails with `Memory`; a session that has failed
+    /// returns the same failure. An end counts also where the call fails, which adds no verdict line.
     pub fn end_script(&mut self) -> Result<(), Failed>
         requires stands { (h : History) × StandsFor self.old h }
         requires open { is_script_ended self.old ≡ false }
@@ -141,6 +149,8 @@ impl Session {
             → (failure_of self.new ≡ Some failed)
             × (lines_waiting self.new ≡ lines_waiting self.old) }
         ensures kept { IsBeginning (lines_waiting self.old) (lines_waiting self.new) }
+        ensures no_verdict { OnErr result (is_verdict_waiting self.new
+            ≡ is_verdict_waiting self.old) }
         ensures script_ended { is_script_ended self.new ≡ true }
         ensures answers_ended { is_answers_ended self.new ≡ is_answers_ended self.old }
     {
@@ -148,7 +158,8 @@ impl Session {
         self.rest()
     }
 
-    /// Takes the end of the answers, which was not told before. An end that answers a failure counts.
+    /// Accepts the end of the answers, which was not reported before. It fails with `Memory`; a session that has
+    /// failed returns the same failure. An end counts also where the call fails, which adds no verdict line.
     pub fn end_answers(&mut self) -> Result<(), Failed>
         requires stands { (h : History) × StandsFor self.old h }
         requires open { is_answers_ended self.old ≡ false }
@@ -160,6 +171,8 @@ impl Session {
             → (failure_of self.new ≡ Some failed)
             × (lines_waiting self.new ≡ lines_waiting self.old) }
         ensures kept { IsBeginning (lines_waiting self.old) (lines_waiting self.new) }
+        ensures no_verdict { OnErr result (is_verdict_waiting self.new
+            ≡ is_verdict_waiting self.old) }
         ensures script_ended { is_script_ended self.new ≡ is_script_ended self.old }
         ensures answers_ended { is_answers_ended self.new ≡ true }
     {
@@ -167,7 +180,7 @@ impl Session {
         self.rest()
     }
 
-    /// Takes the lines that are decided and were not taken, in order.
+    /// Returns the decided lines that no earlier call returned, in order. None of them waits after the call.
     pub fn take_lines(&mut self) -> Vec<Line>
         ensures lines { result.items ≡ lines_waiting self.old }
         ensures none { lines_waiting self.new ≡ [] }
@@ -184,7 +197,8 @@ impl Session {
         self.exchange.take_lines()
     }
 
-    /// The verdict, once its line is decided, taken or not.
+    /// The verdict, once the verdict line is decided, whether `take_lines` has returned that line or not. Before
+    /// that it is `None`.
     pub fn verdict(&self) -> Option<Verdict>
         ensures told { (h : History) → StandsFor self.now h
             → IsVerdictIn result (h.taken ++ lines_waiting self.now) }
@@ -194,8 +208,9 @@ impl Session {
             → IsInvalid h.options h.script.bytes h.answers.bytes
             (h.taken ++ lines_waiting self.now) }
     {
-        // Laws: the texts have no other trees, models that are read are complete and give structures, the
-        // assertions in force are those of the commands that stand, and what is known of a term is its value.
+        // Laws: the texts have no other trees. Models that are read are complete and give structures. Commands
+        // introduced the names in force, and the assertions in force are those that nothing has removed. What is
+        // known of a term is its value.
         one_forest();
         models_are_complete();
         names_in_force_are_introduced();
@@ -205,8 +220,8 @@ impl Session {
         self.verdict
     }
 
-    /// The text of which more is wanted, and whose end was not told: that which the dialogue waits for; once it
-    /// has ended or failed, that of which less has come.
+    /// The text to feed next, whose end was not reported; `None` where both have ended. Of two open texts it is the
+    /// one that the dialogue waits for, and once the dialogue has ended or failed, the one of which less has come.
     pub(crate) fn wanted(&self) -> Option<Side>
         ensures { IsWanted result self.now }
     {
@@ -219,7 +234,7 @@ impl Session {
         }
     }
 
-    // Whether the dialogue waits for more of the answers, where the end of neither text was told.
+    // Whether the dialogue waits for more of the answers, where the end of neither text was reported.
     fn wants_answers(&self) -> bool {
         if self.verdict.is_some() || self.failure.is_some() {
             self.answers.bytes < self.script.bytes
@@ -228,8 +243,8 @@ impl Session {
         }
     }
 
-    /// Takes in the next piece of a text, of which the end was not told, or its end where the piece is empty. No
-    /// turn is taken.
+    /// Accepts the next piece of a text, whose end was not reported before, or its end where the piece is empty. It
+    /// takes no turn.
     pub(crate) fn take_next(&mut self, side: Side, piece: &[u8])
         requires stands { (h : History) × StandsFor self.old h }
         requires open { is_ended side self.old ≡ false }
@@ -248,7 +263,7 @@ impl Session {
         }
     }
 
-    // Takes in the next piece of a text.
+    // Accepts the next piece of a text. A session that has failed, or has a verdict, does not read it.
     fn take_in(&mut self, side: Side, piece: &[u8])
         requires stands { (h : History) × StandsFor self.old h }
         requires open { is_ended side self.old ≡ false }
@@ -277,7 +292,7 @@ impl Session {
         self.exchange.feed(side, piece);
     }
 
-    // Takes in the end of a text.
+    // Accepts the end of a text. A session that has failed, or has a verdict, only notes it.
     fn take_end(&mut self, side: Side)
         requires stands { (h : History) × StandsFor self.old h }
         requires open { is_ended side self.old ≡ false }
@@ -302,7 +317,7 @@ impl Session {
         self.exchange.finish(side);
     }
 
-    // How many bytes were fed of a text.
+    // How many bytes of a text were fed.
     fn bytes(&self, side: Side) -> u64
         ensures { result ≡ (fed_at side self.now).bytes }
     {
@@ -312,7 +327,7 @@ impl Session {
         }
     }
 
-    // Counts the bytes of a text.
+    // Sets the number of bytes of a text that were fed.
     fn count(&mut self, side: Side, bytes: u64)
         ensures fed { self.new ≡ with_fed side (record
             (fed_at side self.old) { bytes = bytes }) self.old }
@@ -357,6 +372,8 @@ impl Session {
             → (failure_of self.new ≡ Some failed)
             × (lines_waiting self.new ≡ lines_waiting self.old) }
         ensures kept { IsBeginning (lines_waiting self.old) (lines_waiting self.new) }
+        ensures no_verdict { OnErr result (is_verdict_waiting self.new
+            ≡ is_verdict_waiting self.old) }
         ensures script_ended { is_script_ended self.new ≡ is_script_ended self.old }
         ensures answers_ended { is_answers_ended self.new ≡ is_answers_ended self.old }
         ensures left { left_of self.new ≡ left_of self.old }
@@ -368,8 +385,8 @@ impl Session {
         }
     }
 
-    /// Takes turns as far as both texts have come; but no further than to a check whose models may come next,
-    /// where so many lines wait by then. Returns whether turns may be left.
+    /// Takes turns as far as both texts have come. It pauses before that at a check whose models may come next,
+    /// where at least `enough` lines wait by then. Returns whether turns may be left.
     pub(crate) fn take_turns(&mut self, enough: Option<usize>) -> Result<bool, Failed>
         requires fed { (h : History) × IsFed self.old h }
         ensures turned { (h : History) → IsFed self.old h
@@ -382,6 +399,8 @@ impl Session {
             → (failure_of self.new ≡ Some failed)
             × (lines_waiting self.new ≡ lines_waiting self.old) }
         ensures kept { IsBeginning (lines_waiting self.old) (lines_waiting self.new) }
+        ensures no_verdict { OnErr result (is_verdict_waiting self.new
+            ≡ is_verdict_waiting self.old) }
         ensures script_ended { is_script_ended self.new ≡ is_script_ended self.old }
         ensures answers_ended { is_answers_ended self.new ≡ is_answers_ended self.old }
         ensures left { left_of self.new ≡ left_of self.old }

@@ -1,4 +1,4 @@
-//! Texts whose trees are taken as their pieces come. This file knows no commands.
+//! Texts that come in pieces, and whose trees are read as the pieces come. This file knows no commands.
 
 ghost use Rattle.std.specs.Prelude.{◌≡◌, ◌<◌, ◌+◌, ◌++◌, ◌^◌, List, [], ℕ, IfOk, MatchOption, None, Some, false};
 ghost use Rattle.std.specs.Prelude.{length, true};
@@ -16,21 +16,21 @@ use smt_text::{Next, Reader};
 use smt_trees::Tree;
 use std::alloc::Global;
 
-/// A text so far: what is read of its pieces, and the next tree, once it was looked at.
+/// A text so far: the reader of its pieces, and the next tree, once `look` has read it.
 #[derive(Drop)]
 pub struct TreeQueue {
     pub reader: Reader,
     pub next: Option<Tree>,
 }
 
-/// What comes next of a text so far.
+/// What comes next in a text so far.
 #[derive(Clone, Copy)]
 pub enum Ahead {
-    /// A tree, which stands ready.
+    /// A tree, which is ready.
     Tree,
-    /// No tree is complete, and more of the text may come.
+    /// No further tree is complete, and more of the text may come.
     Wait,
-    /// No tree comes: the fault behind the last, if there is one.
+    /// No further tree comes. With the fault after the last tree, if there is one.
     End(Option<TextFlaw>),
 }
 
@@ -56,14 +56,14 @@ impl TreeQueue {
             → GoesOnFrom self.old self.new bytes false (bytes ++ piece.now) }
         ensures next { self.new.next ≡ self.old.next }
     {
-        // Laws: what is read of a text is one answer, and trees and faults that are read stay.
+        // Laws: a text has one reading, and trees and faults that are read stay.
         one_reading();
         read_faults_stay();
         read_trees_stay();
         self.reader.feed(piece);
     }
 
-    /// Tells the end of the text.
+    /// Accepts the end of the text.
     pub(crate) fn finish(&mut self)
         requires open { is_finished self.old.reader ≡ false }
         ensures goes_on { (bytes : List ℕ) → GoesOnFrom self.old self.new bytes true bytes }
@@ -75,7 +75,7 @@ impl TreeQueue {
         self.reader.finish();
     }
 
-    /// What comes next, which is not taken.
+    /// What comes next. A tree that is ready stays in the queue.
     pub(crate) fn look(&mut self) -> Result<Ahead, Memory>
         ensures ahead { IfOk result (λ ahead. (bytes : List ℕ) (text : TextSoFar) (rest : Sexps)
             → HasQueue self.old bytes text rest
@@ -83,7 +83,7 @@ impl TreeQueue {
         ensures fed { bytes_fed self.new.reader ≡ bytes_fed self.old.reader }
         ensures finished { is_finished self.new.reader ≡ is_finished self.old.reader }
     {
-        // A law: what is read of a text is one answer.
+        // A law: a text has one reading.
         one_reading();
         if self.next.is_some() {
             return Ok(Ahead::Tree);
@@ -102,7 +102,7 @@ impl TreeQueue {
         }
     }
 
-    /// Takes the tree that stands ready.
+    /// Takes the ready tree out of the queue; `None` where no tree is ready.
     pub(crate) fn take(&mut self) -> Option<Tree>
         ensures taken { MatchOption result (self.old.next ≡ None)
             (λ tree. (self.old.next ≡ Some tree)

@@ -1,5 +1,5 @@
-//! One turn of a dialogue: a command with what it takes of the answers so far. What a command does is not known
-//! here.
+//! One turn of a dialogue: a command with the answer that it accepts from the answers so far. This file does not
+//! know what a command does.
 
 ghost use Rattle.std.specs.Prelude.{◌≡◌, ◌<◌, ◌≤◌, ◌+◌, ◌^◌, Bool, List, ℕ, IfOk, OnErr, true};
 ghost use Rattle.smt_text.specs.Reader.{bytes_fed, is_finished};
@@ -25,18 +25,18 @@ use smt_faults::TextFlaw;
 use smt_report::{Line, Side};
 use smt_script::{Command, CommandFlaw, Kind};
 
-/// What a turn comes to.
+/// The outcome of a turn.
 #[derive(Clone, Copy)]
 pub enum Turn {
-    /// The command was taken up.
+    /// The command was accepted, with its answer if it has one.
     GoesOn,
-    /// More of a text is waited for, with every window closed or not.
+    /// The dialogue waits for more of a text. Where `closed`, an open window ends there.
     Waits { closed: bool },
-    /// The dialogue ends, with a fault or without one.
+    /// The dialogue ends, with the line of a fault or without one.
     Ends(Option<Line>),
 }
 
-/// Takes up a command with what it takes of the answers, or tells why not.
+/// Accepts a command with the answer that it needs, or returns why it cannot.
 pub(crate) fn take_up(
     dialogue: &mut AcceptedPairs,
     command: &Command,
@@ -94,14 +94,14 @@ pub(crate) fn take_up(
     }
 }
 
-// Whether it is the kind of a check.
+// Whether a command of this kind is a check.
 fn is_check(kind: Kind) -> bool
     ensures { result ≡ commands.asks_check kind }
 {
     matches!(kind, Kind::Check)
 }
 
-/// The line on a command that is refused.
+/// The line on a refused command; `command` is its number, from 1.
 pub(crate) fn refused(command: u64, flaw: CommandFlaw) -> Line
     ensures { result ≡ Line.CommandFault command flaw }
 {
@@ -115,7 +115,8 @@ pub(crate) fn text_fault(side: Side, flaw: TextFlaw) -> Line
     Line::TextFault { side, flaw }
 }
 
-// The line where the command of this number has no answer.
+// The line where the command of this number (from 1) needs an answer and none comes. It names the flaw after the
+// last answer, if there is one.
 fn want_of_answer(command: u64, fault: Option<TextFlaw>) -> Line
     ensures { result ≡ first_fault.want_of_answer command fault }
 {

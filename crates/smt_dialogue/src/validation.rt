@@ -19,7 +19,7 @@ use std::alloc::Global;
 
 /// Checks a solver's dialogue: the script that it read, and the answers that it printed, in order.
 ///
-/// Its only refusal is that memory was refused.
+/// The report has its lines in order, the verdict line last. The call refuses only where memory is refused.
 pub fn validate(
     alloc: Global,
     script: &[u8],
@@ -43,7 +43,7 @@ pub fn validate(
     report
 }
 
-// Tells a session both texts, piece by piece, and their ends. Its lines wait.
+// Feeds a session both texts, piece by piece, and their ends. Its lines wait in the session.
 fn tell(alloc: Global, session: &mut Session, script: &[u8], answers: &[u8]) -> Result<(), RunFault>
     requires stands { (options : Given) × StandsFor session.old (begun options) }
     requires script_open { is_script_ended session.old ≡ false }
@@ -63,7 +63,7 @@ fn tell(alloc: Global, session: &mut Session, script: &[u8], answers: &[u8]) -> 
     follow(alloc, session, &mut streams)
 }
 
-// The report of a session that was told both ends.
+// The report of a session to which both texts were fed to their ends.
 fn report_of(session: &mut Session) -> Report
     requires stands { (options : Given) × (script : List ℕ) × (answers : List ℕ)
         × StandsFor session.old (whole options script answers) }

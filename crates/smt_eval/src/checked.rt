@@ -1,10 +1,10 @@
-//! Terms that have been checked, whatever they are kept as. This file knows no library, and evaluates
+//! Terms that have been checked, whatever form they are kept in. This file knows no library, and evaluates
 //! nothing.
 
 use smt_faults::Memory;
 use smt_values::Value;
 
-/// A closed term, with the structure that it stands over.
+/// A closed term, together with the structure that gives its names their meanings.
 pub trait Checked {
     ghost use Rattle.std.specs.Prelude.{◌≡◌, ◌≤◌, ◌<◌, ◌+◌, IfOk, OnOk};
     ghost use Rattle.smt_trees.specs.Sexp.{Sexp};
@@ -15,9 +15,11 @@ pub trait Checked {
 
     ghost IsTerm: { Self → Signature → Sexp → Type 0 };
 
-    /// What is known of the term's value, over its structure; `None` says that it is open. The value stands
-    /// for some term. Of what is left, one or more is taken, and no more than the term costs: there is enough
-    /// for that.
+    /// What is known of the term's value, over its structure; `None` where the value is open.
+    ///
+    /// The caller shows that `self` is some term over some structure, and that `left` is no less than what
+    /// that term costs. The call subtracts at least one from `left`, and at most that cost. The only error is
+    /// want of memory.
     fn known(&self, left: &mut u64) -> Result<Option<Value>, Memory>
         requires stands { (structure : Signature) × (term : Sexp) × IsTerm self.now structure term }
         requires enough { (structure : Signature) (term : Sexp) → IsTerm self.now structure term

@@ -24,7 +24,7 @@ use smt_machine::{Machine, Tables, cost_of_term};
 use smt_terms::{Library, TermId};
 use smt_values::Value;
 
-/// A term over the definitions of an interpretation, and behind them those of the script.
+/// A term over the definitions of an interpretation, followed by those of the script.
 #[derive(Clone, Copy)]
 pub struct Closed<'a> {
     pub library: &'a Library,
@@ -42,9 +42,11 @@ impl Checked for Closed<'_> {
     }
 }
 
-/// What the evaluation of a term of the library costs over the structure that an interpretation gives to its
-/// names; 2^64 - 1 for that and more. The interpretation was read over the library as it is now, and counted:
-/// here a number is looked up, and no memory is taken.
+/// The cost of evaluating a term of the library over the structure that an interpretation gives to its names;
+/// 2^64 - 1 where it is that or more.
+///
+/// The interpretation was read over the library as it is now, and counted. So the call looks a number up, and
+/// asks for no memory.
 pub fn cost(library: &Library, interpretation: &Interpretation, term: TermId) -> u64
     requires term { (t : Sexp) × IsTerm library.now term t }
     requires fits { Fits interpretation.now library.now }
@@ -61,8 +63,10 @@ pub fn cost(library: &Library, interpretation: &Interpretation, term: TermId) ->
     )
 }
 
-/// The same, if it is no more than a limit: looked up where the interpretation was counted, and else counted
-/// from the term down, as far as the limit. Refused is want of memory alone.
+/// The cost of evaluating a term, as `cost` gives it, where it is at most a limit; `None` where it is more.
+///
+/// The limit is below 2^64 - 1. Where the interpretation was counted, the call looks the cost up; otherwise
+/// it counts from the term down, as far as the limit. The only error is want of memory.
 pub fn cost_within(
     library: &Library,
     interpretation: &Interpretation,
@@ -87,9 +91,11 @@ pub fn cost_within(
 }
 
 /// What is known of a term of the library over the structure that an interpretation gives to its names;
-/// `None` says that it is open. The term is closed, and a term of this library; the interpretation is one of
-/// a model of the names that the library has now. Of what is left, one is taken for each term that is
-/// evaluated, its parts and the bodies that it names among them; there is enough for the cost of the term.
+/// `None` where the value is open.
+///
+/// The term is closed, and a term of this library. The interpretation is one of a model of the names that the
+/// library has now. The call subtracts one from `left` for each term that it evaluates, parts and the bodies
+/// of names among them; `left` is no less than the cost of the term. The only error is want of memory.
 pub fn eval(
     library: &Library,
     interpretation: &Interpretation,
@@ -116,8 +122,10 @@ pub fn eval(
     )
 }
 
-/// The same by a machine, whose memory serves one term after another: it keeps the values of constants. The
-/// machine is new, or has evaluated terms of this library over this interpretation alone.
+/// What is known of a term, as `eval` gives it, by a machine that serves one term after another and keeps the
+/// values of constants.
+///
+/// The machine is new, or has evaluated terms of this library over this interpretation alone.
 pub fn eval_by(
     machine: &mut Machine,
     library: &Library,

@@ -1,4 +1,4 @@
-//! Models, as solvers print them. This file looks into no item: a library takes them.
+//! Models as solvers print them. This file looks into no item: a library reads them.
 
 ghost use Rattle.std.specs.Prelude.{◌≡◌, List, [], ◌∷◌, ◌++◌, None, Ok, MatchOption, MatchResult};
 ghost use Rattle.std.specs.Prelude.{IfOk, OnErr, OnOk, slice_get};
@@ -23,8 +23,8 @@ use smt_terms::laws::items_are_well_sorted;
 use smt_terms::{Found, Library, TermFault};
 use smt_trees::{Tree, Trees, split_first};
 
-/// The definitions of a model, for each name that the script declares the body that the model gives to it, and,
-/// once it is counted, what each node of both costs.
+/// The definitions of a model, and for each name that the script declares the body that the model gives to
+/// it. Once it is counted, it also holds the cost of each node of the model and of the script.
 #[derive(Drop)]
 pub struct Interpretation {
     pub(crate) definitions: Library,
@@ -33,9 +33,11 @@ pub struct Interpretation {
 }
 
 impl Interpretation {
-    /// Reads a model of the names of a library (SMT-LIB 2.6, section 4.2.6), and evaluates nothing. Refused are
-    /// the first item with a fault, before the first declared name that is lacking, and want of memory.
-    /// The library stands for a signature, as every one does that `Library::new` and the calls after it made.
+    /// Reads a model of the names of a library, without evaluating anything (SMT-LIB 2.6, section 4.2.6).
+    ///
+    /// The fault is that of the first item that has one; else that the model lacks a declared name, the first
+    /// one; or want of memory. The library stands for a signature, as every library does that `Library::new`
+    /// and the calls after it made.
     pub fn read(declared: &Library, model: &Trees) -> Result<Interpretation, ModelFault>
         requires { (s : Signature) × StandsFor declared.now s }
         ensures model { (s : Signature) → StandsFor declared.now s
@@ -44,8 +46,8 @@ impl Interpretation {
             (TellsModel (model_in s model.now)) }
         ensures costs { IfOk result (λ i. KeepsCosts i declared.now) }
     {
-        // Laws: each item is a definition; no two have one name, nor one of them that of a definition of the
-        // script; and each declared name has its rank.
+        // Laws: each item is a definition. The definitions have different names, and none has the name of a
+        // definition of the script. Each declared name has its rank.
         items_are_well_sorted();
         models_are_complete();
         structures_are_distinct();
@@ -57,15 +59,17 @@ impl Interpretation {
                 declared,
             }),
             Err(fault) => {
-                // (dropped by name: the prover takes long over a library that is owned on more than one path)
+                // (dropped by name: the prover is slow over a library that is owned on more than one path)
                 drop(definitions);
                 Err(fault)
             }
         }
     }
 
-    /// Counts what each node of the model and of the library costs, by one pass over both, so that `cost` looks
-    /// it up. The library is the one that the model was read over, as it is now. Refused is want of memory alone,
+    /// Counts the cost of each node of the model and of the library, in one pass over both, for `cost` to
+    /// look up.
+    ///
+    /// The library is the one that the model was read over, as it is now. The only error is want of memory,
     /// and then nothing has changed.
     pub fn count(&mut self, declared: &Library) -> Result<(), Memory>
         ensures costs { OnOk result (KnowsCosts self.new declared.now) }
@@ -82,7 +86,7 @@ impl Interpretation {
     }
 }
 
-// The library of what the items define, in order, or the first fault.
+// The library of the definitions that the items make, in order, or the first fault.
 fn read_items(declared: &Library, items: &[Tree]) -> Result<Library, ModelFault>
     ensures { (s : Signature) → StandsFor declared.now s
         → MatchResult result (λ library. (es : List Entry) × (items_from s [] 1 (sexps_of items.now) ≡ Ok es)
@@ -111,7 +115,7 @@ fn item_fault(number: u64, fault: TermFault) -> ModelFault
     }
 }
 
-// The items of a model: a leading symbol `model` is none.
+// The items of a model, without a leading symbol `model`.
 fn items(trees: &[Tree]) -> &[Tree]
     ensures { sexps_of result.now ≡ items_of (sexps_of trees.now) }
 {
@@ -122,7 +126,7 @@ fn items(trees: &[Tree]) -> &[Tree]
 }
 
 // For each declared name, in order, the node that is the body of its definition; or the command of the first
-// name that isn't defined.
+// name that has no definition.
 fn declared_bodies(declared: &Library, definitions: &Library) -> Result<Vec<TermId>, ModelFault>
     requires { (s : Signature) × StandsFor declared.now s }
     ensures { (s d : Signature) → StandsFor declared.now s → StandsFor definitions.now d → AllDefined d.entries
@@ -167,7 +171,7 @@ fn item_at(nodes: &[TermId], place: usize) -> Option<TermId>
     }
 }
 
-// Puts a node behind others.
+// Appends a node.
 fn push_node(nodes: &mut Vec<TermId>, node: TermId) -> Result<(), Memory>
     ensures { OnOk result (nodes.new.items ≡ nodes.old.items ++ node ∷ []) }
 {

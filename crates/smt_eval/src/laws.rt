@@ -1,4 +1,4 @@
-//! What holds of the definitions that the contracts name. Nothing here does anything: each contract is a law.
+//! Laws of the definitions that the contracts name. Nothing here does anything: each contract is a law.
 
 pub mod terms;
 
@@ -44,9 +44,9 @@ use smt_terms::laws::{items_are_well_sorted, repeated_items_are_set_aside, sorts
 use smt_theory::laws::{ranks_are_the_table, sorts_are_compared};
 use smt_values::laws::{known_results_are_true, results_are_of_their_sorts};
 
-/// What is known of a term is its value in the structure that the definitions give, whatever division by zero
-/// gives, and whatever values the variables have that agree with what is known of them (SMT-LIB 2.6, section
-/// 5.3).
+/// What is known of a term is its value in the structure that the definitions give (SMT-LIB 2.6, section
+/// 5.3). This holds whatever division by zero gives, and for all values of the variables that agree with what
+/// is known of them.
 pub fn known_values_are_true()
     ensures { (z : DivisionByZero) (definitions : Signature) (known : List (List ℕ × Option Element))
         (r : List (List ℕ × Element)) (term : Sexp)
@@ -56,8 +56,8 @@ pub fn known_values_are_true()
     known_results_are_true();
 }
 
-/// The value of a well-sorted term is of the term's sort, over definitions that are well sorted and of which
-/// no two have one name, and variables whose values are of their sorts.
+/// A well-sorted term has a value of its sort, over definitions that are well sorted and have different
+/// names, and variables with values of their sorts.
 pub fn well_sorted_terms_have_values()
     ensures { (z : DivisionByZero) (definitions : Signature) (scope : List (List ℕ × Sort))
         (r : List (List ℕ × Element)) (term : Sexp) (sort : Sort)
@@ -71,8 +71,8 @@ pub fn well_sorted_terms_have_values()
     sorts_are_compared();
 }
 
-/// The definitions of a model are over the script's theories and well sorted, none stands twice, and there is
-/// one of each declared name, with the rank that it was declared with (SMT-LIB 2.6, section 4.2.6).
+/// The definitions of a model are over the script's theories, are well sorted and have different names. Each
+/// declared name has one, of the rank that it was declared with (SMT-LIB 2.6, section 4.2.6).
 pub fn models_are_complete()
     ensures { (script : Signature) (parts : Sexps) (definitions : Signature)
         → model_in script parts ≡ Ok definitions → IsModelOf script parts definitions }
@@ -80,8 +80,8 @@ pub fn models_are_complete()
     items_are_well_sorted();
 }
 
-/// Where a model is read, no name stands twice in the structure that it gives to the script: no two
-/// definitions of the model have one name, nor one of them that of a definition of the script.
+/// A model that is read gives a script without repeated names a structure without repeated names. The
+/// definitions of the model have different names, and none has the name of a definition of the script.
 pub fn structures_are_distinct()
     ensures { (script : Signature) (parts : Sexps) (definitions : Signature)
         → model_in script parts ≡ Ok definitions → AreDistinct script.entries
@@ -90,9 +90,9 @@ pub fn structures_are_distinct()
     items_are_well_sorted();
 }
 
-/// A model of names that were introduced one behind another gives a structure to the script (SMT-LIB 2.6,
-/// section 5.3): its definitions, and behind them the script's own, are each well sorted over those before
-/// it, and no two have one name.
+/// A model of names that were introduced one after another gives a structure to the script (SMT-LIB 2.6,
+/// section 5.3). Its definitions, followed by the script's own, are each well sorted over those before it,
+/// and have different names.
 pub fn models_give_structures()
     ensures { (script : Signature) (parts : Sexps) (definitions : Signature)
         → model_in script parts ≡ Ok definitions → AreIntroduced script.theories [] script.entries
@@ -103,8 +103,9 @@ pub fn models_give_structures()
     items_are_well_sorted();
 }
 
-/// A term of a library is a checked term wherever its interpretation is one of a model of the library's names,
-/// and nowhere else: it stands for what its number stands for in the library, over the structure that they give.
+/// A term of a library is a checked term exactly where its interpretation is one of a model of the library's
+/// names. It stands for what its number stands for in the library, over the structure that library and model
+/// give.
 pub fn closed_terms_stand_for_their_trees()
     ensures { (closed : Closed) (structure : Signature) (term : Sexp)
         → ⟦<Closed<'static> as Checked>⟧.IsTerm closed structure term ↔ ((script definitions : Signature)
@@ -112,8 +113,8 @@ pub fn closed_terms_stand_for_their_trees()
         × (structure ≡ structure_of script definitions) × IsTerm closed.library.now closed.term term) }
 {}
 
-/// A tree over definitions that are kept as theirs is a checked term, and stands for itself: over the structure
-/// of its theories and definitions, in order.
+/// A tree over definitions that are kept as trees is a checked term and stands for itself, over the structure
+/// of its theories and its definitions, in order.
 pub fn plain_trees_stand_for_themselves()
     ensures { (closed : plain.Closed) (structure : Signature) (term : Sexp)
         → ⟦<plain::Closed<'static> as Checked>⟧.IsTerm closed structure term
@@ -121,16 +122,16 @@ pub fn plain_trees_stand_for_themselves()
         × (term ≡ sexp_of closed.tree.now)) }
 {}
 
-/// A model of the script's names is its items: those that are not set aside are definitions in order, each over
-/// the earlier ones, and every declared name is among them (SMT-LIB 2.6, section 4.2.6).
+/// A model of the script's names is its items (SMT-LIB 2.6, section 4.2.6). Those that are not set aside are
+/// definitions in order, each over the earlier ones, and define every declared name.
 pub fn models_are_their_items()
     ensures { (script : Signature) (parts : Sexps) (items : List Entry)
         → (model_in script parts ≡ Ok (items_before script items))
         ↔ (AreItems script [] (items_of parts) items × AreDefined script.entries items) }
 {}
 
-/// An item that repeats a definition or a label of the script, in the wide profile, changes nothing of a model:
-/// with it and without it the model has the same definitions, and so gives the same structure.
+/// In the wide profile, an item that repeats a definition or a label of the script changes nothing of a
+/// model. With it and without it the model has the same definitions, and so gives the same structure.
 pub fn repeated_items_change_no_structure()
     ensures { (script definitions : Signature) (parts fewer before after : Sexps) (tree : Sexp)
         → IsRepeated script tree → items_of parts ≡ append before (Cons tree after)
@@ -140,9 +141,9 @@ pub fn repeated_items_change_no_structure()
     repeated_items_are_set_aside();
 }
 
-/// The fault of a model is its first: the items before the one that is told are definitions, and that one has
-/// the fault; a lacking name is told where all items are definitions, and is the first declared name that
-/// none of them defines.
+/// The reported fault of a model is its first. Where an item is reported, the items before it are
+/// definitions, and it has the fault. Where a lacking name is reported, all items are definitions, and it is
+/// the first declared name that none of them defines.
 pub fn the_first_fault_of_a_model_is_told()
     ensures item { (script : Signature) (parts : Sexps) (n : ℕ) (flaw : TermFlaw)
         → (model_in script parts ≡ Err (Item (n + 1) flaw))
@@ -153,9 +154,9 @@ pub fn the_first_fault_of_a_model_is_told()
         × IsFirstLacking script.entries items command) }
 {}
 
-/// A node of a script has the value that is known of the term which it stands for, over the structure that a
-/// model gives to the script: among the nodes of the model and of the script, where each declared name leads
-/// to the body of the definition that the model gives to it.
+/// A node of a script has the value that is known of its term, over the structure that a model gives to the
+/// script. The nodes are those of the model and of the script, and each declared name leads to the body that
+/// the model gives to it.
 pub fn nodes_give_the_values_of_their_terms()
     ensures { (model script : Table) (declared : List ℕ) (names definitions : Signature) (around i : ℕ)
         (term : Sexp) → AreTermsOf script names → AreTermsOf model definitions
@@ -169,8 +170,8 @@ pub fn nodes_give_the_values_of_their_terms()
     nodes_have_their_values();
 }
 
-/// A node of a script costs what the term does which it stands for, and the annotations without a label that
-/// stand round it: over the structure that a model gives to the script, as its value is.
+/// A node of a script costs what its term costs, and one for each annotation without a label round it. The
+/// structure is the one that a model gives to the script, as for values.
 pub fn nodes_have_the_costs_of_their_terms()
     ensures { (model script : Table) (declared : List ℕ) (names definitions : Signature) (around i : ℕ)
         (term : Sexp) → AreTermsOf script names → AreTermsOf model definitions
@@ -184,8 +185,8 @@ pub fn nodes_have_the_costs_of_their_terms()
     nodes_have_their_costs();
 }
 
-/// What some terms cost: `(= (+ x 1) 3)` where `x` is 2; two annotations round `true`; and functions each of which
-/// calls the one before twice.
+/// The costs of some terms: `(= (+ x 1) 3)` where `x` is 2; two annotations round `true`; and functions each
+/// of which calls the one before twice.
 pub fn some_costs_are_told_in_numbers()
     ensures sum { cost_of (costs_after no_costs (two_for_x ∷ [])) [] sum_is_three ≡ 6 }
     ensures annotated { cost_of no_costs [] annotated_twice ≡ 3 }

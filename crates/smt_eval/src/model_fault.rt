@@ -21,7 +21,7 @@ pub enum ModelFault {
     Item { number: u64, fault: TermFault },
     /// The command of the first declared name that no item defines.
     Lacks { command: u64 },
-    /// Memory was refused, which says nothing of the model.
+    /// Memory was refused, which says nothing about the model.
     Memory,
 }
 

@@ -1,5 +1,5 @@
-//! Terms and definitions that are kept as their trees: what a term is known to have for a value, by recursion
-//! over its tree. A table of nodes gives the same and takes less time; this is for users who have no library.
+//! Terms and definitions that are kept as trees, and what is known of a term's value, by recursion over its
+//! tree. A table of nodes gives the same values in less time; this module is for users who have no library.
 //!
 //! So `(* x x)` over the definition of `x` as 3:
 //!
@@ -31,7 +31,7 @@ use std::alloc::Global;
 pub struct Definition<'a> {
     /// The bytes of its name, without bars.
     pub name: &'a [u8],
-    /// Its parameters by name, with their sorts.
+    /// Its parameters, each with its name and its sort.
     pub params: &'a [(Vec<u8>, Sort)],
     /// The sort of its result.
     pub result: Sort,
@@ -53,7 +53,8 @@ impl Closed<'_> {
     ghost use Rattle.smt_terms.specs.Signature.{Signature};
     ghost use Rattle.smt_eval.specs.PlainTerm.{IsPlain};
 
-    /// What is known of the term's value, whatever it costs; `None` says that it is open.
+    /// What is known of the term's value, whatever it costs; `None` where the value is open. The only error
+    /// is want of memory.
     pub fn value(&self) -> Result<Option<Value>, Memory>
         ensures { IfOk result (λ v. (structure : Signature) (term : Sexp) → IsPlain self.now structure term
             → known_element v ≡ known_over structure term) }
@@ -73,8 +74,8 @@ impl Checked for Closed<'_> {
     ghost IsTerm = { IsPlain };
 
     fn known(&self, left: &mut u64) -> Result<Option<Value>, Memory> {
-        // What the recursion evaluates is not counted: of an ill-sorted term, which may stand here, it is not
-        // bounded by the cost.
+        // The recursion does not count what it evaluates. For an ill-sorted term, which may occur here, the
+        // cost is no bound on that.
         *left -= 1;
         self.value()
     }

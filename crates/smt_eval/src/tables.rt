@@ -1,4 +1,5 @@
-//! The tables of a script and of a model of its names, as a machine takes them. This file evaluates nothing.
+//! The tables of a script and of a model of its names, in the form that a machine reads. This file evaluates
+//! nothing.
 
 ghost use Rattle.std.specs.Prelude.{◌≡◌, length};
 ghost use Rattle.smt_machine.specs.Tables.{arounds_of, model_count, nodes_of};

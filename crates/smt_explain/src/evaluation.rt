@@ -1,5 +1,5 @@
-//! What is known of terms, and of terms that see variables, over the definitions of a model and a script. This file
-//! evaluates no term itself: values are those of the plain evaluator.
+//! The values of terms, and of terms that see variables, over the definitions of a model and a script. This file
+//! evaluates no term itself: the values are those of the plain evaluator.
 
 ghost use Rattle.std.specs.Prelude.{IfOk};
 ghost use Rattle.smt_trees.specs.Tree.{sexp_of};
@@ -16,22 +16,23 @@ use smt_trees::{Bytes, Tree, Trees, Word};
 use smt_values::Value;
 use std::alloc::{AllocError, AllocFailed, Global};
 
-/// How many names are looked through for a step of evaluation.
+/// The evaluator looks through this many names for one step of evaluation.
 const NAMES: u64 = 64;
 
-/// A variable that a part sees: what it has for a value, the term that gives it, and what that sees.
+/// A variable that a part sees: the constant of its value, the term that gives the value, and the scope of that term.
 #[derive(Drop)]
 pub(crate) struct Bound<'a> {
     pub(crate) name: &'a [u8],
     pub(crate) constant: Tree,
     pub(crate) term: &'a Tree,
-    /// The scope of the term, and the one outside this variable. A scope is the number of its innermost variable,
-    /// from 1, and 0 is the empty one.
+    /// The scope of the term, and the scope outside this variable. A scope is the number of its innermost variable,
+    /// from 1; 0 is the empty scope.
     pub(crate) term_scope: usize,
     pub(crate) outer: usize,
 }
 
-/// What a claim stands over.
+/// What the evaluation of a claim needs: the definitions, the place of each name among them, and the names of the
+/// files.
 #[derive(Clone, Copy)]
 pub(crate) struct Over<'a, 'l> {
     pub(crate) alloc: Global,
@@ -41,7 +42,7 @@ pub(crate) struct Over<'a, 'l> {
     pub(crate) answers_name: &'l [u8],
 }
 
-/// What is left of the steps of a check and of the bytes of all of them, and what definitions cost.
+/// The steps left for a check, the bytes left for all checks, and the costs of definitions.
 #[derive(Drop)]
 pub(crate) struct Work {
     pub(crate) steps: u64,
@@ -50,7 +51,8 @@ pub(crate) struct Work {
 }
 
 impl Work {
-    /// Takes so many steps, if they are left.
+    /// Uses up this number of steps. Where fewer are left, none is left afterwards, and the error is
+    /// `Stopped::Steps`.
     pub(crate) fn take(&mut self, steps: u64) -> Result<(), Stopped> {
         if steps > self.steps {
             self.steps = 0;
@@ -61,7 +63,7 @@ impl Work {
     }
 }
 
-/// Why a part is not gone through.
+/// Why the explanation of a part stops.
 #[derive(Clone, Copy)]
 pub(crate) enum Stopped {
     Memory,
@@ -87,7 +89,7 @@ impl<T: Drop> From<AllocFailed<T>> for Stopped {
     }
 }
 
-/// What is known of a closed term over these definitions, of every theory.
+/// The value of a closed term over these definitions, with the operators of every theory; `None` where it is open.
 pub(crate) fn known(
     alloc: Global,
     definitions: &[Definition<'_>],
@@ -104,8 +106,9 @@ pub(crate) fn known(
     .value()
 }
 
-/// What is known of a closed term over the definitions of a world. It takes as many steps as the term costs, as
-/// docs/LANGUAGE.md counts them, and one more of each for every 64 names that are looked through.
+/// The value of a closed term over the definitions of a world; `None` where it is open. It uses up the steps that
+/// the term costs, as docs/LANGUAGE.md counts them. Each step counts once, and once more for every 64 names that
+/// the evaluator looks through.
 pub(crate) fn value_of(
     over: &Over<'_, '_>,
     work: &mut Work,
@@ -124,7 +127,7 @@ fn bound_at<'b, 'a>(bounds: &'b [Bound<'a>], scope: usize) -> Option<&'b Bound<'
     bounds.get(scope - 1)
 }
 
-/// The innermost variable of a name in a scope.
+/// The innermost variable of this name in a scope; `None` where the scope has none.
 pub(crate) fn find<'b, 'a>(
     bounds: &'b [Bound<'a>],
     scope: usize,
@@ -141,7 +144,7 @@ pub(crate) fn find<'b, 'a>(
     None
 }
 
-/// What is known of a term that sees variables: each stands for the constant that has its value.
+/// The value of a term that sees variables, each replaced by the constant of its value; `None` where it is open.
 pub(crate) fn value_in(
     over: &Over<'_, '_>,
     work: &mut Work,
@@ -180,7 +183,7 @@ fn binding(alloc: Global, name: &[u8], value: &Tree) -> Result<Tree, Memory> {
     Ok(Tree::List(Trees::new(parts)))
 }
 
-/// Adds a variable inside a scope, and answers the scope with it.
+/// Adds a variable inside a scope, and returns the new scope.
 pub(crate) fn bind<'a>(
     alloc: Global,
     bounds: &mut Vec<Bound<'a>>,

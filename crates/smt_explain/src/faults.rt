@@ -1,5 +1,5 @@
-//! What is told of faults: of a text, of a command, of an item of a model, and of the pairing. This file finds no
-//! fault: the line of the report names it. What a command needs of the answers it only says in words.
+//! The lines on faults: of a text, of a command, of an item of a model, and of the pairing. This file finds no
+//! fault: the line of the report names it. It says only in words what a command needs of the answers.
 
 use crate::force::in_force;
 use crate::ill_sorted::{ItemAt, tell_sorts_in_command, tell_sorts_in_item};
@@ -23,7 +23,7 @@ use std::alloc::Global;
 
 // ---- texts
 
-/// Where a text has its fault: its line, and what stands open there.
+/// Writes where a text has its fault: the rest of the line there, and what is still open.
 pub(crate) fn tell_text_fault(
     page: &mut Page,
     dialogue: &Dialogue<'_>,
@@ -59,7 +59,7 @@ pub(crate) fn tell_text_fault(
     }
 }
 
-// What stands open where a text ends: a token, and the innermost and the outermost list.
+// Writes what is open where a text ends: a token, and the innermost and the outermost list.
 fn tell_all_open(page: &mut Page, text: &[u8], name: &[u8], scan: &Scan) -> Result<(), Memory> {
     if let Some(token) = scan.token {
         tell_open(
@@ -111,7 +111,7 @@ fn line_at(text: &[u8], byte: usize) -> &[u8] {
 
 // ---- commands
 
-/// Why a command is refused.
+/// Writes why a command is refused.
 pub(crate) fn tell_command_fault(
     page: &mut Page,
     dialogue: &Dialogue<'_>,
@@ -153,7 +153,8 @@ fn meaning_of(flaw: TermFlaw) -> &'static [u8] {
     }
 }
 
-// The name that is unknown, or where the one stands that is in use.
+// Writes more on a flaw: the unknown name, the command or label with the name in use, the name bound twice, or the
+// sorts that differ.
 fn tell_term(
     page: &mut Page,
     dialogue: &Dialogue<'_>,
@@ -187,7 +188,7 @@ fn tell_term(
     }
 }
 
-// What stands before the command at a place.
+// The names in force before the command at a place.
 fn brought_before<'a>(
     alloc: Global,
     dialogue: &Dialogue<'a>,
@@ -208,7 +209,8 @@ fn tell_unknown(page: &mut Page, name: Option<&[u8]>) -> Result<(), Memory> {
     }
 }
 
-// The first label of an assertion that is in use: by a command before it, by an operator, or by a label before it.
+// Writes the first label of an assertion that is already in use: by an earlier command, an operator or an earlier
+// label.
 fn tell_label_in_use(
     page: &mut Page,
     dialogue: &Dialogue<'_>,
@@ -265,7 +267,7 @@ fn tell_sort_in_use(
     }
 }
 
-// The command before a place that brought a name which stands, by a label too.
+// Writes the command before a place that brought a name still in force, also by a label.
 fn tell_earlier(
     page: &mut Page,
     dialogue: &Dialogue<'_>,
@@ -278,7 +280,7 @@ fn tell_earlier(
     tell_bringer(page, dialogue, bringer, name)
 }
 
-// Tells the command that brought a name, or that the name is an operator's.
+// Writes the command that brought a name, or that the name is an operator's.
 fn tell_bringer(
     page: &mut Page,
     dialogue: &Dialogue<'_>,
@@ -295,7 +297,7 @@ fn tell_bringer(
     }
 }
 
-// The first name that the bindings of one `let`, or the parameters of one definition, bind twice.
+// Writes the first name that the bindings of one `let`, or the parameters of one definition, bind twice.
 fn tell_bound_twice(page: &mut Page, tree: &Tree) -> Result<(), Memory> {
     let all = all_in(page.alloc, tree)?;
     for part in all.as_slice() {
@@ -310,7 +312,7 @@ fn tell_bound_twice(page: &mut Page, tree: &Tree) -> Result<(), Memory> {
     Ok(())
 }
 
-// The first name that a list of pairs of a name and a tree has twice.
+// The first name that occurs twice in a list of pairs of a name and a tree.
 fn name_twice(alloc: Global, bindings: &[Tree]) -> Result<Option<&[u8]>, Memory> {
     let mut names = Scope::new(alloc);
     for binding in bindings {
@@ -337,7 +339,7 @@ fn bound_name(binding: &Tree) -> Option<&[u8]> {
 
 // ---- items
 
-/// Where an item of a model stands that has a fault, and what differs.
+/// Writes the place of an item of a model that has a fault, and what differs.
 pub(crate) fn tell_item_fault(
     page: &mut Page,
     dialogue: &Dialogue<'_>,
@@ -386,7 +388,7 @@ pub(crate) fn tell_item_fault(
     }
 }
 
-// What differs between an item of a model and what stands at the check.
+// Writes what differs between an item of a model and what is in force at the check.
 fn tell_item_names(
     page: &mut Page,
     dialogue: &Dialogue<'_>,
@@ -417,7 +419,7 @@ fn tell_item_names(
     }
 }
 
-// The command that declares the name of an item, if one does: its sorts may be others than the item's.
+// Writes the command that declares the name of an item, if there is one: its sorts may differ from those of the item.
 fn tell_declared(
     page: &mut Page,
     dialogue: &Dialogue<'_>,
@@ -436,7 +438,7 @@ fn tell_declared(
     }
 }
 
-// The items of a model, where the trees in its list stand so: a leading symbol `model` is none.
+// The items of a model, given the places of the trees in its list. A leading symbol `model` is no item.
 fn items_of<'a>(answers: &[u8], places: &'a [Span]) -> &'a [Span] {
     match places.split_first() {
         Some((first, rest)) if matches!(text_at(answers, *first), b"model") => rest,
@@ -444,7 +446,7 @@ fn items_of<'a>(answers: &[u8], places: &'a [Span]) -> &'a [Span] {
     }
 }
 
-// The first item that has the name of another.
+// Writes the first earlier item with the name of this one.
 fn tell_same_item(
     page: &mut Page,
     dialogue: &Dialogue<'_>,
@@ -495,7 +497,7 @@ fn tell_unknown_in_item(
 
 // ---- pairing
 
-/// Which command and which answer do not fit.
+/// Writes which command and which answer do not fit.
 pub(crate) fn tell_pairing(
     page: &mut Page,
     dialogue: &Dialogue<'_>,
@@ -527,7 +529,7 @@ pub(crate) fn tell_pairing(
     }
 }
 
-// What a command needs of the answers.
+// Writes what a command needs of the answers.
 fn tell_need(page: &mut Page, dialogue: &Dialogue<'_>, command: u64) -> Result<(), Memory> {
     let Some(pair) = dialogue.pairs.get(index_of_number(command)) else {
         return Ok(());

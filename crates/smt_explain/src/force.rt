@@ -1,4 +1,4 @@
-//! What is in force before a command: which earlier commands stand. This file reads no term.
+//! What is in force before a command: the earlier commands that still count. This file reads no term.
 
 use crate::pairs::{Head, Pair, word};
 use crate::scan::{Span, text_at};
@@ -9,15 +9,15 @@ use std::alloc::Global;
 /// The most levels that one command pushes or pops.
 const MOST_LEVELS: u64 = 10_000;
 
-/// A command that stands, by its place.
+/// A command in force, by its place among the commands, from 0.
 #[derive(Clone, Copy)]
 pub(crate) struct Stand {
     pub(crate) place: usize,
-    /// Whether its assertion is gone, and only its labels stand.
+    /// Whether its assertion is gone, and only its labels are in force.
     pub(crate) gone: bool,
 }
 
-/// The commands of a script, with what each is, and the profile of their language.
+/// The commands of a script, each with its kind, and the profile of their language.
 #[derive(Clone, Copy)]
 pub(crate) struct Commands<'a> {
     pub(crate) profile: Profile,
@@ -27,7 +27,7 @@ pub(crate) struct Commands<'a> {
 }
 
 impl<'a> Commands<'a> {
-    /// What the command at a place is, and its text.
+    /// The kind and the text of the command at a place, from 0.
     pub(crate) fn at(self, place: usize) -> Option<(Head, &'a [u8])> {
         let span = self.spans.get(place)?;
         let pair = self.pairs.get(place)?;
@@ -35,7 +35,7 @@ impl<'a> Commands<'a> {
     }
 }
 
-/// What stands, and at which level.
+/// The commands in force, how many there were at each `push`, and whether declarations are global.
 #[derive(Drop)]
 struct Standing {
     stands: Vec<Stand>,
@@ -43,7 +43,7 @@ struct Standing {
     global: bool,
 }
 
-/// The commands before the one at a place that declared, defined or asserted what stands there.
+/// The commands before the one at a place that declared, defined or asserted what is in force there.
 pub(crate) fn in_force(
     alloc: Global,
     commands: Commands<'_>,
@@ -108,7 +108,7 @@ fn take(
     Ok(())
 }
 
-// Leaves the first so many, and where declarations are global all that brought a name.
+// Keeps the first `mark` commands, and with global declarations also each later one that brought a name.
 fn leave(
     alloc: Global,
     standing: &mut Standing,
@@ -138,7 +138,7 @@ fn leave(
     Ok(())
 }
 
-/// Whether a text has the word of a label, perhaps in a comment or a string.
+/// Whether a text contains the keyword of a label, perhaps in a comment or a string.
 pub(crate) fn has_label(text: &[u8]) -> bool {
     let mut left = text;
     for _ in 0..text.len() {
@@ -153,7 +153,7 @@ pub(crate) fn has_label(text: &[u8]) -> bool {
     false
 }
 
-// How many levels a command pushes or pops: one where it says none.
+// How many levels a command pushes or pops: one where it gives no number.
 fn levels_of(text: &[u8]) -> u64 {
     let digits = word(text, 1);
     if digits.is_empty() {

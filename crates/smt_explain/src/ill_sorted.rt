@@ -1,4 +1,4 @@
-//! What is told of a command, or of an item of a model, in which sorts differ. This file checks no term itself.
+//! The lines on a command, or on an item of a model, in which sorts differ. This file checks no term itself.
 
 use crate::force::in_force;
 use crate::library::{Held, add_form, library_of, sort_named};
@@ -16,7 +16,7 @@ use std::alloc::Global;
 
 // ---- commands
 
-/// Which sorts differ in the command at a place, of which this is the tree.
+/// Writes which sorts differ in the command at a place, given its tree.
 pub(crate) fn tell_sorts_in_command(
     page: &mut Page,
     dialogue: &Dialogue<'_>,
@@ -52,7 +52,7 @@ fn tell_sorts_of_command<'a>(
     }
 }
 
-// What stands before the command at a place, or abbreviations of sorts alone.
+// A library of what is in force before the command at a place, or only of its abbreviations of sorts.
 fn library_before(
     alloc: Global,
     dialogue: &Dialogue<'_>,
@@ -107,7 +107,7 @@ fn tell_body<'a>(
     Ok(())
 }
 
-// The parameters that trees are, with their sorts.
+// The parameters in a list of trees, with their sorts; `None` where a tree names no sort.
 fn sorts_of_params<'a>(
     alloc: Global,
     library: &mut Library,
@@ -130,7 +130,8 @@ fn sorts_of_params<'a>(
 
 // ---- items
 
-/// An item of a model, by its place among the items, which stand so, and the place of the check's command.
+/// An item of a model: its place among the items, from 0, the spans of all items, and the place of the check's
+/// command.
 #[derive(Clone, Copy)]
 pub(crate) struct ItemAt<'a> {
     pub(crate) check: usize,
@@ -138,7 +139,7 @@ pub(crate) struct ItemAt<'a> {
     pub(crate) place: usize,
 }
 
-/// Which sorts differ in an item of a model.
+/// Writes which sorts differ in an item of a model.
 pub(crate) fn tell_sorts_in_item(
     page: &mut Page,
     dialogue: &Dialogue<'_>,
@@ -211,7 +212,7 @@ fn tell_sorts_in_body<'a>(
     }
 }
 
-// Tells where a rank is another than the declared one, and answers whether it is.
+// Writes where the rank of an item differs from the declared one, and returns whether it does.
 fn tell_rank(
     page: &mut Page,
     script: &Library,
@@ -252,7 +253,7 @@ fn tell_rank(
     Ok(false)
 }
 
-// Adds what the items before one define, and answers whether each has a meaning.
+// Adds what the items before this one define, and returns whether all of them have a meaning.
 fn add_items(
     alloc: Global,
     model: &mut Library,

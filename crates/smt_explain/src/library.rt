@@ -1,5 +1,5 @@
-//! The names that stand before a command, as the checker knows them, and the sorts of terms over them. This file
-//! finds no fault itself: sorts are those of the checker.
+//! The names in force before a command, as the checker knows them, and the sorts of terms over them. This file
+//! finds no fault itself: the sorts are those of the checker.
 
 ghost use Rattle.std.specs.Prelude.{◌≡◌, [], IfOk};
 ghost use Rattle.smt_trees.specs.Tree.{sexp_of};
@@ -39,7 +39,7 @@ pub(crate) fn sort_over(library: &mut Library, term: &Tree) -> Result<Option<Sor
 /// The sort that a tree names over the abbreviations of a library; `None` where it names none.
 pub(crate) fn sort_named(library: &mut Library, tree: &Tree) -> Result<Option<Sort>, Memory> {
     let mark = library.mark();
-    // (No name of a script has a bar in it.)
+    // (No symbol of a script contains a bar, so this name is free.)
     let declared = library.declare(1, b"|", &[], tree);
     let sort = match library.declared().last() {
         Some(last) => Some(last.result),
@@ -53,15 +53,15 @@ pub(crate) fn sort_named(library: &mut Library, tree: &Tree) -> Result<Option<So
     }
 }
 
-/// Which of what commands brought a library holds.
+/// What a library holds of the names that commands brought.
 #[derive(Clone, Copy, PartialEq, Eq)]
 pub(crate) enum Held {
     All,
-    /// Abbreviations of sorts alone.
+    /// Only abbreviations of sorts.
     Sorts,
 }
 
-/// A library of what these commands brought, of which each took effect before a place; `None` where one has a fault.
+/// A library of what these commands brought, each in effect before a place; `None` where one of them has a fault.
 pub(crate) fn library_of(
     alloc: Global,
     commands: Commands<'_>,
@@ -92,7 +92,7 @@ fn is_held(held: Held, head: Head, text: &[u8]) -> bool {
     }
 }
 
-// The theories of the logic that stands before a place: all where there is none.
+// The theories of the logic set before a place; all theories where none is set.
 fn theories_before(commands: Commands<'_>, before: usize) -> Theories {
     let mut theories = all_theories(commands.profile);
     for (place, pair) in commands.pairs.iter().enumerate() {

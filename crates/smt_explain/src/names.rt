@@ -7,7 +7,7 @@ use smt_forms::{Scope, is_bang, is_let, is_underscore, split_let, split_named};
 use smt_trees::{Tree, split_first};
 use std::alloc::Global;
 
-/// Where each name is defined, the last where several have it.
+/// The place of the definition of each name; of the last one where a name has several.
 pub(crate) fn index_of<'a>(alloc: Global, world: &'a World) -> Result<Scope<'a, usize>, Memory> {
     let mut index = Scope::new(alloc);
     for (place, defined) in world.definitions.as_slice().iter().enumerate() {
@@ -16,16 +16,16 @@ pub(crate) fn index_of<'a>(alloc: Global, world: &'a World) -> Result<Scope<'a, 
     Ok(index)
 }
 
-/// What a term costs to evaluate: its steps, as in docs/LANGUAGE.md, 2^64 - 1 for that and more; and the most
-/// variables that a term in it sees, or in a definition that it uses.
+/// The cost of evaluating a term. `steps` counts as docs/LANGUAGE.md does, and 2^64 - 1 means that or more. `width`
+/// is the most variables that one term sees, in the term itself or in a definition that it uses.
 #[derive(Clone, Copy)]
 pub(crate) struct Cost {
     pub(crate) steps: u64,
     pub(crate) width: u64,
 }
 
-/// What is known of each definition of a world, by its place: what its body costs, once that is asked, and whether it
-/// was met in a walk. Between two walks none was.
+/// For each definition of a world, by its place: the cost of its body, once it was asked for, and whether the
+/// present walk has met it. Between two walks no definition is marked as met.
 #[derive(Drop)]
 pub(crate) struct Costs {
     known: Vec<Option<Cost>>,
@@ -33,7 +33,7 @@ pub(crate) struct Costs {
 }
 
 impl Costs {
-    /// For the definitions of a world.
+    /// For the definitions of a world, no cost known.
     pub(crate) fn new(alloc: Global, world: &World) -> Result<Costs, Memory> {
         let count = world.definitions.len();
         let mut known = Vec::with_capacity(alloc, count)?;
@@ -45,7 +45,7 @@ impl Costs {
         Ok(Costs { known, met })
     }
 
-    // Marks a place, and answers whether it was not marked before.
+    // Marks a place as met, and returns whether it was not marked before.
     fn meet(&mut self, place: usize) -> bool {
         match self.met.get_mut(place) {
             Some(met) => {
@@ -57,7 +57,7 @@ impl Costs {
         }
     }
 
-    // What a term costs, whose outline this is.
+    // The cost of the term with this outline.
     fn cost(&self, outline: &Outline) -> Cost {
         let mut cost = Cost {
             steps: outline.own,
@@ -80,8 +80,8 @@ fn push_cost(costs: &mut Vec<Option<Cost>>, cost: Option<Cost>) -> Result<(), Me
     }
 }
 
-/// The definitions that a closed term uses, and those that these use, in order, with what the term costs. It takes
-/// time in proportion to the term and to these.
+/// The definitions that a closed term uses, directly or through others, in order, and the cost of the term. The
+/// time grows with the term and with these definitions, and not with the others of the world.
 pub(crate) fn used_by<'a>(
     alloc: Global,
     world: &'a World,
@@ -107,7 +107,7 @@ pub(crate) fn used_by<'a>(
     Ok((used, costs.cost(&outline)))
 }
 
-/// What a closed term costs.
+/// The cost of a closed term.
 pub(crate) fn cost_of(
     alloc: Global,
     world: &World,
@@ -130,7 +130,7 @@ fn push_definition<'a>(used: &mut Vec<Definition<'a>>, defined: &'a Defined) -> 
     }
 }
 
-// Finds the places of all that is used, in order, and what the bodies there cost. What was met stays marked.
+// Finds the places of all definitions used, in order, and the costs of their bodies. Those met stay marked.
 fn find_all(
     alloc: Global,
     world: &World,
@@ -166,8 +166,8 @@ fn find_all(
     Ok(())
 }
 
-// Adds the places that an outline names and that were not met. (Where memory is refused a place stays marked: then no
-// walk comes behind this one.)
+// Adds the places in an outline that were not yet met. (Where memory is refused, a place stays marked: no walk
+// comes after this one.)
 fn add_calls(costs: &mut Costs, outline: &Outline, places: &mut Vec<usize>) -> Result<(), Memory> {
     for place in outline.calls.as_slice() {
         if costs.meet(*place) {
@@ -179,8 +179,8 @@ fn add_calls(costs: &mut Costs, outline: &Outline, places: &mut Vec<usize>) -> R
 
 // ---- outlines
 
-/// What a term costs without the bodies of what it names, the most variables that a term in it sees, and the place of
-/// the definition of each name in it, at each use.
+/// A term without the bodies of the names in it: its own cost, the most variables that a term in it sees, and the
+/// definitions it calls. `calls` has the place of a definition once for each use.
 #[derive(Drop)]
 struct Outline {
     own: u64,
@@ -200,14 +200,14 @@ fn outline_of_body(
     outline_of(alloc, index, bound, &defined.body)
 }
 
-/// What is to be done next for an outline.
+/// The next task of the walk that makes an outline.
 #[derive(Clone, Copy)]
 enum Task<'a> {
     /// Count a term.
     Count(&'a Tree),
-    /// See the variables of these bindings from here on.
+    /// Let the variables of these bindings be seen from here on.
     Enter(&'a [Tree]),
-    /// See the first so many variables alone.
+    /// Let only the variables before this number be seen.
     Leave(usize),
 }
 
@@ -218,7 +218,7 @@ fn push_task<'a>(tasks: &mut Vec<Task<'a>>, task: Task<'a>) -> Result<(), Memory
     }
 }
 
-// The outline of a term behind variables of these names.
+// The outline of a term that sees variables of these names.
 fn outline_of<'a>(
     alloc: Global,
     index: &Scope<'_, usize>,
@@ -265,7 +265,7 @@ fn enter<'a>(bound: &mut Scope<'a, ()>, bindings: &'a [Tree]) -> Result<(), Memo
     Ok(())
 }
 
-// Adds the place of the definition that a term names, or that it calls.
+// Adds the place of the definition of the name that a term is or applies.
 fn add_call(
     index: &Scope<'_, usize>,
     bound: &Scope<'_, ()>,
@@ -283,7 +283,7 @@ fn add_call(
     Ok(())
 }
 
-// The name that a term is, or that it begins with.
+// The name that a term is or begins with.
 fn name_of(term: &Tree) -> Option<&[u8]> {
     match term {
         Tree::Symbol(name) => Some(name.as_slice()),
@@ -295,7 +295,7 @@ fn name_of(term: &Tree) -> Option<&[u8]> {
     }
 }
 
-// The terms in a term are to be counted, the last of these tasks first.
+// Adds a task for each term in a term; the task added last is done first.
 fn push_parts<'a>(tasks: &mut Vec<Task<'a>>, seen: usize, term: &'a Tree) -> Result<(), Memory> {
     let Tree::List(parts) = term else {
         return Ok(());

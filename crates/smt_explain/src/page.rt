@@ -1,20 +1,20 @@
-//! The lines of an explanation. Each is of printable bytes, and bounded, and so is how many there are of a check.
-//! This file knows nothing of what they say.
+//! The lines of an explanation. Each has a bounded number of printable bytes, and each check a bounded number of
+//! lines. This file knows nothing of what they say.
 
 use crate::scan::part;
 use smt_faults::Memory;
 use std::alloc::Global;
 
-/// The most bytes of a line.
+/// The most bytes of a line, without its end.
 const WIDTH: usize = 200;
 
-/// The most lines of a check.
+/// The most lines for one line of the report.
 const LINES: u64 = 200;
 
-/// The most bytes of a text of which the middle is left out.
+/// The most bytes of a text that is written without a gap in its middle.
 const TEXT: usize = 120;
 
-/// An explanation as it is written.
+/// An explanation that is being written.
 #[derive(Drop)]
 pub(crate) struct Page {
     pub(crate) alloc: Global,
@@ -33,17 +33,17 @@ impl Page {
         }
     }
 
-    /// Begins the lines of another check.
+    /// Begins the lines for another line of the report.
     pub(crate) fn begin(&mut self) {
         self.lines = 0;
     }
 
-    /// Whether another line may stand.
+    /// Whether a line fits, and another after it.
     pub(crate) fn has_room(&self) -> bool {
         self.lines.saturating_add(1) < LINES
     }
 
-    /// Puts bytes at the end of the line, those that are no printable ASCII as `?`.
+    /// Adds bytes at the end of the line, up to its width, with `?` for each that is not printable ASCII.
     pub(crate) fn put(&mut self, bytes: &[u8]) -> Result<(), Memory> {
         for byte in bytes {
             if self.line.len() >= WIDTH {
@@ -54,7 +54,7 @@ impl Page {
         Ok(())
     }
 
-    /// Puts a text of which the middle is left out where it is long; space, line ends and tabs are one space.
+    /// Adds a text, without its middle where it is long; each run of spaces, tabs and line ends becomes one space.
     pub(crate) fn put_cut(&mut self, text: &[u8]) -> Result<(), Memory> {
         if text.len() <= TEXT {
             return self.put_squeezed(text);
@@ -82,7 +82,7 @@ impl Page {
         self.put(text.as_bytes())
     }
 
-    /// Ends the line. Behind the last line that may stand no other does.
+    /// Ends the line, and leaves it out where the page has all its lines.
     pub(crate) fn end(&mut self) -> Result<(), Memory> {
         if self.lines < LINES {
             self.out.extend_from_slice(self.line.as_slice())?;
@@ -93,7 +93,7 @@ impl Page {
         Ok(())
     }
 
-    /// A line of its own.
+    /// Ends the line after a text.
     pub(crate) fn line(&mut self, text: &[u8]) -> Result<(), Memory> {
         self.put(text)?;
         self.end()

@@ -1,11 +1,11 @@
-//! Which answer each command took. This file judges no answer: the report says where the pairing ends.
+//! Which answer belongs to each command. This file judges no answer: the report says where the pairing ends.
 
 use crate::scan::{Span, is_word, part, text_at};
 use smt_faults::Memory;
 use smt_theory::Profile;
 use std::alloc::Global;
 
-/// What a command is, as far as answers and what is in force go.
+/// The kind of a command, as far as its answer and what is in force depend on it.
 #[derive(Clone, Copy, PartialEq, Eq)]
 pub(crate) enum Head {
     Assert,
@@ -28,7 +28,7 @@ pub(crate) enum Head {
     Other,
 }
 
-/// A command, and the place among the answers of the one that it took.
+/// A command's kind, the place of its answer among all answers, and whether the command is effective.
 #[derive(Clone, Copy)]
 pub(crate) struct Pair {
     pub(crate) head: Head,
@@ -36,16 +36,16 @@ pub(crate) struct Pair {
     pub(crate) effective: bool,
 }
 
-/// What a command needs of the answers.
+/// The answer that a command needs, if it needs one.
 #[derive(Clone, Copy)]
 enum Need {
     Nothing,
     Needed,
-    /// The next answer, where it is `success`.
+    /// The next answer, if it is `success`.
     Success,
-    /// Where it is `unsupported`.
+    /// The next answer, if it is `unsupported`.
     Unsupported,
-    /// Where it is either, or an error.
+    /// The next answer, if it is `success`, `unsupported` or an error.
     General,
 }
 
@@ -58,7 +58,7 @@ enum Said {
     Else,
 }
 
-/// How a solver answers from the start.
+/// The solver's behaviour from the start: whether it prints `success`, and the profile of the language.
 #[derive(Clone, Copy)]
 pub(crate) struct Start {
     pub(crate) prints_success: bool,
@@ -159,7 +159,7 @@ fn said_by(answer: &[u8]) -> Said {
     }
 }
 
-/// What a command is, by its first words.
+/// The kind of a command, read from its first words.
 pub(crate) fn head_of(text: &[u8]) -> Head {
     match word(text, 0) {
         b"assert" => Head::Assert,
@@ -197,7 +197,8 @@ fn option_of(text: &[u8]) -> Head {
     }
 }
 
-/// The atom of a list that stands behind so many others, if no list stands before it: its bytes, without bars.
+/// The bytes of the atom of a list at a place, from 0, without bars; none where a list comes before it or it is
+/// missing.
 pub(crate) fn word(text: &[u8], place: usize) -> &[u8] {
     let mut skipped = 0usize;
     let mut within = Within::Gap;
@@ -220,14 +221,14 @@ pub(crate) fn word(text: &[u8], place: usize) -> &[u8] {
     }
 }
 
-/// What a byte of a list stands within.
+/// What a byte of a list is within.
 #[derive(Clone, Copy)]
 enum Within {
     Gap,
     Comment,
     /// An atom that begins at this byte.
     Word(usize),
-    /// An atom between bars, the first byte of which is this.
+    /// An atom between bars, whose first byte is at this place.
     Bars(usize),
 }
 
@@ -240,7 +241,7 @@ fn ends(within: Within, byte: u8) -> bool {
     }
 }
 
-// What the next byte stands within.
+// What the next byte is within.
 fn after(within: Within, index: usize, byte: u8) -> Within {
     match within {
         Within::Gap => match byte {

@@ -8,23 +8,23 @@ use smt_forms::{split_let, split_named};
 use smt_trees::{Tree, Word, split_first};
 use smt_values::Value;
 
-/// What is known of a part.
+/// The value of a part, as far as it is known.
 #[derive(Clone, Copy, PartialEq, Eq)]
 pub(crate) enum Known {
     True,
     False,
-    /// A value that is no truth value.
+    /// A value other than `true` and `false`.
     Else,
     Open,
 }
 
-/// A part of a claim.
+/// A part of a claim, with its scope and its value.
 #[derive(Clone, Copy)]
 pub(crate) struct Part<'a> {
     pub(crate) term: &'a Tree,
     pub(crate) scope: usize,
     pub(crate) value: Known,
-    /// The definition that it stands in.
+    /// The place of the definition that it is in; `None` in the claim itself.
     pub(crate) within: Option<usize>,
 }
 
@@ -37,7 +37,7 @@ fn known_as(value: Option<Value>) -> Known {
     }
 }
 
-/// Tells the parts of a claim that make it what it is known to be, as far as lines and steps are left.
+/// Writes the smallest parts of a claim that give it its value, as far as lines and steps are left.
 pub(crate) fn tell_parts<'a>(
     page: &mut Page,
     over: &Over<'a, '_>,
@@ -75,7 +75,7 @@ pub(crate) fn tell_parts<'a>(
 
 // ---- the way down
 
-// Puts the parts of a part that make it what it is, the first on top; none where it is a smallest one.
+// Adds the parts of a part that give it its value, the first on top. A smallest part has none.
 fn go_down<'a>(
     over: &Over<'a, '_>,
     work: &mut Work,
@@ -141,7 +141,7 @@ fn go_into_name<'a>(
     }
 }
 
-/// The definition of a name, with its place in the world.
+/// The definition of a name, and its place in the world.
 pub(crate) fn defined_at<'a>(over: &Over<'a, '_>, name: &[u8]) -> Option<(usize, &'a Defined)> {
     let place = over.index.find(name)?;
     let defined = over.world.definitions.get(place)?;
@@ -244,14 +244,14 @@ fn go_into_operator<'a>(
         Known::False => push_deciding(name, false, inner.as_slice(), left)?,
         Known::Else => {}
     }
-    // The last that was put stands on top: the first of them is to.
+    // (The part added last is on top, where the first has to be.)
     if let Some(added) = left.as_mut_slice().get_mut(before..) {
         added.reverse();
     }
     Ok(())
 }
 
-// The arguments that make a connective true or false.
+// Adds the arguments that make a connective true or false.
 fn push_deciding<'a>(
     name: &[u8],
     value: bool,
@@ -277,7 +277,7 @@ fn push_first<'a>(inner: &[Part<'a>], left: &mut Vec<Part<'a>>) -> Result<(), St
     }
 }
 
-// Those with a value.
+// Adds all parts with this value.
 fn push_those<'a>(
     inner: &[Part<'a>],
     value: Known,
@@ -291,7 +291,7 @@ fn push_those<'a>(
     Ok(())
 }
 
-// The first with a value.
+// Adds the first part with this value.
 fn push_one<'a>(inner: &[Part<'a>], value: Known, left: &mut Vec<Part<'a>>) -> Result<(), Stopped> {
     for part in inner {
         if part.value == value {
@@ -301,8 +301,8 @@ fn push_one<'a>(inner: &[Part<'a>], value: Known, left: &mut Vec<Part<'a>>) -> R
     Ok(())
 }
 
-// Of an implication: what is behind the arrow where that is true, else a premise that is false, and where it is
-// false the conclusion and then the premises.
+// Adds the parts that decide an implication. Where it is true: its conclusion if that is true, otherwise a false
+// premise. Where it is false: the conclusion, and then the true premises.
 fn push_implied<'a>(
     value: bool,
     inner: &[Part<'a>],
@@ -334,7 +334,7 @@ fn push_branch<'a>(inner: &[Part<'a>], left: &mut Vec<Part<'a>>) -> Result<(), S
     Ok(())
 }
 
-/// Whether a term is a constant as it is written.
+/// Whether a term is a literal: a constant as a text has it.
 pub(crate) fn is_literal(term: &Tree) -> bool {
     match term {
         Tree::Symbol(name) => matches!(name.as_slice(), b"true" | b"false"),

@@ -1,5 +1,5 @@
-//! The places of the trees of a text. This file makes no tree, and knows of a text only where its tokens and
-//! lists begin and end.
+//! The places of the trees of a text. This file makes no tree. It knows only where the tokens and lists of a text
+//! begin and end.
 
 ghost use Rattle.std.specs.Prelude.{◌≡◌, List, ℕ, All, IfOk, OnOk, take};
 ghost use Rattle.smt_explain.specs.Places as places;
@@ -10,10 +10,10 @@ ghost use Rattle.smt_explain.specs.declared.scan.Place.{Place as At};
 use smt_faults::Memory;
 use std::alloc::Global;
 
-/// How many lists that are open are remembered: lists nest no deeper in a text that is read.
+/// The most open lists that a scan remembers: lists nest no deeper in a text that the reader accepts.
 const MOST_OPEN: usize = 1001;
 
-/// A place in a text: its byte from 0, its line, and the byte of its line, both from 1.
+/// A place in a text: the byte from 0, the line from 1, and the byte within the line, from 1.
 #[derive(Clone, Copy)]
 pub struct Place {
     pub byte: usize,
@@ -21,31 +21,31 @@ pub struct Place {
     pub column: u64,
 }
 
-/// Where a tree stands: its first byte, and the byte behind its last.
+/// Where a tree is: the place of its first byte, and the byte after its last, from 0.
 #[derive(Clone, Copy)]
 pub struct Span {
     pub start: Place,
     pub end: usize,
 }
 
-/// What is found in a text: its trees, in order, and, where it ends inside one, what is open.
+/// What a scan finds in a text: its trees in order and, where the text ends inside one, what is open there.
 #[derive(Drop)]
 pub struct Scan {
     pub spans: Vec<Span>,
-    /// Where each list that is open at the end begins, the outermost first.
+    /// The places where the lists begin that are open at the end, the outermost first.
     pub open: Vec<Place>,
-    /// Where the token begins that the text ends in, if it is not whole.
+    /// The place where the last token begins, if it is a string or a quoted symbol that does not end.
     pub token: Option<Place>,
-    /// The end of the text.
+    /// The place after the last byte of the text.
     pub end: Place,
 }
 
-/// What a byte stands in.
+/// What the next byte is in.
 #[derive(Clone, Copy, PartialEq, Eq)]
 enum Mode {
     /// Between tokens.
     Gap,
-    /// Behind a `;`.
+    /// After a `;`.
     Comment,
     /// In an atom without quotes.
     Atom,
@@ -53,7 +53,7 @@ enum Mode {
     Bars,
     /// Between the quotes of a string.
     Text,
-    /// Behind a quote in a string, which ends it unless another follows.
+    /// After a quote in a string: it ends the string unless another quote follows.
     Quote,
 }
 
@@ -62,16 +62,16 @@ struct Scanner {
     mode: Mode,
     depth: usize,
     here: Place,
-    /// Whether every token is found, in place of every tree.
+    /// Whether the scan looks for every token instead of every tree.
     tokens: bool,
-    /// Where the outermost list that is open begins, and the token in turn.
+    /// Where the outermost open list begins, and where the last token begins.
     list: Place,
     token: Place,
     spans: Vec<Span>,
     open: Vec<Place>,
 }
 
-/// Finds the trees of a text, whose first byte stands at a place.
+/// Finds the trees of a text whose first byte is at a place. It refuses no text: the only error is `Memory`.
 pub fn find_trees(alloc: Global, text: &[u8], from: Place) -> Result<Scan, Memory>
     ensures at { IfOk result (λ s. All (λ span. IsPlaceIn text.now from span.start) s.spans.items) }
     ensures end { IfOk result (λ s. s.end ≡ places.place_behind text.now from) }
@@ -79,7 +79,7 @@ pub fn find_trees(alloc: Global, text: &[u8], from: Place) -> Result<Scan, Memor
     scan_text(alloc, text, from, false)
 }
 
-/// Finds the tokens of a text, at every depth, but for parentheses.
+/// Finds the tokens of a text at every depth, without the parentheses.
 pub(crate) fn find_tokens(alloc: Global, text: &[u8], from: Place) -> Result<Vec<Span>, Memory> {
     Ok(scan_text(alloc, text, from, true)?.spans)
 }
@@ -151,7 +151,7 @@ impl Scanner {
         }
     }
 
-    // Takes a byte between tokens.
+    // Consumes a byte between tokens.
     fn begin(&mut self, byte: u8) -> Result<(), Memory>
         ensures at { OnOk result
             ((text : List ℕ) (begin : At) → AreAt text begin self.old → AreAt text begin self.new) }
@@ -250,7 +250,7 @@ impl Scanner {
     }
 }
 
-// Whether an atom without quotes goes on with this byte.
+// Whether an atom without quotes can contain this byte.
 pub(crate) fn is_word(byte: u8) -> bool {
     !matches!(
         byte,
@@ -258,7 +258,7 @@ pub(crate) fn is_word(byte: u8) -> bool {
     )
 }
 
-/// The bytes of a text from one place up to another; none where there are no such places.
+/// The bytes of a text from one place up to another; empty where the text has no such places.
 pub(crate) fn part(text: &[u8], start: usize, end: usize) -> &[u8] {
     if start <= end && end <= text.len() {
         &text[start..end]
@@ -283,14 +283,14 @@ pub(crate) fn first_place() -> Place
     }
 }
 
-/// The place of a byte of a text, or of its end where it has no such byte.
+/// The place of a byte of a text, counted from 0; the end of the text where it has no such byte.
 pub(crate) fn place_of(text: &[u8], byte: usize) -> Place
     ensures { result ≡ places.place_behind (take byte text.now) places.first }
 {
     place_behind(&text[..byte.min(text.len())], first_place())
 }
 
-// The place behind bytes that begin at a place.
+// The place after bytes that begin at a place.
 fn place_behind(text: &[u8], place: Place) -> Place
     ensures { result ≡ places.place_behind text.now place }
 {
@@ -303,7 +303,7 @@ fn place_behind(text: &[u8], place: Place) -> Place
     here
 }
 
-// The place behind a byte at a place.
+// The place after a byte at a place.
 fn behind(place: Place, byte: u8) -> Place
     ensures { result ≡ places.behind_byte byte place }
 {

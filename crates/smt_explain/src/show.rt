@@ -7,10 +7,10 @@ use smt_trees::{Bytes, Tree, Trees, spelling};
 use smt_values::Value;
 use std::alloc::Global;
 
-/// How many bytes of a tree are written before the rest is left out.
+/// The most bytes of the text of a tree: a longer text is cut.
 const MOST: usize = 4096;
 
-/// The text of a tree, which ends with ` ..` where it is very long.
+/// The text of a tree; a text over 4,096 bytes is cut there, and ends with ` ..`.
 pub(crate) fn text_of(alloc: Global, tree: &Tree) -> Result<Vec<u8>, Memory> {
     let mut out = Vec::new(alloc);
     write_tree(alloc, &mut out, tree)?;
@@ -21,7 +21,7 @@ pub(crate) fn text_of(alloc: Global, tree: &Tree) -> Result<Vec<u8>, Memory> {
     Ok(out)
 }
 
-// What is to be written next.
+// What the writer puts next.
 #[derive(Clone, Copy)]
 enum Next<'a> {
     Tree(&'a Tree),
@@ -55,7 +55,7 @@ fn write_tree(alloc: Global, out: &mut Vec<u8>, tree: &Tree) -> Result<(), Memor
     Ok(())
 }
 
-// What is to be written of a list behind its parenthesis, the last first.
+// Adds what follows the opening parenthesis of a list, the last of it first.
 fn push_list<'a>(left: &mut Vec<Next<'a>>, parts: &'a Trees) -> Result<(), Memory> {
     push_next(left, Next::Bytes(b")"))?;
     let mut rest = parts.as_slice();
@@ -99,7 +99,7 @@ fn put(out: &mut Vec<u8>, bytes: &[u8]) -> Result<(), Memory> {
     Ok(())
 }
 
-// A name, between bars where it is no plain one.
+// Writes a name, between bars unless its bytes are those of a simple symbol.
 pub(crate) fn put_name(out: &mut Vec<u8>, name: &[u8]) -> Result<(), Memory> {
     if is_plain(name) {
         return put(out, name);
@@ -133,7 +133,7 @@ fn is_name_byte(byte: u8) -> bool {
     }
 }
 
-/// The constant that has a value; a keyword, which has none, where it is open.
+/// The constant of a value; without a value the keyword `:open`, to which the evaluator gives none.
 pub(crate) fn constant(alloc: Global, value: &Option<Value>) -> Result<Tree, Memory> {
     match value {
         None => Ok(Tree::Keyword(Bytes::new(alloc, b"open")?)),
@@ -149,7 +149,7 @@ fn vector(alloc: Global, bits: &Bits) -> Result<Tree, Memory> {
     Ok(Tree::Bin(Bytes::new(alloc, digits.as_slice())?))
 }
 
-/// A constant of a sort, as it is written.
+/// A constant of a sort: `true`, 0, or a vector of zeros.
 pub(crate) fn constant_of(alloc: Global, sort: Sort) -> Result<Tree, Memory> {
     match sort {
         Sort::Bool => symbol(alloc, b"true"),
@@ -181,7 +181,7 @@ fn integer(alloc: Global, number: i128) -> Result<Tree, Memory> {
     }
 }
 
-// The bits of a number, so many of them, the highest first.
+// The lowest `count` bits of a number, at most 128, as digits, the highest first.
 fn digits_of(alloc: Global, number: u128, count: u64) -> Result<Vec<u8>, Memory> {
     let mut digits = Vec::new(alloc);
     for place in 0..128u32 {

@@ -1,5 +1,5 @@
-//! Which sorts differ where a term is ill sorted: the smallest part that is, the argument that does not fit, and
-//! the sort that is needed there. This file knows no values, and no command.
+//! The sorts that differ where a term is ill sorted: its smallest ill-sorted part, the argument that does not fit,
+//! and the sort needed there. This file knows no values and no command.
 
 use crate::library::sort_over;
 use crate::page::Page;
@@ -11,25 +11,25 @@ use smt_theory::{Sort, Width};
 use smt_trees::{Tree, Trees, Word, split_first};
 use std::alloc::Global;
 
-/// How many arguments of an operator are looked at for one that does not fit.
+/// How many arguments of an operator are tried in the search for one that does not fit.
 const MOST_ARGUMENTS: usize = 100;
 
-/// Finds the sorts of terms, from the inside: a part is checked with a constant of its sort in the place of each
-/// of its arguments.
+/// Finds the sorts of terms from the inside out. It checks an application with each argument replaced by a constant
+/// of its sort.
 #[derive(Drop)]
 pub(crate) struct Sorter<'a> {
     pub(crate) alloc: Global,
     pub(crate) library: Library,
     /// The variables that a term sees.
     pub(crate) variables: Scope<'a, Sort>,
-    /// The sorts of the arguments that were looked at before, and whose application was not.
+    /// The sorts of arguments already checked, whose applications are still to be checked.
     sorts: Vec<Sort>,
-    /// The smallest part that is ill sorted, once it is found, and where the sorts of its arguments begin.
+    /// The smallest ill-sorted part, once it is found, and where the sorts of its arguments begin in `sorts`.
     found: Option<(&'a Tree, usize)>,
 }
 
 impl<'a> Sorter<'a> {
-    /// Over the names of a library.
+    /// A sorter over the names of a library.
     pub(crate) fn new(alloc: Global, library: Library) -> Sorter<'a> {
         Sorter {
             alloc,
@@ -40,7 +40,7 @@ impl<'a> Sorter<'a> {
         }
     }
 
-    /// The sort of a term, which sees the variables; `None` where a part of it is ill sorted.
+    /// The sort of a term that sees the variables; `None` where a part of it is ill sorted.
     #[cycle(sort)]
     pub(crate) fn sort_of(&mut self, term: &'a Tree) -> Result<Option<Sort>, Memory> {
         match term {
@@ -123,7 +123,7 @@ impl<'a> Sorter<'a> {
             self.variables.push(name, *sort)?;
         }
         let sort = self.sort_of(body)?;
-        // (What a part that was found sees stays.)
+        // (The variables that an ill-sorted part sees stay.)
         if sort.is_some() {
             self.variables.cut(before);
         }
@@ -137,7 +137,7 @@ impl<'a> Sorter<'a> {
         }
     }
 
-    // The sorts of the parameters of a name.
+    // The sorts of the parameters of a name; `None` for a name that is not in the library.
     fn params_of(&self, name: &[u8]) -> Result<Option<Vec<Sort>>, Memory> {
         let mut sorts = Vec::new(self.alloc);
         match self.library.find(name) {
@@ -168,7 +168,7 @@ fn sorts_from(sorts: &[Sort], first: usize) -> &[Sort] {
     }
 }
 
-// The sort of an application of a head to arguments of these sorts.
+// The sort of a head applied to arguments of these sorts; `None` where they do not fit.
 fn sort_applied(
     alloc: Global,
     library: &mut Library,
@@ -183,7 +183,7 @@ fn sort_applied(
     sort_over(library, &Tree::List(Trees::new(parts)))
 }
 
-/// Adds a variable behind others.
+/// Adds a variable after the others.
 pub(crate) fn push_variable<'a>(
     variables: &mut Vec<(&'a [u8], Sort)>,
     name: &'a [u8],
@@ -195,9 +195,9 @@ pub(crate) fn push_variable<'a>(
     }
 }
 
-// ---- what is told
+// ---- what is written
 
-/// Tells what is wrong with a term that has to be of a sort, and answers whether there was something to tell.
+/// Writes what is wrong with a term that has to be of a sort, and returns whether anything is.
 pub(crate) fn tell_term_of_sort<'a>(
     page: &mut Page,
     sorter: &mut Sorter<'a>,
@@ -220,7 +220,7 @@ pub(crate) fn tell_term_of_sort<'a>(
     }
 }
 
-/// Ends a line: one sort is there, and another is needed.
+/// Ends a line: it says which sort there is, and which is needed.
 pub(crate) fn tell_difference(page: &mut Page, sort: Sort, wanted: Sort) -> Result<(), Memory> {
     page.put(b" is of sort ")?;
     put_sort(page, sort)?;
@@ -241,7 +241,7 @@ fn put_sort(page: &mut Page, sort: Sort) -> Result<(), Memory> {
     }
 }
 
-/// Ends a line: so many arguments are needed, and so many are there.
+/// Ends a line: it says how many arguments are needed, and how many there are.
 pub(crate) fn tell_counts(page: &mut Page, needed: usize, given: usize) -> Result<(), Memory> {
     page.put_number(needed as u64)?;
     page.put(b", and there are ")?;
@@ -249,7 +249,7 @@ pub(crate) fn tell_counts(page: &mut Page, needed: usize, given: usize) -> Resul
     page.end()
 }
 
-// Tells the smallest part that was found, and what does not fit in it.
+// Writes the smallest ill-sorted part, and what does not fit in it.
 fn tell_found(page: &mut Page, sorter: &mut Sorter<'_>) -> Result<(), Memory> {
     let Some((part, first)) = sorter.found else {
         return Ok(());
@@ -295,7 +295,7 @@ fn tell_application(
     }
 }
 
-// Which argument does not fit the rank of a name.
+// Writes which argument does not fit the rank of a name.
 fn tell_rank(
     page: &mut Page,
     alloc: Global,
@@ -326,8 +326,8 @@ fn put_argument(page: &mut Page, alloc: Global, index: usize, arg: &Tree) -> Res
     page.put(b",")
 }
 
-// Which argument does not fit an operator: the last for which there is a sort that fits. Where there is none, the
-// sorts of all.
+// Writes which argument does not fit an operator: the last one for which another sort would fit. Where there is
+// none, it writes the sorts of all arguments.
 fn tell_operator(
     page: &mut Page,
     alloc: Global,
@@ -353,8 +353,8 @@ fn tell_operator(
     page.end()
 }
 
-// The first sort that fits in the place of an argument: one of the other arguments', or else `Bool`, or `Int`, or
-// vectors of few or many bits.
+// The first sort that fits in the place of an argument. It tries the sorts of all arguments, then `Bool`, `Int`,
+// and vectors of 1, 8, 16, 32, 64 and 128 bits.
 fn fitting(
     alloc: Global,
     library: &mut Library,

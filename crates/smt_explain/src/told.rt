@@ -1,4 +1,4 @@
-//! The explanation of a report, line by line. This file finds no line itself: it is handed them.
+//! The explanation of a report, line by line. This file finds no line itself: it is given the lines.
 
 use crate::evaluation::{Over, Stopped, Work, value_of};
 use crate::faults::{tell_command_fault, tell_item_fault, tell_pairing, tell_text_fault};
@@ -18,14 +18,15 @@ use smt_trees::{Tree, split_first};
 use smt_values::Value;
 use std::alloc::Global;
 
-/// How many bytes of commands and models are read, all checks together, beside as many as both texts have.
+/// How many bytes of commands and models may be read for all checks together, beyond the size of both texts.
 const LEAST: u64 = 10_000_000;
 
-/// What is told of a check for which no work is left.
+/// The line for a check for which no work is left.
 pub(crate) const ENOUGH: &[u8] = b"  (enough was looked at for the checks above)";
 
-/// Both texts of a dialogue, what the files are called, whether the solver prints `success` from the start, the
-/// profile of the language, and how many steps of evaluation the explanation of a check may take.
+/// Both texts of a dialogue, and the names of their files. `prints_success` says whether the solver prints
+/// `success` from the start, and `profile` which language the texts are in. The explanation of one check may take
+/// `steps` steps of evaluation.
 #[derive(Clone, Copy)]
 pub struct Texts<'a> {
     pub script: &'a [u8],
@@ -37,7 +38,7 @@ pub struct Texts<'a> {
     pub steps: u64,
 }
 
-/// What was found of both texts.
+/// What the scans and the pairing found in both texts.
 #[derive(Clone, Copy)]
 pub(crate) struct Dialogue<'a> {
     pub(crate) texts: Texts<'a>,
@@ -59,9 +60,9 @@ impl<'a> Dialogue<'a> {
     }
 }
 
-/// The explanation of the lines that a report has on a dialogue: of each check that is not confirmed, and of the
-/// fault. Each line has at most 200 bytes, printable ASCII and the end of the line; of one check there are at most
-/// 200.
+/// Explains the lines of a report on a dialogue: each check that is not confirmed, and the fault. Each line has at
+/// most 200 bytes of printable ASCII before its line feed, and for each line of the report there are at most 200
+/// such lines. It refuses no text and no line: the only error is `Memory`.
 pub fn explain(alloc: Global, texts: Texts<'_>, lines: &[Line]) -> Result<Vec<u8>, Memory> {
     let script_scan = find_trees(alloc, texts.script, first_place())?;
     let answers_scan = find_trees(alloc, texts.answers, first_place())?;
@@ -127,7 +128,7 @@ fn tell_line(
     }
 }
 
-// Why a model does not confirm a check.
+// Writes why a model does not confirm a check.
 fn tell_judgement(
     page: &mut Page,
     dialogue: &Dialogue<'_>,
@@ -183,7 +184,7 @@ fn tell_fault(page: &mut Page, dialogue: &Dialogue<'_>, line: &Line) -> Result<(
 
 // ---- places
 
-/// The index of what is counted from 1.
+/// The index, from 0, of what is counted from 1.
 pub(crate) fn index_of_number(number: u64) -> usize {
     match usize::try_from(number) {
         Ok(number) => number.saturating_sub(1),
@@ -192,7 +193,7 @@ pub(crate) fn index_of_number(number: u64) -> usize {
 }
 
 pub(crate) fn put_place(page: &mut Page, name: &[u8], place: Place) -> Result<(), Memory> {
-    // (of a long name the end)
+    // (of a long name only the last 60 bytes)
     let from = name.len().saturating_sub(60);
     page.put(&name[from..])?;
     page.put(b":")?;
@@ -201,7 +202,7 @@ pub(crate) fn put_place(page: &mut Page, name: &[u8], place: Place) -> Result<()
     page.put_number(place.column)
 }
 
-// The line on which a check stands.
+// Writes the line that names a check.
 fn tell_check(
     page: &mut Page,
     dialogue: &Dialogue<'_>,
@@ -213,7 +214,7 @@ fn tell_check(
     tell_command(page, dialogue, b": ", command)
 }
 
-/// A command with its place and its text.
+/// Writes a command with its place and its text.
 pub(crate) fn tell_command(
     page: &mut Page,
     dialogue: &Dialogue<'_>,
@@ -231,7 +232,7 @@ pub(crate) fn tell_command(
     page.end()
 }
 
-/// An answer with its place and its text.
+/// Writes an answer with its place and its text.
 pub(crate) fn tell_answer(
     page: &mut Page,
     dialogue: &Dialogue<'_>,
@@ -247,7 +248,7 @@ pub(crate) fn tell_answer(
     page.end()
 }
 
-// A text of a file: without comments, where it is short.
+// Writes a piece of a file: without its comments where it has at most 4,096 bytes.
 fn put_text(page: &mut Page, text: &[u8]) -> Result<(), Memory> {
     if text.len() <= 4096
         && let Some(tree) = tree_of(page.alloc, text)?
@@ -264,12 +265,12 @@ fn tell_answer_of(page: &mut Page, dialogue: &Dialogue<'_>, command: u64) -> Res
     }
 }
 
-/// The place among the answers of the one that a command took.
+/// The place, among the answers, of the answer to a command.
 pub(crate) fn answer_of(dialogue: &Dialogue<'_>, command: u64) -> Option<usize> {
     dialogue.pairs.get(index_of_number(command))?.answer
 }
 
-/// Where the model stands that was printed for a command.
+/// Where the model printed for a command is.
 pub(crate) fn model_of(dialogue: &Dialogue<'_>, model: u64) -> Option<Span> {
     dialogue.given.get(answer_of(dialogue, model)?).copied()
 }
@@ -287,7 +288,7 @@ fn tell_model(page: &mut Page, dialogue: &Dialogue<'_>, model: u64) -> Result<()
 
 // ---- claims
 
-// Takes so many bytes of what is left to be gone through, or answers that there are no so many.
+// Takes this number of bytes from the work that is left, or returns `false` where fewer are left.
 fn take_work(left: &mut u64, bytes: u64) -> bool {
     if *left < bytes {
         return false;
@@ -296,7 +297,8 @@ fn take_work(left: &mut u64, bytes: u64) -> bool {
     true
 }
 
-// How many bytes are read for the definitions of what stands. An assertion without labels is only looked over.
+// How many bytes are read for the definitions in force. An assertion without labels is only looked over, and counts
+// an eighth.
 fn size_of(dialogue: &Dialogue<'_>, standing: &[Stand]) -> u64 {
     let mut size = 0u64;
     for stand in standing {
@@ -309,7 +311,7 @@ fn size_of(dialogue: &Dialogue<'_>, standing: &[Stand]) -> u64 {
     size
 }
 
-// The term of a claim, out of its command.
+// The term of a claim, found in its command.
 fn claim_term(command: &Tree, claim: Claim) -> Option<&Tree> {
     let Tree::List(parts) = command else {
         return None;
@@ -324,7 +326,7 @@ fn claim_term(command: &Tree, claim: Claim) -> Option<&Tree> {
     }
 }
 
-// A claim of a check that is false or open, why, and where the model stands.
+// Writes a claim of a check that is false or open, the reason, and the place of the model.
 fn tell_claim(
     page: &mut Page,
     dialogue: &Dialogue<'_>,
@@ -356,7 +358,7 @@ fn tell_claim(
     tell_model(page, dialogue, model)
 }
 
-// Why a claim is false or open.
+// Writes why a claim is false or open.
 fn tell_reason(
     page: &mut Page,
     dialogue: &Dialogue<'_>,
@@ -386,11 +388,11 @@ fn tell_reason(
     }
 }
 
-// A claim of a check, and what it is known to be.
+// A claim of a check, and the value it is known to have.
 #[derive(Clone, Copy)]
 struct Claimed {
     check: u64,
-    /// The command that has its term.
+    /// The command that contains its term.
     command: u64,
     claim: Claim,
     value: Known,
@@ -407,8 +409,8 @@ fn tree_of_command(
     }
 }
 
-// What stands at a check, and the definitions there, with those of the model that was printed for a command; `None`
-// where too little work is left for that.
+// The commands in force at a check, and their definitions with those of the model that answers a command; `None`
+// where too little work is left.
 fn world_at(
     alloc: Global,
     dialogue: &Dialogue<'_>,
@@ -429,8 +431,8 @@ fn world_at(
     Ok(Some((standing, world)))
 }
 
-/// What stands at a check; `None` where too little work is left to look at that and at the model that was printed for
-/// a command.
+/// The commands in force at a check; `None` where too little work is left for them and for the model that answers a
+/// command.
 pub(crate) fn standing_at(
     alloc: Global,
     dialogue: &Dialogue<'_>,
@@ -489,7 +491,7 @@ fn tell_in(
     tell_assumptions(page, dialogue, &over, &mut work, claimed)
 }
 
-// The assertions behind a claim that are false too, as far as they fit on the page.
+// Writes the assertions after a claim that are false too, as far as they fit on the page.
 fn tell_assertions(
     page: &mut Page,
     dialogue: &Dialogue<'_>,
@@ -528,7 +530,7 @@ fn tell_assertions(
     Ok(())
 }
 
-// The assumptions of a check, behind a claim, that are false too.
+// Writes the assumptions of a check after a claim that are false too.
 fn tell_assumptions(
     page: &mut Page,
     dialogue: &Dialogue<'_>,
@@ -569,7 +571,7 @@ fn is_assertion(dialogue: &Dialogue<'_>, stand: &Stand) -> bool {
     }
 }
 
-// What the claims of a check cost, and which of them costs most.
+// Writes the cost of the claims of a check, and which assertion costs most.
 fn tell_cost(
     page: &mut Page,
     dialogue: &Dialogue<'_>,
@@ -606,7 +608,7 @@ fn tell_cost(
     tell_command(page, dialogue, b": ", most.1)
 }
 
-// What the terms of an assertion or of a check cost.
+// The steps that the terms of an assertion or of a check cost.
 fn cost_of_command(
     alloc: Global,
     dialogue: &Dialogue<'_>,

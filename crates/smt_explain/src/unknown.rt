@@ -1,5 +1,5 @@
-//! The first name that is unknown where it stands, in the order in which terms are checked, and the names that it is
-//! looked for among. This file judges no term: the report says that there is such a name.
+//! The first unknown name, in the order in which terms are checked, and the names among which it is looked for.
+//! This file judges no term: the report says that there is such a name.
 
 use crate::force::{Commands, Stand, has_label};
 use crate::pairs::{Head, word};
@@ -11,17 +11,17 @@ use smt_theory::{Profile, all_theories, op_of};
 use smt_trees::{Tree, split_first};
 use std::alloc::Global;
 
-/// The names that stand somewhere, each with the place of the command that brought it, and likewise the
-/// abbreviations of sorts. They are read off the words of commands, whatever these say of the names: what is asked of
-/// one is only whether it stands, and since when. `force` knows commands without their names, `library` what the
-/// checker makes of a name, and `world` the definitions alone.
+/// The names in force somewhere, each with the place of the command that brought it, and likewise the abbreviations
+/// of sorts. They are read from the words of commands, whatever these say of the names: only whether a name is in
+/// force, and since when, is asked. `force` knows the commands without their names, `library` what the checker
+/// makes of a name, and `world` the definitions alone.
 #[derive(Drop)]
 pub(crate) struct Brought<'a> {
     pub(crate) names: Scope<'a, usize>,
     pub(crate) sorts: Scope<'a, usize>,
 }
 
-/// What these commands brought, labels too.
+/// The names that these commands brought, labels included.
 pub(crate) fn brought_by<'a>(
     alloc: Global,
     commands: Commands<'a>,
@@ -64,7 +64,7 @@ fn add_labels<'a>(
     Ok(())
 }
 
-/// The name that a symbol spells.
+/// The name that a symbol spells, without its bars.
 pub(crate) fn without_bars(symbol: &[u8]) -> &[u8] {
     match symbol.strip_prefix(b"|") {
         Some(rest) => rest.strip_suffix(b"|").unwrap_or(rest),
@@ -72,7 +72,7 @@ pub(crate) fn without_bars(symbol: &[u8]) -> &[u8] {
     }
 }
 
-/// Whether a name is an operator's, of any theory.
+/// Whether a name is that of an operator, in any theory.
 pub(crate) fn is_operator(name: &[u8]) -> bool {
     op_of(all_theories(Profile::Base), name, &[]).is_ok()
 }
@@ -90,7 +90,7 @@ fn is_indexed_operator(name: &[u8]) -> bool {
     ) || name.starts_with(b"bv")
 }
 
-/// The first name in a command that is unknown, where these stand.
+/// The first unknown name in a command, given the names in force.
 pub(crate) fn unknown_in_command<'a>(
     alloc: Global,
     known: &Brought<'_>,
@@ -124,7 +124,7 @@ pub(crate) fn unknown_in_command<'a>(
     }
 }
 
-/// The first name in a definition that is unknown, where these stand.
+/// The first unknown name in a definition, given the names in force.
 pub(crate) fn unknown_in_form<'a>(
     alloc: Global,
     known: &Brought<'_>,
@@ -181,15 +181,15 @@ fn unknown_in_sort<'a>(known: &Scope<'_, usize>, sort: &'a Tree) -> Option<&'a [
 
 // ---- terms
 
-/// What is to be looked at next.
+/// The next step of the search.
 #[derive(Clone, Copy)]
 enum Step<'a> {
     Term(&'a Tree),
     /// The head of an application.
     Head(&'a [u8]),
-    /// See the variables of these bindings from here on.
+    /// Let the variables of these bindings be seen from here on.
     Enter(&'a [Tree]),
-    /// See the first so many variables alone.
+    /// Let only the variables before this number be seen.
     Leave(usize),
 }
 
@@ -248,7 +248,7 @@ fn enter<'a>(bound: &mut Scope<'a, ()>, bindings: &'a [Tree]) -> Result<(), Memo
     Ok(())
 }
 
-// Puts what is in a term, the first on top; answers the name of an operator with indexes that there is none of.
+// Adds the parts of a term, the first on top. Returns the name of an indexed operator that does not exist.
 fn push_inner<'a>(
     steps: &mut Vec<Step<'a>>,
     seen: usize,

@@ -1,5 +1,4 @@
-//! What is told of a smallest part: its text, its place, and the values of what stands in it. This file evaluates
-//! no term itself.
+//! The lines on a smallest part: its text, its place, and the values in it. This file evaluates no term itself.
 
 use crate::evaluation::{Bound, Over, Stopped, Work, find, value_in};
 use crate::page::Page;
@@ -12,10 +11,10 @@ use smt_trees::{Tree, Word, split_first};
 use smt_values::Value;
 use std::alloc::Global;
 
-/// How many values are told of a part.
+/// The most terms of a part whose values are looked at.
 const MOST_VALUES: usize = 24;
 
-/// Tells a smallest part.
+/// Writes a smallest part, with the values in it.
 pub(crate) fn tell_part<'a>(
     page: &mut Page,
     over: &Over<'a, '_>,
@@ -55,7 +54,7 @@ pub(crate) fn tell_part<'a>(
     tell_values(page, over, work, bounds, part)
 }
 
-// Why a smallest part is open.
+// The reason why a smallest part is open.
 fn reason(
     over: &Over<'_, '_>,
     work: &mut Work,
@@ -77,7 +76,7 @@ fn reason(
     Ok(b"an integer below -2^127 or over 2^127 - 1")
 }
 
-// A term whose value is told.
+// A term whose value is to be written.
 #[derive(Clone, Copy)]
 struct Seen<'a> {
     term: &'a Tree,
@@ -125,7 +124,7 @@ fn is_told(texts: &[Vec<u8>], text: &[u8]) -> bool {
     false
 }
 
-// The arguments of the part, and behind them the names in it.
+// Adds the arguments of a part that are no literals, or the part itself where it is no list.
 fn first_seen<'a>(part: Part<'a>, seen: &mut Vec<Seen<'a>>) -> Result<(), Memory> {
     match part.term {
         Tree::List(parts) => {
@@ -142,7 +141,7 @@ fn first_seen<'a>(part: Part<'a>, seen: &mut Vec<Seen<'a>>) -> Result<(), Memory
     }
 }
 
-// Whether a term is one that has a value: a list, a variable, or a name that has no parameters.
+// Whether a term has a value: a list that is no attribute or index, a variable, or a name without parameters.
 fn has_value(over: &Over<'_, '_>, bounds: &[Bound<'_>], seen: Seen<'_>) -> bool {
     match seen.term {
         Tree::Symbol(name) => {
@@ -162,7 +161,7 @@ fn has_value(over: &Over<'_, '_>, bounds: &[Bound<'_>], seen: Seen<'_>) -> bool 
     }
 }
 
-// (A value is found before the first of its text stands in the line.)
+// (It computes the value before it puts any text on the line.)
 fn tell_value<'a>(
     page: &mut Page,
     over: &Over<'a, '_>,
@@ -192,7 +191,7 @@ fn tell_value<'a>(
     Ok(())
 }
 
-// Adds what a term whose value was told has for names in it, or the item of the model that gives it.
+// After a term whose value was written: adds the names in it, or the item of the model that gives its value.
 fn see_more<'a>(
     over: &Over<'a, '_>,
     bounds: &[Bound<'a>],
@@ -216,7 +215,7 @@ fn see_more<'a>(
     }
 }
 
-// Adds the names in the term of a variable to those whose value is told; of one that is such a name only its item.
+// Adds the names in the term of a variable. Where that term is a name of the model, adds its item instead.
 fn see_behind<'a>(
     over: &Over<'a, '_>,
     bound: &Bound<'a>,
@@ -234,7 +233,7 @@ fn see_behind<'a>(
     see_names(over.alloc, bound.term, bound.term_scope, seen)
 }
 
-// Adds the names in a term to those whose value is told.
+// Adds the names in a term to the terms whose values are to be written.
 fn see_names<'a>(
     alloc: Global,
     term: &'a Tree,
@@ -260,7 +259,7 @@ fn push_seen<'a>(seen: &mut Vec<Seen<'a>>, term: &'a Tree, scope: usize) -> Resu
     }
 }
 
-// Where the items of the model stand that give the names told their values.
+// Writes the places of the items of the model that give the written names their values.
 fn tell_items(page: &mut Page, over: &Over<'_, '_>, items: &[usize]) -> Result<(), Memory> {
     let mut any = false;
     for place in items {
@@ -282,7 +281,7 @@ fn tell_items(page: &mut Page, over: &Over<'_, '_>, items: &[usize]) -> Result<(
     Ok(())
 }
 
-// The name of a definition, between bars where it is no plain one.
+// Writes the name of a definition, between bars unless its bytes are those of a simple symbol.
 fn put_defined(page: &mut Page, defined: &Defined) -> Result<(), Memory> {
     let mut name = Vec::new(page.alloc);
     put_name(&mut name, defined.name.as_slice())?;

@@ -4,12 +4,12 @@ use smt_faults::Memory;
 use smt_trees::{Tree, Trees};
 use std::alloc::Global;
 
-/// A tree and all trees in it, each before those in it, from the left.
+/// A tree and all trees in it, each before its own parts, from the left.
 pub(crate) fn all_in<'a>(alloc: Global, tree: &'a Tree) -> Result<Vec<&'a Tree>, Memory> {
     let mut all = Vec::new(alloc);
     let mut left = Vec::new(alloc);
     push_tree(&mut left, tree)?;
-    // (there are no so many trees)
+    // (a tree has fewer parts than this)
     for _ in 0..u64::MAX {
         let Some(next) = left.pop() else {
             break;
@@ -22,7 +22,7 @@ pub(crate) fn all_in<'a>(alloc: Global, tree: &'a Tree) -> Result<Vec<&'a Tree>,
     Ok(all)
 }
 
-/// A tree and all trees in it, each behind those in it, from the left.
+/// A tree and all trees in it, each after its own parts, from the left.
 pub(crate) fn all_inside_first<'a>(alloc: Global, tree: &'a Tree) -> Result<Vec<&'a Tree>, Memory> {
     let mut all = Vec::new(alloc);
     let mut left = Vec::new(alloc);
@@ -42,13 +42,13 @@ pub(crate) fn all_inside_first<'a>(alloc: Global, tree: &'a Tree) -> Result<Vec<
     Ok(all)
 }
 
-/// Puts a tree behind others.
+/// Adds a tree after the others.
 pub(crate) fn push_tree<'a>(trees: &mut Vec<&'a Tree>, tree: &'a Tree) -> Result<(), Memory> {
     trees.push(tree)?;
     Ok(())
 }
 
-// Puts trees behind others, the last of them first.
+// Adds trees after the others, the last of them first.
 fn push_last_first<'a>(left: &mut Vec<&'a Tree>, parts: &'a Trees) -> Result<(), Memory> {
     for part in parts.as_slice().iter().rev() {
         push_tree(left, part)?;

@@ -22,7 +22,7 @@ pub(crate) struct Defined {
     pub(crate) of_model: bool,
 }
 
-/// The definitions that a claim stands over: the model's, and behind them the script's, in order; and that claim.
+/// The definitions over which a claim is evaluated, in order, the model's before the script's; and the claim.
 #[derive(Drop)]
 pub(crate) struct World {
     pub(crate) definitions: Vec<Defined>,
@@ -30,7 +30,7 @@ pub(crate) struct World {
     pub(crate) claim: Option<Tree>,
 }
 
-/// The tree of a text that is one.
+/// The last tree of a text; `None` where the text has no tree or the reader refuses it.
 pub(crate) fn tree_of(alloc: Global, text: &[u8]) -> Result<Option<Tree>, Memory> {
     match read_trees(alloc, text) {
         Ok(trees) => {
@@ -61,7 +61,7 @@ pub(crate) fn form_of(tree: &Tree) -> Option<ItemForm<'_>> {
     }
 }
 
-/// The places of the trees of a list.
+/// The places of the trees inside a list.
 pub(crate) fn places_in(alloc: Global, text: &[u8], list: Span) -> Result<Vec<Span>, Memory> {
     let from = Place {
         byte: list.start.byte.saturating_add(1),
@@ -72,7 +72,7 @@ pub(crate) fn places_in(alloc: Global, text: &[u8], list: Span) -> Result<Vec<Sp
     Ok(find_trees(alloc, inner, from)?.spans)
 }
 
-/// The definitions of a model that is printed at a place, and of the commands that stand.
+/// The definitions of the model printed at a place, and after them those of the commands in force.
 pub(crate) fn world_of(
     alloc: Global,
     commands: Commands<'_>,
@@ -103,7 +103,7 @@ pub(crate) fn world_of(
     Ok(world)
 }
 
-// Adds the items of a model, but for those of names that the script itself defines: they are set aside.
+// Adds the items of a model, except those of names that the script itself defines.
 fn add_model(
     alloc: Global,
     world: &mut World,
@@ -182,7 +182,7 @@ fn add_form(
     Ok(())
 }
 
-// The labels inside a term, those inside an annotated term before its own.
+// Adds the labels in a term; those inside an annotated term come before its own.
 fn add_labels(alloc: Global, world: &mut World, tree: &Tree, place: Place) -> Result<(), Memory> {
     let all = all_inside_first(alloc, tree)?;
     for part in all.as_slice() {
@@ -200,7 +200,7 @@ fn add_labels(alloc: Global, world: &mut World, tree: &Tree, place: Place) -> Re
     Ok(())
 }
 
-// A term and its attributes, of an annotated one.
+// The term and the attributes of an annotated term.
 fn annotated(tree: &Tree) -> Option<(&Tree, &[Tree])> {
     let Tree::List(parts) = tree else {
         return None;
@@ -213,7 +213,7 @@ fn annotated(tree: &Tree) -> Option<(&Tree, &[Tree])> {
     }
 }
 
-// The next label among attributes, and what stands behind its keyword.
+// The next label among attributes, and what follows its keyword.
 fn next_label(attributes: &[Tree]) -> Option<(&[u8], &[Tree])> {
     let mut left = attributes;
     for _ in 0..attributes.len() {
@@ -246,7 +246,7 @@ fn add_label(
     Ok(())
 }
 
-// The sort that a tree names; `Bool` where it is an abbreviation, which no evaluation asks for.
+// The sort that a tree names; `Bool` for an abbreviation, whose sort no evaluation asks for.
 fn sort_of(tree: &Tree) -> Sort {
     match tree {
         Tree::Symbol(name) => {

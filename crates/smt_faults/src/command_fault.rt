@@ -1,4 +1,4 @@
-//! Why a command is refused, as a caller is told. This file knows no command, only what is wrong with one.
+//! Why a command is refused, as a caller gets it. This file knows no command, only what is wrong with one.
 
 ghost use Rattle.std.specs.Prelude.{◌≡◌};
 ghost use Rattle.smt_faults.specs.Faults.{flaw_of_command_fault};
@@ -11,21 +11,21 @@ use std::alloc::{AllocError, AllocFailed};
 /// Why a command is refused.
 #[derive(Clone, Copy)]
 pub enum CommandFault {
-    /// It isn't in form (`C1`).
+    /// Its form is wrong (`C1`).
     Form,
-    /// It is a command of the standard, and isn't supported (`C2`).
+    /// It is a command of the standard that is not supported (`C2`).
     Unsupported,
     /// It pushes so many levels that there would be more than 10,000 (`C3`).
     TooDeep,
     /// It pops more levels than there are (`C4`).
     NoLevel,
-    /// It sets a logic that isn't taken, or sets one too late (`C5`).
+    /// It sets a logic that is not supported, or it sets a logic or `:global-declarations` too late (`C5`).
     Logic,
-    /// It stands behind an `exit` (`C6`).
+    /// It comes after an `exit` (`C6`).
     AfterExit,
     /// A term, a sort or a name in it has a fault (`C7`).
     Term { fault: TermFault },
-    /// Memory was refused (`C0`), which says nothing of the command.
+    /// Memory was refused (`C0`), which says nothing about the command.
     Memory,
 }
 

@@ -7,17 +7,17 @@ use std::fmt;
 /// Why a command is refused.
 #[derive(Clone, Copy, Debug, PartialEq, Eq)]
 pub enum CommandFlaw {
-    /// It isn't in form (`C1`).
+    /// Its form is wrong (`C1`).
     Form,
-    /// It is a command of the standard, and isn't supported (`C2`).
+    /// It is a command of the standard that is not supported (`C2`).
     Unsupported,
     /// It pushes so many levels that there would be more than 10,000 (`C3`).
     TooDeep,
     /// It pops more levels than there are (`C4`).
     NoLevel,
-    /// It sets a logic that isn't taken, or sets one too late (`C5`).
+    /// It sets a logic that is not supported, or it sets a logic or `:global-declarations` too late (`C5`).
     Logic,
-    /// It stands behind an `exit` (`C6`).
+    /// It comes after an `exit` (`C6`).
     AfterExit,
     /// A term, a sort or a name in it has a flaw (`C7`).
     Term { flaw: TermFlaw },

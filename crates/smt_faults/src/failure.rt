@@ -1,9 +1,9 @@
-//! Why a call that needs memory gave no value. This file knows no fault of its own.
+//! Why a call that needs memory returned no value. This file knows no fault of its own.
 
 use crate::memory::Memory;
 use std::alloc::{AllocError, AllocFailed};
 
-/// A fault of what was read, or want of memory, which says nothing of it.
+/// A fault of what was read, or want of memory, which says nothing about what was read.
 #[derive(Clone, Copy)]
 pub enum Failure<F> {
     /// What was read has this fault.

@@ -1,5 +1,5 @@
-//! What holds of the definitions that the contracts name: the letters of a report, from the letters to the
-//! flaw. Nothing here does anything: each contract is a law.
+//! Laws of the definitions that the contracts name: the letters of a report, from the letters to the flaw.
+//! Nothing here does anything: each contract is a law.
 
 ghost use Rattle.std.specs.Prelude.{◌≡◌, ◌↔◌, ℕ, List, [], ◌∷◌, ◌++◌, All, codes};
 ghost use Rattle.smt_faults.specs.Faults.{place_of};
@@ -11,8 +11,8 @@ ghost use Rattle.smt_faults.specs.declared.term_flaw.TermFlaw.TheVariants as ter
 ghost use Rattle.smt_faults.specs.declared.text_flaw.TextFlaw.{TextFlaw};
 ghost use Rattle.smt_faults.specs.declared.text_flaw.TextFlaw.TheVariants as texts;
 
-/// Which flaw has these letters, and no other: X is of texts, F of terms and models, C of commands, where C7
-/// goes before the letters of a term's flaw.
+/// The one flaw that each pair of letters names. X is for texts, F for terms and models, and C for commands,
+/// where C7 comes before the letters of a term's flaw.
 pub fn letters_tell_the_flaw()
     ensures text { (flaw : TextFlaw) → ((text_of_flaw flaw ≡ codes "X1") ↔ (flaw ≡ texts.Byte (place_of flaw)))
         × ((text_of_flaw flaw ≡ codes "X2") ↔ (flaw ≡ texts.Deep (place_of flaw)))

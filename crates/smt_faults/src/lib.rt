@@ -1,7 +1,7 @@
 //! What can be wrong with a text, a term or a command. This crate knows none of these: the crates that read
-//! them answer these faults, and a report writes them by their names, which are this project's own.
+//! them return these faults, and a report writes them by their names, which are this project's own.
 //!
-//! A fault of a term is one of the command in which it stands: `CommandFault::from(TermFault::Unknown)` is
+//! A fault of a term is a fault of its command: `CommandFault::from(TermFault::Unknown)` is
 //! `CommandFault::Term { fault: TermFault::Unknown }`, and is written `C7 F3`.
 #![tactic(auto)]
 

@@ -1,4 +1,4 @@
-//! Want of memory, which says nothing of what was read. This file knows no fault.
+//! Want of memory, which says nothing about what was read. This file knows no fault.
 
 use std::alloc::{AllocError, AllocFailed};
 use std::error::Error;

@@ -1,5 +1,5 @@
-//! Why a term, a sort or a definition is refused, as a caller is told. This file knows no term, only what is wrong
-//! with one.
+//! Why a term, a sort or a definition is refused, as a caller gets it. This file knows no term, only what is
+//! wrong with one.
 
 ghost use Rattle.std.specs.Prelude.{◌≡◌};
 ghost use Rattle.smt_faults.specs.Faults.{flaw_of_term_fault};
@@ -11,24 +11,24 @@ use std::alloc::{AllocError, AllocFailed};
 /// Why a term, a sort or a definition is refused: the first thing that is wrong with it, or want of memory.
 #[derive(Clone, Copy, Debug, PartialEq, Eq)]
 pub enum TermFault {
-    /// It isn't in form (`F1`).
+    /// Its form is wrong (`F1`).
     Form,
-    /// It is in the standard, and isn't supported (`F2`).
+    /// It is in the standard, but is not supported (`F2`).
     Unsupported,
-    /// A symbol is unknown (`F3`).
+    /// A symbol, a sort or a literal is unknown (`F3`).
     Unknown,
-    /// A symbol is applied to arguments that it doesn't take, or a term has another sort than it should
+    /// A symbol is applied to arguments that it does not accept, or a term has another sort than it should
     /// (`F4`).
     IllSorted,
-    /// An index or a width is out of range (`F5`).
+    /// The indexes of an operator are wrong in number, kind or range, or a width is out of range (`F5`).
     Index,
     /// A name is bound twice (`F6`).
     BoundTwice,
     /// A name that should be new is in use (`F7`).
     NotFresh,
-    /// A label stands where none may stand (`F8`).
+    /// A label is where none may be (`F8`).
     Label,
-    /// Memory was refused (`F0`), which says nothing of the term.
+    /// Memory was refused (`F0`), which says nothing about the term.
     Memory,
 }
 

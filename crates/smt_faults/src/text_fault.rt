@@ -1,4 +1,4 @@
-//! Why a text can't be read, as a reader's caller is told. This file knows no bytes, only places.
+//! Why a text can't be read, as the caller of a reader gets it. This file knows no bytes, only places.
 
 ghost use Rattle.std.specs.Prelude.{◌≡◌};
 ghost use Rattle.smt_faults.specs.Faults.{flaw_in};
@@ -7,16 +7,16 @@ use crate::failure::Failure;
 use crate::text_flaw::TextFlaw;
 use std::alloc::{AllocError, AllocFailed};
 
-/// Why a text is none of the language, or can't be read. Places count bytes from 0.
+/// Why a text is not in the language, or can't be read. Places are in bytes from 0.
 #[derive(Clone, Copy, Debug, PartialEq, Eq)]
 pub enum TextFault {
-    /// No text goes on with the byte at this place (`X1`).
+    /// No text continues with the byte at this place (`X1`).
     Byte { place: u64 },
     /// The byte at this place opens a list deeper than lists may nest (`X2`).
     Deep { place: u64 },
-    /// The text ends, at this place, inside a list, or inside a token that is not whole yet (`X3`).
+    /// The text ends, at this place, inside a list, or inside a token that is not complete (`X3`).
     End { place: u64 },
-    /// Memory was refused (`X0`), which says nothing of the text.
+    /// Memory was refused (`X0`), which says nothing about the text.
     Memory,
 }
 

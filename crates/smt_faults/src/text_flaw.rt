@@ -1,4 +1,4 @@
-//! Why a text is none of the language. This file knows no bytes, only places, and no want of memory.
+//! Why a text is not in the language. This file knows no bytes, only places, and no want of memory.
 
 ghost use Rattle.std.specs.Prelude.{◌≡◌};
 ghost use Rattle.smt_faults.specs.Faults.{place_of};
@@ -6,19 +6,19 @@ ghost use Rattle.smt_faults.specs.Faults.{place_of};
 use std::error::Error;
 use std::fmt;
 
-/// Why a text is none of the language. Places count bytes from 0.
+/// Why a text is not in the language. Places are in bytes from 0.
 #[derive(Clone, Copy, Debug, PartialEq, Eq)]
 pub enum TextFlaw {
-    /// No text goes on with the byte at this place (`X1`).
+    /// No text continues with the byte at this place (`X1`).
     Byte { place: u64 },
     /// The byte at this place opens a list deeper than lists may nest (`X2`).
     Deep { place: u64 },
-    /// The text ends, at this place, inside a list, or inside a token that is not whole yet (`X3`).
+    /// The text ends, at this place, inside a list, or inside a token that is not complete (`X3`).
     End { place: u64 },
 }
 
 impl TextFlaw {
-    /// Where the text has the flaw, in bytes from 0.
+    /// The place of the flaw, in bytes from 0.
     pub fn place(&self) -> u64
         ensures { result ≡ place_of self.now }
     {

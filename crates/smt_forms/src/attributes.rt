@@ -1,5 +1,5 @@
-//! The attributes of annotated terms, labels among them. This file knows no names: whether a label may be
-//! given is said elsewhere.
+//! The attributes of annotated terms, labels among them. This file knows no names, and does not say whether a
+//! label may be given.
 
 ghost use Rattle.std.specs.Prelude.{◌≡◌, ◌≤◌, ◌∷◌, [], false, None, MatchOption};
 ghost use Rattle.smt_trees.specs.Sexp.{Atom, Cons, Keyword, weight_all};
@@ -12,14 +12,15 @@ ghost use Rattle.smt_forms.specs.Labels.{label_of_tree};
 
 use smt_trees::{Tree, split_first};
 
-/// Whether these are the attributes of a term: one or more (SMT-LIB 2.6, section 3.6.5).
+/// Whether these trees are the attributes of a term, of which there is at least one (SMT-LIB 2.6, section
+/// 3.6.5).
 pub fn are_attributes(trees: &[Tree]) -> bool
     ensures { result ≡ bindings.are_attributes (sexps_of trees.now) }
 {
     split_first(trees).is_some() && go_on(trees)
 }
 
-// Whether trees go on as attributes: keywords, each with a value or without one.
+// Whether all of these trees are attributes: keywords, each with a value or without one.
 fn go_on(trees: &[Tree]) -> bool
     ensures { result ≡ bindings.go_on (sexps_of trees.now) }
 {
@@ -33,8 +34,8 @@ fn go_on(trees: &[Tree]) -> bool
     split_first(left).is_none()
 }
 
-// What stands behind an attribute of this keyword, by what stands behind the keyword; `None` where a label
-// has no symbol.
+// The trees after an attribute of this keyword, by the trees after the keyword; `None` where a label has no
+// symbol.
 fn behind_attribute<'a>(keyword: &[u8], trees: &'a [Tree]) -> Option<&'a [Tree]>
     ensures answer { MatchOption result (go_on_behind keyword.now (sexps_of trees.now) ≡ false)
         (λ left. go_on_behind keyword.now (sexps_of trees.now) ≡ bindings.go_on (sexps_of left.now)) }
@@ -57,7 +58,7 @@ fn behind_attribute<'a>(keyword: &[u8], trees: &'a [Tree]) -> Option<&'a [Tree]>
     }
 }
 
-// The first of these trees if it is a keyword, and the trees behind it.
+// The first of these trees if it is a keyword, and the trees after it.
 fn split_keyword(trees: &[Tree]) -> Option<(&[u8], &[Tree])>
     ensures { MatchOption result (first_keyword (sexps_of trees.now) ≡ None)
         (λ p. sexps_of trees.now ≡ Cons (Atom Keyword p.0.now) (sexps_of p.1.now)) }
@@ -68,7 +69,7 @@ fn split_keyword(trees: &[Tree]) -> Option<(&[u8], &[Tree])>
     Some((keyword.as_slice(), rest))
 }
 
-// The first of these trees if it is no keyword, and the trees behind it.
+// The first of these trees if it is no keyword, and the trees after it.
 fn split_value(trees: &[Tree]) -> Option<(&Tree, &[Tree])>
     ensures { MatchOption result (has_value (sexps_of trees.now) ≡ false)
         (λ p. (is_keyword_tree (sexp_of p.0.now) ≡ false)
@@ -83,8 +84,8 @@ fn split_value(trees: &[Tree]) -> Option<(&Tree, &[Tree])>
     Some((value, rest))
 }
 
-/// The label that an attribute is, if it is one: by its first tree and what stands behind it (SMT-LIB 2.6,
-/// section 3.6.5).
+/// The label that an attribute gives, if it is a label, by its first tree and the trees after it (SMT-LIB
+/// 2.6, section 3.6.5).
 pub fn label_at<'a>(tree: &Tree, rest: &'a [Tree]) -> Option<&'a [u8]>
     ensures { MatchOption result (label_of_tree (sexp_of tree.now) (sexps_of rest.now) ≡ [])
         (λ name. label_of_tree (sexp_of tree.now) (sexps_of rest.now) ≡ name.now ∷ []) }

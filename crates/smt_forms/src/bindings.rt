@@ -1,5 +1,5 @@
-//! Lists of a symbol and a tree, as bindings and parameters are, and the parts of a `let`. This file reads no term:
-//! what stands beside a symbol is any tree.
+//! Lists of a symbol and a tree, as bindings and parameters are, and the parts of a `let`. This file reads no
+//! term: the tree after a symbol is any tree.
 
 ghost use Rattle.std.specs.Prelude.{◌≡◌, None, MatchOption};
 ghost use Rattle.smt_trees.specs.Sexp.{Atom, Cons, Items, Nil, Symbol};
@@ -9,9 +9,11 @@ ghost use Rattle.smt_forms.specs.Bindings.{first_named, let_form};
 
 use smt_trees::{Tree, split_first};
 
-/// The first of these trees as a symbol, which is without bars, with a tree: a binding with its term, or a
-/// parameter with the tree of its sort; and the trees behind it. `None` where the first is no list of those
-/// two, or there is none.
+/// The symbol and the tree that the first of these trees lists, and the trees after it. The symbol is without
+/// bars.
+///
+/// The list is a binding with its term, or a parameter with the tree of its sort. `None` where the first tree
+/// is no such list, or there is none.
 pub fn split_named(trees: &[Tree]) -> Option<(&[u8], &Tree, &[Tree])>
     ensures { MatchOption result (first_named (sexps_of trees.now) ≡ None)
         (λ p. sexps_of trees.now
@@ -43,8 +45,8 @@ pub fn are_named(trees: &[Tree]) -> bool
     split_first(left).is_none()
 }
 
-/// The bindings and the body of a `let` (SMT-LIB 2.6, section 3.6.1), by what stands behind its word; `None`
-/// where these are no list and one more tree.
+/// The bindings and the body of a `let`, by the trees after its word; `None` where these are not a list and
+/// one more tree (SMT-LIB 2.6, section 3.6.1).
 pub fn split_let(args: &[Tree]) -> Option<(&[Tree], &Tree)>
     ensures { MatchOption result (let_form (sexps_of args.now) ≡ None)
         (λ p. sexps_of args.now ≡ Cons (Items (sexps_of p.0.now)) (Cons (sexp_of p.1.now) Nil)) }

@@ -16,7 +16,7 @@ use smt_theory::{Index, Op, OpFault, Theories, number, op_of};
 use smt_trees::{Tree, Trees, Word, split_first};
 use std::alloc::Global;
 
-/// An identifier (SMT-LIB 2.6, section 3.3), which borrows its names.
+/// An identifier, which borrows its names (SMT-LIB 2.6, section 3.3).
 #[derive(Drop)]
 pub enum Identifier<'a> {
     /// A symbol, without bars.
@@ -29,8 +29,8 @@ pub enum Identifier<'a> {
 }
 
 impl Identifier<'_> {
-    /// The operator that it names among those of the theories, or why it names none. Names in force are
-    /// looked up before this.
+    /// The operator of these theories that the identifier names, or why it names none. Look names in force up
+    /// first.
     pub fn operator(&self, theories: Theories) -> Result<Op, OpFault>
         ensures { result ≡ operator_of theories (identifier_view self.now) }
     {
@@ -41,8 +41,8 @@ impl Identifier<'_> {
     }
 }
 
-/// The identifier that is applied to arguments, or what is wrong with the form of a list of this head and
-/// these arguments.
+/// The identifier that a list of this head and these arguments applies, or what is wrong with the form of
+/// that list.
 pub fn applied_identifier<'a>(
     alloc: Global,
     head: &'a Tree,
@@ -58,7 +58,7 @@ pub fn applied_identifier<'a>(
     }
 }
 
-// The same where the head is a list of these parts.
+// The identifier that is applied where the head is a list of these parts.
 fn applied_list<'a>(
     alloc: Global,
     parts: &'a Trees,
@@ -75,7 +75,7 @@ fn applied_list<'a>(
     }
 }
 
-/// The identifier `(_ symbol index ..)`, by what stands behind the `_`.
+/// The identifier `(_ symbol index ..)`, by the trees after the `_`; the fault is `Form`, or want of memory.
 pub fn indexed_identifier<'a>(alloc: Global, parts: &'a [Tree]) -> Result<Identifier<'a>, TermFault>
     ensures { IsOutcome identifier_view (indexed (sexps_of parts.now)) result }
 {
@@ -92,7 +92,7 @@ pub fn indexed_identifier<'a>(alloc: Global, parts: &'a [Tree]) -> Result<Identi
     })
 }
 
-// The indexes that trees are, in order.
+// The indexes that these trees are, in order; the fault is `Form`, or want of memory.
 fn indexes_of<'a>(alloc: Global, trees: &'a [Tree]) -> Result<Vec<Index<'a>>, TermFault>
     ensures { IsOutcome (λ indexes. map index_view indexes.items)
         (ok_or (all_indexes (sexps_of trees.now)) Form) result }
@@ -144,7 +144,7 @@ fn numeral_index(digits: &[u8]) -> Index<'static>
     }
 }
 
-// What is wrong with a list that begins with this word, and is no term in form.
+// What is wrong with a list that begins with this word, and is no term of the right form.
 fn word_flaw(word: Word) -> TermFlaw
     ensures { result ≡ identifiers.word_flaw word }
 {

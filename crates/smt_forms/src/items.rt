@@ -1,4 +1,4 @@
-//! The parts of an item of a model. This file knows no names: what an item may define is said elsewhere.
+//! The parts of an item of a model. This file knows no names, and does not say what an item may define.
 
 ghost use Rattle.std.specs.Prelude.{◌≡◌, MatchOption, MatchResult};
 ghost use Rattle.smt_trees.specs.Sexp.{Cons, Items, Nil, Reserved};
@@ -12,8 +12,8 @@ use crate::bindings::are_named;
 use smt_faults::TermFlaw;
 use smt_trees::{Tree, Word, split_first};
 
-/// The parts of an item (SMT-LIB 2.6, section 4.2.6): its name without bars, its parameters, each a list of a
-/// symbol and the tree of a sort, the tree of its sort, and its body.
+/// The parts of an item (SMT-LIB 2.6, section 4.2.6). They are its name without bars; its parameters, each a
+/// list of a symbol and the tree of a sort; the tree of its sort; and its body.
 #[derive(Clone, Copy)]
 pub struct ItemForm<'a> {
     pub name: &'a [u8],
@@ -44,7 +44,7 @@ pub fn item_form(item: &Tree) -> Result<ItemForm<'_>, TermFlaw>
     }
 }
 
-// The parts of a definition, behind its first word.
+// The parts of a definition, by the trees after its first word.
 fn definition_form(parts: &[Tree]) -> Option<ItemForm<'_>>
     ensures { MatchOption result
         (items.item_form (Items (Cons (Reserved DefineFun) (sexps_of parts.now))) ≡ Err Form)

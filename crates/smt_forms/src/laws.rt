@@ -1,4 +1,4 @@
-//! What holds of the definitions that the contracts name. Nothing here does anything: each contract is a law.
+//! Laws of the definitions that the contracts name. Nothing here does anything: each contract is a law.
 
 pub mod refusals;
 
@@ -12,15 +12,15 @@ ghost use Rattle.smt_forms.specs.Repeated.{repeated_behind};
 ghost use Rattle.smt_forms.specs.Variables.{uses_variable};
 ghost use Rattle.smt_forms.specs.Bindings.{AreAttributes, are_attributes};
 
-/// Trees are the attributes of a term exactly where they are attributes, one or more (SMT-LIB 2.6, sections
-/// 3.4 and 3.6.5): keywords, each with a value or without one.
+/// Trees are the attributes of a term exactly where there is at least one, and they are keywords, each with a
+/// value or without one (SMT-LIB 2.6, sections 3.4 and 3.6.5).
 pub fn attributes_are_keywords_with_values()
     ensures { (trees : Sexps) → (are_attributes trees ≡ true) ↔ ((trees ≡ Nil → ⊥) × AreAttributes trees) }
 {}
 
-/// The labels of a term are those that its annotations give (SMT-LIB 2.6, section 3.6.5): where `(! t ..
-/// :named x ..)` stands in it, `x` labels `t`, and each label stands so. Those of the term's parts come
-/// first, one part behind another, and then its own.
+/// The labels of a term are those that its annotations give: `x` labels `t` exactly where
+/// `(! t .. :named x ..)` occurs in it (SMT-LIB 2.6, section 3.6.5). Those of the term's parts come first,
+/// part by part, and then its own.
 pub fn labels_are_annotations()
     ensures standing { (term : Sexp) (label : List ℕ × Sexp)
         → Contains (labels_in term) label ↔ IsLabelled term label }
@@ -28,14 +28,14 @@ pub fn labels_are_annotations()
         → labels_in term ≡ flat_map (λ p. labels_in p.1) (parts_of term) ++ own_labels term }
 {}
 
-/// A term uses variables that are bound outside it exactly where the name of one occurs free in it (SMT-LIB
+/// A term uses a variable that is bound outside it exactly where the name of one occurs free in it (SMT-LIB
 /// 2.6, section 3.6.1).
 pub fn used_variables_occur_free()
     ensures { (scope : List (List ℕ × Sort)) (term : Sexp) → (uses_variable scope term ≡ true)
         ↔ ((x : List ℕ) × Contains (map (λ v. v.0) scope) x × OccursFree x term) }
 {}
 
-/// No name is found repeated exactly where no two are the same.
+/// No name is found repeated exactly where no two names are the same.
 pub fn none_repeated_where_all_differ()
     ensures { (names : List (List ℕ)) → (repeated_behind [] names ≡ None) ↔ AllPairs (λ x y. x ≢ y) names }
 {}

@@ -1,13 +1,14 @@
 //! The forms that terms, definitions and commands share (SMT-LIB 2.6, sections 3.3, 3.6 and 4.2.3):
-//! identifiers, bindings, parameters, and the variables that a term sees. This crate looks up no name but
+//! identifiers, bindings, parameters, and the variables that a term sees. This crate looks up no names but
 //! those of operators and variables.
 //!
-//! `applied_identifier` answers what a list applies to its arguments, or what is wrong with its form. So for
-//! `((_ extract 3 0) x)`, by its head and what stands behind it, it answers the identifier `extract` with two
-//! indexes, whose operator `Identifier::operator` finds; and for `(let)` that it is out of form. `split_let`
-//! and `split_named` take the parts of a `let` and of its bindings. `find_variable` finds the innermost
-//! variable of a name in a list; a `Scope` does so in time that hardly grows with how many there are, and a
-//! `NameSet` says whether a name came before.
+//! `applied_identifier` answers what a list applies to its arguments, or what is wrong with its form. For
+//! `((_ extract 3 0) x)`, by its head and the trees after it, it answers the identifier `extract` with two
+//! indexes; `Identifier::operator` finds its operator. For `(let)` it answers the fault `Form`.
+//!
+//! `split_let` and `split_named` split a `let` and its bindings into their parts. `find_variable` finds the
+//! innermost variable of a name in a list. A `Scope` does so in time that hardly grows with the number of
+//! variables, and a `NameSet` says whether a name came before.
 #![tactic(auto)]
 
 mod attributes;

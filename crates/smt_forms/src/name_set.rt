@@ -1,5 +1,4 @@
-//! Names of which one can ask whether another is among them. This file knows nothing of what a name stands
-//! for.
+//! Sets of names, which say whether a name is among them. This file knows nothing of what a name stands for.
 
 ghost use Rattle.std.specs.Prelude.{◌≡◌, ◌∷◌, ◌++◌, [], length, OnErr, OnOk};
 ghost use Rattle.smt_forms.specs.NamesIn.{names_in};
@@ -9,16 +8,18 @@ use crate::places::Places;
 use smt_faults::Memory;
 use std::alloc::Global;
 
-/// Names, without bars, that it borrows. A contract sees their list, in the order in which they came. To add
-/// one and to ask for one each take time in proportion to a name and to the logarithm of how many there are,
-/// whatever the names.
+/// A set of names, without bars, that it borrows. A contract sees their list, in the order in which they
+/// came.
+///
+/// Adding a name and looking for one each take time in proportion to the name's length and to the logarithm
+/// of the number of names, whatever the names are.
 #[derive(Drop)]
 pub struct NameSet<'a> {
     places: Places<'a>,
 }
 
 impl<'a> NameSet<'a> {
-    /// No name. It takes no memory.
+    /// An empty set, which asks for no memory.
     pub fn new(alloc: Global) -> Self
         ensures { names_in result ≡ [] }
     {
@@ -27,21 +28,21 @@ impl<'a> NameSet<'a> {
         }
     }
 
-    /// How many names there are, each as often as it came.
+    /// The number of names, each counted as often as it came.
     pub fn len(&self) -> usize
         ensures { result ≡ length (names_in self.now) }
     {
         self.places.len()
     }
 
-    /// Whether this is one of the names.
+    /// Whether the set has this name.
     pub fn contains(&self, name: &[u8]) -> bool
         ensures { result ≡ is_among (names_in self.now) name.now }
     {
         self.places.find(name).is_some()
     }
 
-    /// Adds a name behind the others. It is refused only for want of memory, and then nothing changes.
+    /// Adds a name after the others. The only error is want of memory, and then nothing changes.
     pub fn insert(&mut self, name: &'a [u8]) -> Result<(), Memory>
         ensures pushed { OnOk result (names_in self.new ≡ names_in self.old ++ name.now ∷ []) }
         ensures unchanged { OnErr result (names_in self.new ≡ names_in self.old) }

@@ -10,16 +10,16 @@ use smt_faults::Memory;
 use smt_trees::Tree;
 use std::alloc::Global;
 
-/// A parameter of a definition (SMT-LIB 2.6, section 4.2.3): its name, without bars, and the tree of its
-/// sort. It borrows both.
+/// A parameter of a definition, which borrows its name, without bars, and the tree of its sort (SMT-LIB 2.6,
+/// section 4.2.3).
 #[derive(Clone, Copy)]
 pub struct Param<'a> {
     pub name: &'a [u8],
     pub sort: &'a Tree,
 }
 
-/// The parameters that trees are, each a list of a symbol and the tree of a sort, up to the first that is
-/// none.
+/// The parameters that these trees are, each a list of a symbol and the tree of a sort, up to the first tree
+/// that is none. The only error is want of memory.
 pub fn params_of(alloc: Global, trees: &[Tree]) -> Result<Vec<Param<'_>>, Memory>
     ensures { IfOk result (λ params. map param_view params.items ≡ named_trees (sexps_of trees.now)) }
 {

@@ -9,18 +9,18 @@ use smt_names::NameMap;
 use std::alloc::Global;
 use std::marker::Model;
 
-// How many names are compared one after another. Those behind them stand in the map.
+// The number of names that are compared one after another. The map holds those after them.
 const FEW: usize = 8;
 
-// Names, of which a later one hides those before it that are the same. A contract sees their list.
+// Names, of which a later one hides the earlier ones that are the same. A contract sees their list.
 #[derive(Drop)]
 pub struct Places<'a> {
     names: Vec<Placed<'a>>,
-    // Of each name the place of the last that is the same, if one is left.
+    // For each name, the place of its last occurrence after the first `FEW` names, if one is left.
     last: NameMap<Option<usize>>,
 }
 
-// A name, and the place that it hides in the map.
+// A name, and the place that it hides in the map, if any.
 #[derive(Clone, Copy)]
 pub struct Placed<'a> {
     name: &'a [u8],
@@ -55,7 +55,7 @@ impl<'a> Places<'a> {
         self.names.len()
     }
 
-    // The place, from 0, of the last name that is this one.
+    // The place of the last occurrence of this name, from 0.
     #[inline(always)]
     pub fn find(&self, name: &[u8]) -> Option<usize>
         ensures { result ≡ place_from 0 self.now name.now }
@@ -83,7 +83,8 @@ impl<'a> Places<'a> {
             self.names.push(Placed { name, hidden: None })?;
             return Ok(());
         }
-        // Nothing is refused behind the map's own want of memory, which leaves all as it was.
+        // Room is asked for first: nothing is refused after the map's own want of memory, which leaves all as
+        // it was.
         self.names.reserve(1)?;
         let hidden = self.last.replace(name, Some(place))?;
         let hidden = hidden.flatten();
@@ -91,7 +92,7 @@ impl<'a> Places<'a> {
         Ok(())
     }
 
-    // Leaves the first `len` names.
+    // Keeps the first `len` names.
     pub fn cut(&mut self, len: usize)
         ensures { self.new ≡ take len self.old }
     {
@@ -109,12 +110,12 @@ impl<'a> Places<'a> {
         if self.names.len() < FEW {
             return;
         }
-        // The map has the name, so that this takes no memory.
+        // The map has the name, so this asks for no memory.
         let _ = self.last.replace(gone.name, gone.hidden);
     }
 }
 
-// The place that a map has of a name.
+// The place that a map has for a name.
 #[inline(always)]
 fn last_place(last: &NameMap<Option<usize>>, name: &[u8]) -> Option<usize>
     ensures { result ≡ place_in last.now name.now }

@@ -1,4 +1,4 @@
-//! The variables in scope, by name. This file knows nothing of what stands for a variable.
+//! The variables in scope, by name. This file knows nothing of what a variable stands for.
 
 ghost use Rattle.std.specs.Prelude.{◌≡◌, length, slice_get};
 
@@ -6,9 +6,11 @@ use crate::places::Places;
 use smt_faults::Memory;
 use std::alloc::Global;
 
-/// The variables that a term sees, each with what stands for it (SMT-LIB 2.6, section 3.6.1). A contract sees
-/// their list, the innermost first. To push a variable, to find one and to let one go each take time in
-/// proportion to a name and to the logarithm of how many there are, whatever the names.
+/// The variables that a term sees, each with the value that is kept for it (SMT-LIB 2.6, section 3.6.1). A
+/// contract sees their list, the innermost first.
+///
+/// Pushing a variable, finding one and removing one each take time in proportion to the name's length and to
+/// the logarithm of the number of variables, whatever the names are.
 #[derive(Drop)]
 pub struct Scope<'a, V> {
     places: Places<'a>,
@@ -21,7 +23,7 @@ impl<'a, V: Copy> Scope<'a, V> {
     ghost use Rattle.smt_theory.specs.Words.{look_up};
     ghost use Rattle.smt_forms.specs.ScopeOf.{scope_of};
 
-    /// No variable. It takes no memory.
+    /// An empty scope, which asks for no memory.
     pub fn new(alloc: Global) -> Self
         ensures { scope_of result ≡ [] }
     {
@@ -31,14 +33,15 @@ impl<'a, V: Copy> Scope<'a, V> {
         }
     }
 
-    /// How many variables there are, those that others hide among them.
+    /// The number of variables, hidden ones among them.
     pub fn len(&self) -> usize
         ensures { result ≡ length (scope_of self.now) }
     {
         self.values.len()
     }
 
-    /// What stands for the innermost variable of this name, without bars; `None` where there is none.
+    /// The value kept for the innermost variable of this name, without bars; `None` where there is no such
+    /// variable.
     #[inline(always)]
     pub fn find(&self, name: &[u8]) -> Option<V>
         ensures { result ≡ look_up (scope_of self.now) name.now }
@@ -49,7 +52,7 @@ impl<'a, V: Copy> Scope<'a, V> {
         }
     }
 
-    /// Puts a variable inside the others. It is refused only for want of memory, and then nothing changes.
+    /// Adds a variable inside the others. The only error is want of memory, and then nothing changes.
     pub fn push(&mut self, name: &'a [u8], value: V) -> Result<(), Memory>
         ensures pushed { OnOk result (scope_of self.new ≡ (name.now, value) ∷ scope_of self.old) }
         ensures unchanged { OnErr result (scope_of self.new ≡ scope_of self.old) }
@@ -60,7 +63,7 @@ impl<'a, V: Copy> Scope<'a, V> {
         Ok(())
     }
 
-    /// Leaves the outermost `len` variables, or all where there are no more.
+    /// Keeps the outermost `len` variables, or all where there are no more.
     pub fn cut(&mut self, len: usize)
         ensures { scope_of self.new ≡ drop (length (scope_of self.old) - len) (scope_of self.old) }
     {

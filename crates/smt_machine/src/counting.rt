@@ -1,4 +1,4 @@
-//! What nodes cost, by one pass over both tables. This file evaluates nothing.
+//! The costs of nodes, by one pass over both tables. This file evaluates nothing.
 
 ghost use Rattle.std.specs.Prelude.{◌≡◌, ◌+◌, ◌<◌, ℕ, IfOk, length, option_map, slice_get, slice_index, Some};
 ghost use Rattle.smt_nodes.specs.PartsView.{parts_view};
@@ -13,7 +13,8 @@ use smt_faults::Memory;
 use smt_nodes::{NodeParts, TermId};
 use std::alloc::Global;
 
-/// What each node of both tables costs, by its number, the model's first; 2^64 - 1 for that and more.
+/// The cost of each node of both tables, by its number, the model's nodes first; 2^64 - 1 where it is that or
+/// more. The only error is want of memory.
 #[inline(never)]
 pub fn costs(alloc: Global, tables: Tables<'_>) -> Result<Vec<u64>, Memory>
     ensures { IfOk result (λ costs. AreCosts (nodes_of tables.entry) (arounds_of tables.entry) costs.items) }
@@ -21,7 +22,7 @@ pub fn costs(alloc: Global, tables: Tables<'_>) -> Result<Vec<u64>, Memory>
     let shift = tables.shift();
     let script = tables.script.len().checked_add(tables.transient.len());
     let Some(count) = shift.checked_add(script.unwrap_or(usize::MAX)) else {
-        // So many nodes have no place in memory.
+        // Memory has no room for so many nodes.
         return Err(Memory);
     };
     let mut costs = Vec::with_capacity(alloc, count)?;
@@ -36,7 +37,8 @@ pub fn costs(alloc: Global, tables: Tables<'_>) -> Result<Vec<u64>, Memory>
     Ok(costs)
 }
 
-/// What a term of the script costs, by what was counted over these tables.
+/// The cost of a term of the script, from the costs that were counted over these tables; 2^64 - 1 where it is
+/// that or more.
 pub fn cost_of_term(costs: &[u64], tables: Tables<'_>, term: TermId) -> u64
     requires { AreCosts (nodes_of tables) (arounds_of tables) costs.now }
     ensures { result ≡ capped (term_cost tables.entry term) }
@@ -48,7 +50,7 @@ pub fn cost_of_term(costs: &[u64], tables: Tables<'_>, term: TermId) -> u64
     }
 }
 
-// What the node at a place costs, by the costs of those below it.
+// The cost of the node at a place, from the costs of the nodes below it.
 #[inline(always)]
 fn cost_at(kept: &[u64], from: &Place<'_>) -> u64
     ensures { (c : ℕ → ℕ) → AreKept c kept.now
@@ -62,7 +64,7 @@ fn cost_at(kept: &[u64], from: &Place<'_>) -> u64
     }
 }
 
-// What the parts of a node cost, and the body that it names.
+// The cost of the parts of a node, and of the body that it names.
 #[inline(always)]
 fn parts_of(kept: &[u64], from: &Place<'_>, parts: &NodeParts<'_>) -> u64
     ensures { (c : ℕ → ℕ) → AreKept c kept.now
@@ -86,7 +88,7 @@ fn parts_of(kept: &[u64], from: &Place<'_>, parts: &NodeParts<'_>) -> u64
     }
 }
 
-// What a body costs with arguments, if there is one.
+// The cost of a body and its arguments, if there is a body.
 #[inline(always)]
 fn cost_of_call(kept: &[u64], body: Option<Part>, args: Parts<'_>) -> u64
     ensures { (c : ℕ → ℕ) → AreKept c kept.now
@@ -98,7 +100,7 @@ fn cost_of_call(kept: &[u64], body: Option<Part>, args: Parts<'_>) -> u64
     }
 }
 
-// What parts cost.
+// The cost of parts together.
 #[inline(always)]
 fn sum_of(kept: &[u64], parts: Parts<'_>) -> u64
     ensures { (c : ℕ → ℕ) → AreKept c kept.now
@@ -115,7 +117,7 @@ fn sum_of(kept: &[u64], parts: Parts<'_>) -> u64
     sum
 }
 
-// What a part costs: one of no lower number is open, and costs 1.
+// The cost of a part. A part whose number is not below its node's is open, and costs 1.
 #[inline(always)]
 fn cost_of(kept: &[u64], part: Part) -> u64
     ensures { (c : ℕ → ℕ) → AreKept c kept.now

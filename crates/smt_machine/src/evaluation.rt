@@ -31,9 +31,11 @@ use smt_theory::{CoreOp, Op};
 use smt_values::{Value, bin_of, hex_of, numeral_of};
 
 impl Machine {
-    /// What is known of the value of a closed term of the script. The machine is new, or has evaluated terms
-    /// over these tables alone. Of what is left, one is taken for each node that is evaluated, and for each
-    /// annotation round it; there is enough for the cost of the term. Refused is only the growth of the machine.
+    /// What is known of the value of a closed term of the script; `None` where the value is open.
+    ///
+    /// The machine is new, or has evaluated terms over these tables alone. The call subtracts one from `left`
+    /// for each node that it evaluates, and for each annotation round it; `left` is no less than the cost of
+    /// the term. The only error is want of memory for the machine's growth.
     pub fn eval(
         &mut self,
         tables: Tables<'_>,
@@ -50,7 +52,7 @@ impl Machine {
     {
         match tables.shift().checked_add(term.number()) {
             Some(root) => self.run(&tables, root, left),
-            // So many nodes have no place in memory.
+            // Memory has no room for so many nodes.
             None => Err(Memory),
         }
     }
@@ -77,7 +79,7 @@ impl Machine {
         Ok(self.take_last())
     }
 
-    // Does a task that was taken off, and takes what it counts of what is left.
+    // Does a task that was taken off the stack, and subtracts from `left` what the task counts.
     #[inline(always)]
     fn act(&mut self, tables: &Tables<'_>, task: Task, left: &mut u64) -> Result<(), Memory>
         requires based { IsBased (state_of self.old) }
@@ -102,7 +104,7 @@ impl Machine {
         }
     }
 
-    // Counts a node, and leaves its value, or plans what has to come before.
+    // Counts a node, and leaves its value, or plans what has to come first.
     #[inline(always)]
     fn visit(&mut self, tables: &Tables<'_>, number: usize, left: &mut u64) -> Result<(), Memory>
         requires based { IsBased (state_of self.old) }
@@ -121,7 +123,7 @@ impl Machine {
         }
     }
 
-    // Plans a node behind its parts, or has it looked at whole where these do not tell what it is.
+    // Plans a node after its parts, or visits it as a whole where the parts do not say what it is.
     #[inline(always)]
     fn visit_parts(
         &mut self,
@@ -149,7 +151,7 @@ impl Machine {
         }
     }
 
-    // Plans an operator behind its arguments, where there are some, and not as many as a choice has.
+    // Plans an operator after its arguments, where it has some, and not as many as a choice.
     #[inline(always)]
     fn visit_operator(
         &mut self,
@@ -168,7 +170,7 @@ impl Machine {
         self.plan(Task::Finish(number), number, args)
     }
 
-    // Leaves the value of a node, or plans what has to come before, by all that the node has.
+    // Leaves the value of a node, or plans what has to come first, from all that the node has.
     #[inline(never)]
     fn visit_whole(&mut self, tables: &Tables<'_>, number: usize) -> Result<(), Memory>
         requires { IsBased (state_of self.old) }
@@ -210,7 +212,7 @@ impl Machine {
         }
     }
 
-    // Plans a body behind its arguments, if there is one; without arguments it is a constant's.
+    // Plans a body after its arguments, if there is a body; without arguments it is a constant's.
     #[inline(always)]
     fn visit_call(
         &mut self,
@@ -230,7 +232,7 @@ impl Machine {
         }
     }
 
-    // Leaves the value of a constant with this body, or has it found and kept.
+    // Leaves the value of a constant with this body, or plans to find and keep it.
     #[inline(always)]
     fn visit_constant(&mut self, body: Option<usize>) -> Result<(), Memory>
         requires { IsBased (state_of self.old) }
@@ -248,7 +250,7 @@ impl Machine {
         }
     }
 
-    // Plans an operator behind its arguments, and a choice behind its condition alone.
+    // Plans an operator after its arguments, and a choice after its condition alone.
     #[inline(always)]
     fn visit_args(&mut self, number: usize, op: &Op, args: Parts<'_>) -> Result<(), Memory>
         requires { IsBased (state_of self.old) }
@@ -262,7 +264,7 @@ impl Machine {
         }
     }
 
-    // Goes on with a node whose arguments are the last values.
+    // Continues with a node whose arguments are the last values.
     #[inline(always)]
     fn finish(&mut self, tables: &Tables<'_>, number: usize) -> Result<(), Memory>
         requires { IsBased (state_of self.old) }
@@ -309,7 +311,7 @@ impl Machine {
         }
     }
 
-    // Goes on with a body, if there is one.
+    // Continues with a body, if there is one.
     #[inline(always)]
     fn finish_call(
         &mut self,
@@ -328,7 +330,7 @@ impl Machine {
         }
     }
 
-    // Goes on with a choice whose condition is the last value.
+    // Continues with a choice whose condition is the last value.
     #[inline(always)]
     fn choose(&mut self, tables: &Tables<'_>, number: usize) -> Result<(), Memory>
         requires { IsBased (state_of self.old) }
@@ -410,7 +412,7 @@ fn is_choice(op: &Op) -> bool
     matches!(op, Op::Core(CoreOp::Ite))
 }
 
-// The branches behind a condition.
+// The two branches after a condition.
 #[inline(always)]
 fn branches(args: Parts<'_>) -> Option<(Part, Part)>
     ensures { option_map (λ p. (number_of p.0, number_of p.1)) result ≡ branches_of (numbers_of args.entry) }

@@ -1,4 +1,4 @@
-//! An item of a slice. This file knows nothing of what it is.
+//! Items of a slice, and the lesser of two numbers. This file knows nothing of what an item is.
 
 ghost use Rattle.std.specs.Prelude.{◌≡◌, ◌≤◌, MatchOption, None, Some, drop, length, min, slice_get};
 

@@ -1,4 +1,4 @@
-//! What was found of closed nodes, by their numbers. This file knows no node.
+//! The values that were found for closed nodes, by the numbers of the nodes. This file knows no node.
 
 ghost use Rattle.std.specs.Prelude.{◌≡◌, ℕ, ◌<◌, ◌==◌, ◌∷◌, ◌++◌, [], None, Some, IfOk, OnErr, OnOk, length};
 ghost use Rattle.std.specs.Prelude.{if◌then◌else◌, option_map, vec_capacity};
@@ -9,19 +9,20 @@ use smt_faults::Memory;
 use smt_values::Value;
 use std::alloc::Global;
 
-/// For how many values memory stays that is not in use.
+/// The number of values for which unused memory is kept.
 pub(crate) const FEW: usize = 4096;
 
-/// The value that was found for the node of a number; it may be open.
+/// The value that was found for the node of a number, which may be open.
 #[derive(Clone, Copy)]
 pub(crate) struct Found {
     number: usize,
     value: Option<Value>,
 }
 
-/// The values that are kept, in the order in which they came, and for the number of each node the place where its
-/// value stands among them, if that is the value of this number. So all are forgotten in one step, and nothing is
-/// done for a node without a value.
+/// The values that are kept, in the order in which they came.
+///
+/// For the number of each node it has the place where the node's value is among them, if the value there is
+/// of this number. So one step forgets all values, and a node without a value costs nothing.
 #[derive(Drop)]
 pub(crate) struct Kept {
     alloc: Global,
@@ -30,7 +31,7 @@ pub(crate) struct Kept {
 }
 
 impl Kept {
-    /// Nothing is kept yet.
+    /// No values.
     #[tactic(auto, unfolding(crate::specs::Internal::KeptView::kept_at))]
     pub(crate) fn new(alloc: Global) -> Kept
         ensures nothing { (number : ℕ) → kept_at result number ≡ None }
@@ -43,7 +44,7 @@ impl Kept {
         }
     }
 
-    /// Keeps nothing any more, but memory: that of a few values, and the places.
+    /// Forgets all values. It keeps the memory of at most `FEW` values, and that of the places.
     #[tactic(auto, unfolding(crate::specs::Internal::KeptView::kept_at))]
     pub(crate) fn forget(&mut self)
         ensures { (number : ℕ) → kept_at self.new number ≡ None }
@@ -54,7 +55,7 @@ impl Kept {
         }
     }
 
-    /// What is kept for a number.
+    /// The value that is kept for a number.
     #[tactic(auto, unfolding(crate::specs::Internal::KeptView::kept_at))]
     #[inline(always)]
     pub(crate) fn get(&self, number: usize) -> Option<Option<Value>>
@@ -66,7 +67,7 @@ impl Kept {
         }
     }
 
-    // The value at a place, if it is that of this number.
+    // The value at a place, if it was found for this number.
     #[inline(always)]
     fn get_at(&self, place: usize, number: usize) -> Option<Option<Value>>
         ensures { option_map known_element result ≡ found_at self.now.found.items place number }
@@ -89,7 +90,7 @@ impl Kept {
         Ok(())
     }
 
-    // Has a place for a number.
+    // Makes room for the place of a number.
     #[tactic(auto, unfolding(crate::specs::Internal::KeptView::kept_at))]
     fn make_room(&mut self, number: usize) -> Result<(), Memory>
         ensures room { IfOk result (λ _. number < length self.new.places.items) }
@@ -97,11 +98,11 @@ impl Kept {
         ensures found { self.new.found ≡ self.old.found }
     {
         let Some(len) = number.checked_add(1) else {
-            // So many nodes have no place in memory.
+            // Memory has no room for so many nodes.
             return Err(Memory);
         };
         if self.places.len() < len {
-            // No value stands at this place yet, and the one that will is of the number it is kept for.
+            // No value is at this place yet, and the one that will be is of the number that it is kept for.
             let none = self.found.len();
             self.places.resize(len, none)?;
         }

@@ -1,18 +1,19 @@
 //! Evaluation of numbered nodes by one loop over a stack of its own.
 //!
-//! The nodes of a script's terms and those of a model's bodies stand in two tables (`smt_nodes`), and names
-//! lead to the bodies of their definitions. What is known of a node's value is made of the nodes with lower
-//! numbers alone: a part of another number is open, and so are a place and a body that are not there. Nothing
-//! here knows a name or a sort, and nothing allocates but the growth of a machine's stacks: a term may be as
-//! deep as memory allows.
+//! The nodes of a script's terms and those of a model's bodies are in two tables (`smt_nodes`), and names
+//! lead to the bodies of their definitions. What is known of a node's value depends on the nodes with lower
+//! numbers alone. A part with another number is open, and so are a place and a body that do not exist.
+//! Nothing here knows a name or a sort. An evaluation asks for memory only where its machine grows, so a term
+//! may be as deep as memory allows.
 //!
 //! **The contract for the layer above**: `Machine::eval` gives `given` of `specs/Given.antt` over the nodes
-//! of both tables, `nodes_of` of `specs/Tables.antt`, whatever these hold; by `nodes_have_their_values` of
+//! of both tables, `nodes_of` of `specs/Tables.antt`, whatever these hold. By `nodes_have_their_values` of
 //! [`laws`] that is what each form of node makes of its parts, `node_value` of `specs/Nodes.antt`.
 //!
-//! What a term costs is known before: `costs` counts for every node how many nodes are evaluated for it at
-//! most, each annotation as one more, and `Machine::eval` takes as much of what is left, or less. Where a term
-//! may cost no more than a limit that is below the number of nodes, `cost_within` counts as far as the limit.
+//! The cost of a term is known before its evaluation. `costs` counts for every node how many nodes are
+//! evaluated for it at most, each annotation as one more, and `Machine::eval` subtracts that much from
+//! `left`, or less. Where a term may cost no more than a limit below the number of nodes, `cost_within`
+//! counts as far as the limit.
 //!
 //! A call, for the script's `(+ x 1)` as node `sum`, where the model has 2 for `x`:
 //!

@@ -22,8 +22,9 @@ use smt_theory::Op;
 use smt_values::{Value, apply_in_place};
 use std::alloc::Global;
 
-/// Stacks for the evaluation of nodes, bounded by memory alone, and the values that closed nodes were found to
-/// have. One machine serves many evaluations over the same tables, and keeps its memory from one to the next.
+/// Stacks for the evaluation of nodes, bounded by memory alone, and the values that were found for closed
+/// nodes. One machine serves many evaluations over the same tables, and keeps its memory from one to the
+/// next.
 #[derive(Drop)]
 pub struct Machine {
     alloc: Global,
@@ -35,7 +36,7 @@ pub struct Machine {
 }
 
 impl Machine {
-    /// A machine that has no memory yet, and serves any tables.
+    /// A machine that has no memory yet, and may serve any tables.
     pub fn new(alloc: Global) -> Machine
         ensures memory { HasNoMemory result }
         ensures serves { (nodes : List Node) → Remembers result nodes }
@@ -50,7 +51,7 @@ impl Machine {
         }
     }
 
-    /// Serves any tables again, as a new one. Memory that is not large stays.
+    /// Makes the machine serve any tables again, as a new one does. It keeps memory that is not large.
     pub fn forget(&mut self)
         ensures { (nodes : List Node) → Remembers self.new nodes }
     {
@@ -66,7 +67,7 @@ impl Machine {
         }
     }
 
-    /// Empty stacks but for one task.
+    /// Empties the stacks, and plans one task.
     pub(crate) fn begin(&mut self, task: Task) -> Result<(), Memory>
         ensures { IfOk result (λ _. IsBegun task self.old self.new) }
     {
@@ -78,7 +79,7 @@ impl Machine {
         Ok(())
     }
 
-    /// The last task, which is taken off.
+    /// Takes the last task off the stack.
     #[inline(always)]
     pub(crate) fn take_task(&mut self) -> Option<Task>
         ensures state { state_of self.new ≡ state_of self.old }
@@ -89,7 +90,7 @@ impl Machine {
         self.tasks.pop()
     }
 
-    /// One more value.
+    /// Adds a value.
     #[inline(always)]
     pub(crate) fn leave(&mut self, value: Option<Value>) -> Result<(), Memory>
         ensures { IfOk result (λ _.
@@ -112,7 +113,7 @@ impl Machine {
         }
     }
 
-    /// The last value, which is taken off.
+    /// Takes the last value off the stack.
     #[inline(always)]
     pub(crate) fn take_last(&mut self) -> Option<Value>
         ensures value { known_element result ≡ first_of (last_of 1 (state_of self.old).values) }
@@ -124,7 +125,7 @@ impl Machine {
         }
     }
 
-    /// What an operator makes of the last values, in their place.
+    /// Replaces the last `count` values by what an operator makes of them.
     #[inline(always)]
     pub(crate) fn operate(&mut self, op: Op, count: usize) -> Result<(), Memory>
         ensures { let before = state_of self.old in IfOk result (λ _.
@@ -137,7 +138,7 @@ impl Machine {
         Ok(())
     }
 
-    /// A task behind which the parts of a node are visited first, the first part before the others.
+    /// Plans visits of the parts of a node, the first part first, and then a task.
     #[inline(always)]
     pub(crate) fn plan(&mut self, task: Task, number: usize, parts: Parts<'_>) -> Result<(), Memory>
         ensures { IfOk result (λ _. IsPlanned (task ∷ visits number (numbers_of parts.entry))
@@ -156,7 +157,7 @@ impl Machine {
         Ok(())
     }
 
-    /// One more task.
+    /// Plans one more task.
     #[inline(always)]
     pub(crate) fn plan_part(&mut self, task: Task) -> Result<(), Memory>
         ensures { IfOk result (λ _. IsPlanned (task ∷ []) (state_of self.old) self.old self.new) }
@@ -165,7 +166,7 @@ impl Machine {
         Ok(())
     }
 
-    /// The value that is kept of a closed node.
+    /// The value that is kept for a closed node.
     #[inline(always)]
     pub(crate) fn kept(&self, number: usize) -> Option<Option<Value>>
         ensures { option_map known_element result ≡ kept_at self.now.kept number }
@@ -192,7 +193,7 @@ impl Machine {
         }
     }
 
-    /// An empty frame for a closed node, whose value is kept.
+    /// Plans a closed node in an empty frame, and the keeping of its value.
     #[inline(always)]
     pub(crate) fn enter_closed(&mut self, number: usize) -> Result<(), Memory>
         ensures { let before = state_of self.old in IfOk result (λ _.
@@ -206,7 +207,7 @@ impl Machine {
         Ok(())
     }
 
-    /// The last values become a frame of their own for a body.
+    /// Makes the last values a frame of their own, and plans a body in it.
     #[inline(always)]
     pub(crate) fn enter(&mut self, number: usize, body: Part, count: usize) -> Result<(), Memory>
         ensures { let before = state_of self.old in IfOk result (λ _.
@@ -218,7 +219,7 @@ impl Machine {
         self.move_last(number, body, base, count)
     }
 
-    /// The last values become the end of the frame for a body.
+    /// Makes the last values the end of the frame, and plans a body in it.
     #[inline(always)]
     pub(crate) fn bind(&mut self, number: usize, body: Part, count: usize) -> Result<(), Memory>
         ensures { let before = state_of self.old in IfOk result (λ _.
@@ -231,7 +232,7 @@ impl Machine {
         self.move_last(number, body, around, count)
     }
 
-    // The last values go to the frames for a body, of which the innermost begins at `base`.
+    // Moves the last values to the frames, of which the innermost begins at `base`, and plans a body there.
     #[inline(always)]
     fn move_last(
         &mut self,
@@ -252,7 +253,7 @@ impl Machine {
         Ok(())
     }
 
-    /// The frame that began at `base` is the innermost again.
+    /// Makes the frame that began at `base` the innermost again.
     #[inline(always)]
     pub(crate) fn leave_frame(&mut self, base: usize)
         ensures { IsAt (with_frames base (state_of self.old).base (state_of self.old)) self.old self.new }
@@ -261,7 +262,7 @@ impl Machine {
         self.shorten(base, len);
     }
 
-    /// The frames have this length again.
+    /// Cuts the frames to this length again.
     #[inline(always)]
     pub(crate) fn unbind(&mut self, len: usize)
         ensures { IsAt (with_frames (state_of self.old).base len (state_of self.old)) self.old self.new }

@@ -5,7 +5,7 @@ ghost use Rattle.smt_machine.specs.Internal.Parts.{number_of};
 
 use smt_nodes::TermId;
 
-/// A node by its number in a table, where the numbers of both tables are `shift` higher.
+/// A node by its number in a table; its number in both tables is `shift` higher.
 #[derive(Clone, Copy)]
 pub(crate) struct Part {
     pub(crate) id: TermId,
@@ -23,7 +23,7 @@ impl Part {
     }
 }
 
-/// Nodes by their numbers in a table, where the numbers of both tables are `shift` higher.
+/// Nodes by their numbers in a table; their numbers in both tables are `shift` higher.
 #[derive(Clone, Copy)]
 pub(crate) struct Parts<'a> {
     pub(crate) ids: &'a [TermId],

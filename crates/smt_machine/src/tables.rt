@@ -13,8 +13,10 @@ use crate::items::item_at;
 use crate::parts::{Part, Parts};
 use smt_nodes::{Node, NodeParts, Nodes, TermId};
 
-/// The nodes of a model and of a script, and the bodies of their definitions. Any will do: a part whose
-/// number is not below its node's is open, and so is a name at a place that is not there.
+/// The nodes of a model and of a script, and the bodies of their definitions.
+///
+/// Any tables are allowed: a part whose number is not below its node's is open, and so is a name at a place
+/// that does not exist.
 #[derive(Clone, Copy)]
 pub struct Tables<'a> {
     /// The nodes of the bodies of a model's definitions.
@@ -23,7 +25,7 @@ pub struct Tables<'a> {
     pub model_bodies: &'a [TermId],
     /// The nodes of the script's terms.
     pub script: &'a Nodes,
-    /// The nodes of further terms of the script, which stand behind those.
+    /// The nodes of further terms of the script, which come after those.
     pub transient: &'a Nodes,
     /// The body of each definition of the script's own, by its place.
     pub script_bodies: &'a [TermId],
@@ -37,14 +39,14 @@ pub struct Tables<'a> {
 pub(crate) struct Place<'a> {
     pub(crate) nodes: &'a Nodes,
     pub(crate) number: usize,
-    /// How many nodes of both tables stand before those of this one.
+    /// How many nodes of both tables come before those of this one.
     pub(crate) shift: usize,
     pub(crate) bodies: &'a [TermId],
     pub(crate) declared: &'a [TermId],
 }
 
 impl<'a> Tables<'a> {
-    /// How many nodes stand before the script's.
+    /// How many nodes come before the script's.
     #[inline(always)]
     pub(crate) fn shift(&self) -> usize
         ensures { result ≡ model_count self.now }
@@ -52,7 +54,7 @@ impl<'a> Tables<'a> {
         self.model.len()
     }
 
-    /// Where the node of a number is looked for.
+    /// The place of the node of a number.
     #[inline(always)]
     pub(crate) fn place(&self, number: usize) -> Place<'a>
         ensures node { found result ≡ slice_get (nodes_of self.now) number }
@@ -66,7 +68,7 @@ impl<'a> Tables<'a> {
         }
     }
 
-    /// The same of a node of the model.
+    /// The place of a node of the model.
     #[inline(always)]
     pub(crate) fn model_place(&self, number: usize) -> Place<'a>
         requires { number < model_count self.now }
@@ -82,7 +84,7 @@ impl<'a> Tables<'a> {
         }
     }
 
-    /// The same of a node of the script, before which the `shift` nodes of the model stand.
+    /// The place of a node of the script, after the `shift` nodes of the model.
     #[inline(always)]
     pub(crate) fn script_place(&self, shift: usize, number: usize) -> Place<'a>
         requires shift { shift ≡ model_count self.now }
@@ -119,7 +121,7 @@ impl<'a> Tables<'a> {
 }
 
 impl<'a> Place<'a> {
-    /// The node, if one is there.
+    /// The node at the place, if there is one.
     #[inline(always)]
     pub(crate) fn node(&self) -> Option<Node<'a>>
         ensures meaning { option_map (meaning self.now) result ≡ found self.now }
@@ -128,7 +130,7 @@ impl<'a> Place<'a> {
         self.nodes.get(self.number)
     }
 
-    /// The number that the node's digits spell, if it is a literal; `None` from 2^128 on.
+    /// The number that the node's digits spell, if it is a literal below 2^128.
     #[inline(always)]
     pub(crate) fn literal(&self) -> Option<u128>
         ensures { result ≡ literal_number (found_node self.now) }
@@ -136,7 +138,7 @@ impl<'a> Place<'a> {
         self.nodes.literal(self.number)
     }
 
-    /// The parts of the node, with how many annotations stand round it, if one is there.
+    /// The parts of the node, and how many annotations are round it, if there is a node.
     #[inline(always)]
     pub(crate) fn annotated_parts(&self) -> Option<(NodeParts<'a>, usize)>
         ensures parts { option_map (λ p. parts_view p.0) result ≡ found_parts self.now }
@@ -145,7 +147,7 @@ impl<'a> Place<'a> {
         self.nodes.get_parts(self.number)
     }
 
-    /// How many annotations stand round it; none where no node is.
+    /// How many annotations are round the node; 0 where there is none.
     #[inline(always)]
     pub(crate) fn around(&self) -> usize
         ensures { result ≡ found_around self.now }
@@ -156,7 +158,7 @@ impl<'a> Place<'a> {
         }
     }
 
-    /// Nodes of this table.
+    /// The nodes of this table with these numbers.
     #[inline(always)]
     pub(crate) fn parts<'b>(&self, ids: &'b [TermId]) -> Parts<'b>
         ensures { numbers_of result ≡ shifted self.now.shift ids.now }
@@ -185,7 +187,7 @@ impl<'a> Place<'a> {
     }
 }
 
-// The node at a place among those of a table whose nodes stand behind `shift` others.
+// The node at a place of a list, in a table whose nodes come after `shift` others.
 #[inline(always)]
 fn part_at(ids: &[TermId], place: usize, shift: usize) -> Option<Part>
     ensures { option_map number_of result ≡ option_map (λ j. shift + j) (slice_get ids.now place) }

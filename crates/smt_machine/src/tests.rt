@@ -1,5 +1,5 @@
-//! A term over a model's function and the script's own: its cost, and its value, twice by one machine, of
-//! which memory may be refused once (`rt try --test --fail-alloc N`).
+//! A term over a model's function and the script's own: its cost, and its value, twice by one machine. Memory
+//! may be refused once (`rt try --test --fail-alloc N`).
 
 use crate::{Machine, Tables, cost_of_term, costs};
 use smt_faults::Memory;
@@ -50,7 +50,8 @@ fn script(alloc: Global) -> Result<(Nodes, TermId, [TermId; 2]), Memory> {
     Ok((nodes, g, [x, f_x]))
 }
 
-// What the transient term `(g x (f x))` costs, its value, and what is left of that when it was evaluated twice.
+// The cost of the transient term `(g x (f x))`, its value, and what the second of two evaluations leaves of
+// the cost.
 fn value(alloc: Global) -> Result<(u64, Option<Value>, u64), Memory> {
     let (model, declared) = model(alloc)?;
     let (script, g, args) = script(alloc)?;
@@ -81,7 +82,7 @@ fn value(alloc: Global) -> Result<(u64, Option<Value>, u64), Memory> {
     Ok((cost, value, left))
 }
 
-// In the second evaluation the body of `x` is not evaluated again, nor one of the branches of `ite`.
+// The second evaluation does not evaluate the body of `x` again, and no evaluation both branches of `ite`.
 #[test]
 fn a_term_has_its_cost_and_its_value(rt: HostRuntime) {
     let mut evaluated = false;

@@ -1,4 +1,4 @@
-//! What a term costs, counted from the term down, as far as a limit. This file keeps no costs.
+//! The cost of a term, counted from the term down, as far as a limit. This file keeps no costs.
 
 ghost use Rattle.std.specs.Prelude.{◌≡◌, ◌≤◌, ◌<◌, ◌+◌, ℕ, IfOk, IfSome, Some, option_map};
 ghost use Rattle.smt_machine.specs.Costs.{cost, first_cost, last_cost, part_cost, parts_cost, within};
@@ -12,8 +12,10 @@ use smt_faults::Memory;
 use smt_nodes::{Node, TermId};
 use std::alloc::Global;
 
-/// What a term of the script costs, if it is no more than a limit. No more nodes are looked at than the limit
-/// says, and no more wait at a time; a body is counted anew at each use.
+/// The cost of a term of the script; `None` where it is more than a limit.
+///
+/// The call looks at no more nodes than the limit says, and no more nodes wait at a time. It counts a body
+/// anew at each use. The only error is want of memory.
 pub fn cost_within(
     alloc: Global,
     tables: Tables<'_>,
@@ -23,7 +25,7 @@ pub fn cost_within(
     ensures { IfOk result (λ cost. cost ≡ within limit (term_cost tables.entry term)) }
 {
     let Some(root) = tables.shift().checked_add(term.number()) else {
-        // So many nodes have no place in memory.
+        // Memory has no room for so many nodes.
         return Err(Memory);
     };
     let mut waiting = Vec::new(alloc);
@@ -38,7 +40,7 @@ pub fn cost_within(
     Ok(Some(limit - left))
 }
 
-// Counts a node, and has its parts wait; `None` says that too little is left for what waits.
+// Counts a node, and makes its parts wait; `None` where too little is left for what waits.
 fn take_up(
     waiting: &mut Vec<usize>,
     tables: &Tables<'_>,
@@ -62,7 +64,7 @@ fn take_up(
     }
 }
 
-// Has the parts of a node wait, and the body that it names.
+// Makes the parts of a node wait, and the body that it names.
 fn wait_for_node(
     waiting: &mut Vec<usize>,
     number: usize,
@@ -107,7 +109,7 @@ fn wait_for_node(
     }
 }
 
-// Has a body with arguments wait, if there is one.
+// Makes a body and its arguments wait, if there is a body.
 fn wait_for_call(
     waiting: &mut Vec<usize>,
     number: usize,
@@ -127,7 +129,7 @@ fn wait_for_call(
     }
 }
 
-// Has parts and one more wait.
+// Makes parts and one more part wait.
 fn wait_for_both(
     waiting: &mut Vec<usize>,
     number: usize,
@@ -150,7 +152,7 @@ fn wait_for_both(
     wait_for(waiting, number, last, rest)
 }
 
-// Has parts wait, where each that waits then may be counted.
+// Makes parts wait, where enough is left to count all that waits then.
 fn wait_for(
     waiting: &mut Vec<usize>,
     number: usize,
@@ -178,7 +180,7 @@ fn wait_for(
     Ok(Some(left))
 }
 
-// Has a part wait, or counts it if it is open.
+// Makes a part wait, or counts it if it is open.
 fn wait_for_part(
     waiting: &mut Vec<usize>,
     number: usize,

@@ -1,4 +1,4 @@
-//! Names in lists of those whose keys fall together. This file knows no order of names.
+//! Names, in lists of those whose keys meet. This file knows no order of names.
 
 ghost use Rattle.std.specs.Prelude.{◌≡◌, ◌+◌, ◌-◌, ◌<◌, ◌≤◌, ◌∷◌, ◌++◌, [], length, take, bytes_eq, Some, None};
 ghost use Rattle.std.specs.Prelude.{OnOk, OnErr, IfOk, IfNone, IfSome, slice_index_or};
@@ -11,21 +11,21 @@ use smt_faults::Memory;
 use std::alloc::Global;
 use std::marker::Model;
 
-/// More names, or bytes in all of them, are not kept.
+/// The greatest number of names, and of bytes in all of them.
 const MOST: usize = 4_294_967_295;
 
-/// A list of so many names is a long one: by chance one in 1,000,000,000 is.
+/// The number of names in a long list. By chance one list in 1,000,000,000 gets more names.
 const LONG: usize = 8;
 
-/// How many lists there are at first.
+/// The number of lists at first.
 const FIRST: usize = 64;
 
 /// Names, each once, in the order in which they came. A contract sees their list.
 #[derive(Drop)]
 pub(crate) struct Chains {
-    // Of each list one more than the place of its last name, or 0.
+    // For each list, one more than the place of its last name; 0 where the list is empty.
     heads: Vec<u32>,
-    // Of each name the same of the name before it in its list.
+    // For each name, one more than the place of the name before it in its list; 0 where it is the first.
     links: Vec<u32>,
     slots: Vec<Slot>,
     bytes: Vec<u8>,
@@ -51,7 +51,7 @@ impl Model for Chains {
 }
 
 impl Chains {
-    /// No name.
+    /// No names.
     pub(crate) fn new(alloc: Global) -> Self
         ensures { result ≡ [] }
     {
@@ -63,7 +63,7 @@ impl Chains {
         }
     }
 
-    /// How many there are.
+    /// The number of names.
     #[inline(always)]
     pub(crate) fn len(&self) -> usize
         ensures length { result ≡ length self.now }
@@ -72,7 +72,7 @@ impl Chains {
         self.slots.len()
     }
 
-    /// The place of this name, from 0.
+    /// The place of this name, from 0; `None` where it is none of them.
     #[inline(always)]
     pub(crate) fn find(&self, name: &[u8]) -> Option<u32>
         ensures { result ≡ place_of self.now name.now }
@@ -89,7 +89,7 @@ impl Chains {
         )
     }
 
-    /// Adds a name behind all others, which are not this one, and answers its place.
+    /// Adds a name after the others, which all differ from it, and returns its place.
     #[inline(never)]
     pub(crate) fn add(&mut self, name: &[u8]) -> Result<u32, Memory>
         requires { place_of self.old name.now ≡ None }
@@ -135,7 +135,7 @@ impl Chains {
         name_of(self.bytes.as_slice(), self.slots.as_slice()[place])
     }
 
-    /// The last name.
+    /// The last name, if there is one.
     pub(crate) fn last(&self) -> Option<&[u8]>
         ensures none { IfNone result (self.now ≡ []) }
         ensures last { IfSome result (λ name. self.now ≡ take (length self.now - 1) self.now ++ name.now ∷ []) }
@@ -147,7 +147,7 @@ impl Chains {
         }
     }
 
-    /// Whether the list that a name falls into is a long one.
+    /// Whether the list for this name is a long one.
     pub(crate) fn is_crowded(&self, name: &[u8]) -> bool {
         if self.heads.is_empty() {
             return false;
@@ -162,7 +162,7 @@ impl Chains {
         true
     }
 
-    /// Takes the last name away, if there is one.
+    /// Removes the last name, if there is one.
     pub(crate) fn pop(&mut self)
         ensures left { self.new ≡ take (length self.old - 1) self.old }
         ensures distinct { AreDistinct self.new }
@@ -176,7 +176,7 @@ impl Chains {
     }
 }
 
-// Makes twice as many lists, where there are not two for each name.
+// Doubles the number of lists, where one more name would leave fewer than two lists for each.
 fn make_room(heads: &mut Vec<u32>, slots: &[Slot], links: &mut [u32]) -> Result<(), Memory>
     requires as_long { length links.old ≡ length slots.now }
     requires counted { length slots.now ≤ 4294967295 }
@@ -197,7 +197,7 @@ fn make_room(heads: &mut Vec<u32>, slots: &[Slot], links: &mut [u32]) -> Result<
     Ok(())
 }
 
-// Makes the lists anew.
+// Builds the lists anew.
 fn link_all(heads: &mut [u32], slots: &[Slot], links: &mut [u32])
     requires as_long { length links.old ≡ length slots.now }
     requires counted { length slots.now ≤ 4294967295 }

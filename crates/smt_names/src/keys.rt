@@ -1,5 +1,5 @@
-//! What a name is first compared by: the bytes of one of up to eight, and a hash of a longer one. This file keeps
-//! no name.
+//! The key of a name, which is compared first: made of its bytes where there are up to eight, and a hash of a
+//! longer name. This file keeps no name.
 
 ghost use Rattle.std.specs.Prelude.{◌≡◌, ◌-◌, ◌<◌, ◌≤◌, length, take, drop};
 ghost use Rattle.std.specs.Int.{w32, w64, from_le_bytes};
@@ -13,7 +13,7 @@ fn mixed(key: u64) -> u64
     (product >> 64) as u64 ^ (product & 0xffff_ffff_ffff_ffff) as u64
 }
 
-// Which of `size` lists has the names of this key.
+// Which of `size` lists the names of this key are in.
 #[inline(always)]
 pub(crate) fn bucket(key: u64, size: usize) -> usize
     requires { 0 < size }
@@ -23,7 +23,7 @@ pub(crate) fn bucket(key: u64, size: usize) -> usize
     (mixed(key) & (size as u64 - 1)) as usize
 }
 
-// Names of one length of up to eight bytes have one key only if they are the same.
+// The key of a name. Names of one length of up to eight bytes have the same key only if they are the same.
 #[inline(always)]
 pub(crate) fn key(name: &[u8]) -> u64
     ensures { result ≡ key_of name.now }

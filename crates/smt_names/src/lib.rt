@@ -1,8 +1,8 @@
-//! Each distinct name once, with a number by which it is known from then on: the place, from 0, at which it
-//! came. This crate knows nothing of what a name stands for.
+//! Each distinct name once, with a number by which it is known from then on: its place, from 0, in the order
+//! in which names came. This crate knows nothing of what a name stands for.
 //!
-//! `Names::place` answers the place of a name, and adds the name where it is a new one; `Names::find` only
-//! asks. So of `x`, `y` and `x` again the places are 0, 1 and 0:
+//! `Names::place` returns the place of a name, and adds the name where it is a new one; `Names::find` only
+//! looks. So of `x`, `y` and `x` again the places are 0, 1 and 0:
 //!
 //! ```text
 //! let mut names = Names::new(alloc);
@@ -13,7 +13,7 @@
 //! names.find(b"z")      // None
 //! ```
 //!
-//! A name is found by a hash, or, where too many names share one, by their order; no contract knows which.
+//! A name is found by a hash, or, where too many names share one, by their order. No contract says which.
 #![tactic(auto)]
 
 mod chains;

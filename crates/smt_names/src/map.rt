@@ -1,4 +1,4 @@
-//! Names with what each stands for. This file knows nothing of how a name is found.
+//! A map from names to values. This file knows nothing of how a name is found.
 
 ghost use Rattle.std.specs.Prelude.{◌≡◌, ◌<◌, Some, length, slice_get, slice_set};
 ghost use Rattle.std.specs.Option.{option_copied};
@@ -7,9 +7,11 @@ use crate::names::Names;
 use smt_faults::Memory;
 use std::alloc::Global;
 
-/// Names, each once, and a value of each, in the order in which they came. A contract sees their list. At most
-/// 2^32 - 1, of as many bytes in all. To find a name or to add one takes time in proportion to the name, and at
-/// worst to the logarithm of how many there are, whatever the names.
+/// Names, each once, and a value of each, in the order in which they came. A contract sees their list.
+///
+/// The map holds at most 2^32 - 1 names, of as many bytes in all. Finding a name or adding one takes time in
+/// proportion to the name's length, and at worst to the logarithm of the number of names, whatever the names
+/// are.
 #[derive(Drop)]
 pub struct NameMap<V> {
     names: Names,
@@ -25,7 +27,7 @@ impl<V> NameMap<V> {
     ghost use Rattle.smt_theory.specs.Words.{look_up};
     ghost use Rattle.smt_names.specs.Entries.{entries_of, with_value};
 
-    /// No name. It takes no memory.
+    /// An empty map, which asks for no memory.
     pub fn new(alloc: Global) -> Self
         ensures { entries_of result ≡ [] }
     {
@@ -35,7 +37,7 @@ impl<V> NameMap<V> {
         }
     }
 
-    /// How many names there are.
+    /// The number of names.
     #[inline(always)]
     pub fn len(&self) -> usize
         ensures { result ≡ length (entries_of self.now) }
@@ -43,7 +45,7 @@ impl<V> NameMap<V> {
         self.values.len()
     }
 
-    /// What a name stands for; `None` where it is none of them.
+    /// The value of a name; `None` where the map does not have the name.
     #[inline(always)]
     pub fn get(&self, name: &[u8]) -> Option<&V>
         ensures { option_copied result ≡ look_up (entries_of self.now) name.now }
@@ -54,7 +56,7 @@ impl<V> NameMap<V> {
         }
     }
 
-    /// The name at a place, from 0, and what it stands for; `None` from the length on.
+    /// The name at a place, from 0, and its value; `None` from the length on.
     #[inline(always)]
     pub fn get_index(&self, place: usize) -> Option<(&[u8], &V)>
         ensures { option_map (λ p. (p.0.now, p.1.now)) result ≡ slice_get (entries_of self.now) place }
@@ -65,8 +67,10 @@ impl<V> NameMap<V> {
         }
     }
 
-    /// Adds a new name behind all others, with its value. It is refused only for want of memory, and then nothing
-    /// changes; want of memory is reported beyond 2^32 - 1 names, too, or as many bytes of names in all.
+    /// Adds a new name after the others, with its value.
+    ///
+    /// The only error is want of memory, and then nothing changes. Want of memory is reported, too, beyond
+    /// 2^32 - 1 names, or as many bytes of names in all.
     pub fn insert(&mut self, name: &[u8], value: V) -> Result<(), Memory>
     where
         V: Drop,
@@ -80,8 +84,10 @@ impl<V> NameMap<V> {
         Ok(())
     }
 
-    /// Makes a name stand for a value, and answers what it stood for before; a new name is added behind all others.
-    /// It is refused only for a new name, for want of memory as at `insert`, and then nothing changes.
+    /// Sets the value of a name, and returns its earlier value, if it had one. A new name is added after the
+    /// others.
+    ///
+    /// The only error is want of memory for a new name, as at `insert`, and then nothing changes.
     pub fn replace(&mut self, name: &[u8], value: V) -> Result<Option<V>, Memory>
     where
         V: Copy,
@@ -104,7 +110,7 @@ impl<V> NameMap<V> {
         }
     }
 
-    /// Leaves the first `len` names, or all where there are no more.
+    /// Keeps the first `len` names, or all where there are no more.
     pub fn truncate(&mut self, len: usize)
     where
         V: Drop,

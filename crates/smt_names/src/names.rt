@@ -1,5 +1,5 @@
-//! Names by their places. This file knows no key: it only asks whether too many names share a list, and keeps
-//! them in their order from then on, so that names which were chosen to meet cost no more than others.
+//! Names by their places. This file knows no key. It asks whether too many names share a list, and from then
+//! on keeps the names in their order, so that names chosen to meet cost no more than others.
 
 ghost use Rattle.std.specs.Prelude.{◌≡◌, ◌-◌, ◌<◌, ◌∷◌, ◌++◌, [], length, take, Some, None, OnOk, OnErr, IfOk};
 ghost use Rattle.std.specs.Prelude.{slice_index_or};
@@ -12,14 +12,16 @@ use std::alloc::Global;
 use std::collections::BTreeMap;
 use std::marker::Model;
 
-/// Names, each once, in the order in which they came: a contract sees their list. At most 2^32 - 1, of as many
-/// bytes in all. To find a name or to add one takes time in proportion to the name, and at worst to the logarithm
-/// of how many there are, whatever the names.
+/// Names, each once, in the order in which they came. A contract sees their list.
+///
+/// There are at most 2^32 - 1 names, of as many bytes in all. Finding a name or adding one takes time in
+/// proportion to the name's length, and at worst to the logarithm of the number of names, whatever the names
+/// are.
 #[derive(Drop)]
 pub struct Names {
     alloc: Global,
     chains: Chains,
-    // The places of all names, once too many of them shared a list.
+    // The places of all names, from when too many of them shared a list.
     by_order: Option<BTreeMap<Vec<u8>, u32>>,
 }
 
@@ -35,7 +37,7 @@ impl Model for Names {
 }
 
 impl Names {
-    /// No name. It takes no memory.
+    /// An empty list of names, which asks for no memory.
     pub fn new(alloc: Global) -> Self
         ensures { result ≡ [] }
     {
@@ -46,7 +48,7 @@ impl Names {
         }
     }
 
-    /// How many there are.
+    /// The number of names.
     #[inline(always)]
     pub fn len(&self) -> usize
         ensures { result ≡ length self.now }
@@ -66,9 +68,10 @@ impl Names {
         }
     }
 
-    /// The place of a name, which is added behind all others where it is none of them. It is refused only for
-    /// want of memory, and then nothing changes; want of memory is reported beyond 2^32 - 1 names, too, or as
-    /// many bytes of names in all.
+    /// The place of a name, from 0; a new name is added after the others.
+    ///
+    /// The only error is want of memory, and then nothing changes. Want of memory is reported, too, beyond
+    /// 2^32 - 1 names, or as many bytes of names in all.
     #[inline(always)]
     pub fn place(&mut self, name: &[u8]) -> Result<u32, Memory>
         ensures added { OnOk result (self.new ≡ with_name self.old name.now) }
@@ -82,7 +85,7 @@ impl Names {
         }
     }
 
-    /// Adds a name that is none of them, as `place` does.
+    /// Adds a new name, as `place` does.
     #[inline(never)]
     pub(crate) fn add(&mut self, name: &[u8]) -> Result<u32, Memory>
         requires { place_of self.old name.now ≡ None }
@@ -101,7 +104,7 @@ impl Names {
         Ok(place)
     }
 
-    // Notes the places of all names, where too many share a list with this one.
+    // Builds the places of all names by their order, where too many names share a list with this one.
     fn order_if_crowded(&mut self, name: &[u8]) -> Result<(), Memory>
         ensures { self.new ≡ self.old }
     {
@@ -111,7 +114,7 @@ impl Names {
         Ok(())
     }
 
-    /// The name at a place.
+    /// The name at a place, from 0.
     #[inline(always)]
     pub fn name(&self, place: usize) -> &[u8]
         requires { place < length self.now }
@@ -120,7 +123,7 @@ impl Names {
         self.chains.name(place)
     }
 
-    /// Leaves the first `len` names, or all where there are no more.
+    /// Keeps the first `len` names, or all where there are no more.
     pub fn cut(&mut self, len: usize)
         ensures { self.new ≡ take len self.old }
     {
@@ -139,7 +142,7 @@ impl Names {
     }
 }
 
-// The places of these names, by their order.
+// The places of these names, by the order of the names.
 fn places_of(alloc: Global, names: &Chains) -> Result<BTreeMap<Vec<u8>, u32>, Memory>
     ensures { IfOk result (λ places. HasPlaces names.now places) }
 {
@@ -152,7 +155,7 @@ fn places_of(alloc: Global, names: &Chains) -> Result<BTreeMap<Vec<u8>, u32>, Me
     Ok(places)
 }
 
-// Notes the place of a name.
+// Adds the place of a name.
 fn insert(
     alloc: Global,
     places: &mut BTreeMap<Vec<u8>, u32>,
@@ -169,7 +172,7 @@ fn insert(
     Ok(())
 }
 
-// Leaves the places of all names but the last.
+// Removes the place of the last name.
 fn forget_last(places: &mut BTreeMap<Vec<u8>, u32>, names: &Chains)
     requires { HasPlaces names.now places.old }
     ensures { HasPlaces (take (length names.now - 1) names.now) places.new }

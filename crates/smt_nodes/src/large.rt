@@ -9,7 +9,7 @@ pub(crate) struct LargeNumber {
     pub(crate) number: Option<u128>,
 }
 
-/// How many are left where the last ones go, as far as they belong to this row or one behind it.
+/// How many of these numbers are left once the last ones are removed that belong to this row or a later one.
 pub(crate) fn count_before(numbers: &[LargeNumber], row: usize) -> usize
     ensures within { result ≤ length numbers.now }
     ensures kept { (i : ℕ) (x : LargeNumber) → slice_get numbers.now i ≡ Some x → x.row < row → i < result }

@@ -1,8 +1,8 @@
-//! Terms that are checked, as numbered nodes in one flat table. This crate knows no names, no trees and no
-//! values, and asks nothing of a node: its numbers and places mean what the layer above has them mean.
+//! Checked terms, as numbered nodes in one flat table. This crate knows no names, no trees and no values, and
+//! requires nothing of a node: the layer above gives numbers and places their meanings.
 //!
-//! `Nodes::push` adds a node and answers its number, `Nodes::get` answers the node of a number, and
-//! `Nodes::cut` leaves the first so many. So `(+ x 1)`, where `x` is the first variable in scope:
+//! `Nodes::push` adds a node and returns its number, `Nodes::get` returns the node of a number, and
+//! `Nodes::cut` keeps the first nodes. So `(+ x 1)`, where `x` is the first variable in scope:
 //!
 //! ```text
 //! let x = nodes.push(&Node::Slot(0))?;                               // 0

@@ -12,13 +12,13 @@ pub enum Node<'a> {
     Hex(&'a [u8]),
     /// A binary literal, by its digits.
     Bin(&'a [u8]),
-    /// A variable: a place of the frame, from 0.
+    /// A variable, by its place in the frame, from 0.
     Slot(usize),
     /// An operator of a theory, with its arguments.
     Apply { op: Op, args: &'a [TermId] },
-    /// A declared name, by its place among these, from 0, with its arguments.
+    /// A declared name, by its place among the declared names, from 0, with its arguments.
     Declared { place: usize, args: &'a [TermId] },
-    /// A defined name, by its place among these, from 0, with its arguments.
+    /// A defined name, by its place among the defined names, from 0, with its arguments.
     Defined { place: usize, args: &'a [TermId] },
     /// A `let`: the values of its variables, and its body.
     Let { values: &'a [TermId], body: TermId },
@@ -27,12 +27,12 @@ pub enum Node<'a> {
 /// The parts of a node, by their numbers, without its operator, digits or variable.
 #[derive(Clone, Copy)]
 pub enum NodeParts<'a> {
-    /// The arguments of an operator; none of a literal and a variable.
+    /// The arguments of an operator; none for a literal or a variable.
     Args(&'a [TermId]),
-    /// The arguments of a declared name, by its place among these, from 0.
+    /// The arguments of a declared name, with its place among the declared names, from 0.
     Declared { place: usize, args: &'a [TermId] },
-    /// The arguments of a defined name, by its place among these, from 0.
+    /// The arguments of a defined name, with its place among the defined names, from 0.
     Defined { place: usize, args: &'a [TermId] },
-    /// Of a `let`: the values of its variables, and its body.
+    /// The values of the variables of a `let`, and its body.
     Let { values: &'a [TermId], body: TermId },
 }

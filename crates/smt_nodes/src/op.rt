@@ -5,7 +5,7 @@ ghost use Rattle.std.specs.Prelude.{◌≡◌};
 use smt_theory::Op;
 use std::marker::Model;
 
-/// An operator with its numbers. Contracts see it as the operator, which itself can't be an item of a list
+/// An operator with its numbers. Contracts see it as the operator. An `Op` itself can't be an item of a list
 /// that grows: the toolchain then makes no proof.
 #[derive(Clone, Copy)]
 pub(crate) struct NumberedOp {
@@ -30,7 +30,7 @@ impl NumberedOp {
         NumberedOp { op: *op }
     }
 
-    /// The operator that it is.
+    /// The operator that is stored.
     pub(crate) fn op(&self) -> Op
         ensures { result ≡ self.now }
     {

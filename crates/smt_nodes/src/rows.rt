@@ -1,5 +1,5 @@
-//! The rows of a table as they are stored. What is long lies in lists behind them, of which this file knows
-//! only how far they reach.
+//! The rows of a table, as they are stored. What is long is in lists, of which this file knows only how far
+//! each row reaches.
 
 ghost use Rattle.std.specs.Prelude.{◌≡◌};
 ghost use Rattle.smt_nodes.specs.Internal.Numbers.{radix};
@@ -21,7 +21,7 @@ pub(crate) struct Ends {
     pub(crate) ops: u32,
 }
 
-/// In which base the digits of a literal are.
+/// The base of the digits of a literal.
 #[derive(Clone, Copy)]
 pub(crate) enum Base {
     Decimal,
@@ -42,28 +42,29 @@ impl Base {
     }
 }
 
-/// A node with the counts of its digits or arguments, which end where the row ends.
+/// A node, with the counts of its digits or arguments. In the lists these end where the row ends.
 #[derive(Clone, Copy)]
 pub(crate) enum Stored {
-    /// A literal: so many digits, and the number that they spell.
+    /// A literal: the count of its digits, and the number that they spell.
     Literal(Base, u32, u32),
-    /// One whose number has no room here: so many digits, and the place of that number among the large ones.
+    /// A literal whose number has no room here: the count of its digits, and the place of the number among
+    /// the large ones.
     Large(Base, u32, u32),
     Slot(u32),
-    /// An operator, and so many arguments.
+    /// An operator that holds no number, and the count of its arguments.
     Plain(PlainOp, u32),
-    /// The place of an operator among those with numbers, and so many arguments.
+    /// The place of an operator among those with numbers, and the count of its arguments.
     Numbered(u32, u32),
-    /// A place, and so many arguments; likewise the next.
+    /// The place of a declared name, and the count of its arguments; the next is the same of a defined name.
     Declared(u32, u32),
     Defined(u32, u32),
-    /// So many values, and the body.
+    /// The count of the values of a `let`, and its body.
     Let(u32, TermId),
-    /// The node of the row of this number, with so many annotations round it.
+    /// The node of the row of this number, with this many annotations round it.
     Same(u32, u32),
 }
 
-/// A row.
+/// A row: what is stored, and where the row ends in each list.
 #[derive(Clone, Copy)]
 pub(crate) struct StoredRow {
     pub(crate) stored: Stored,

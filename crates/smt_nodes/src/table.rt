@@ -1,4 +1,4 @@
-//! The table of nodes. This file knows no term: it asks nothing of what a node says.
+//! The table of nodes. This file knows no term, and requires nothing of a node.
 
 ghost use Rattle.std.proofs.Props.{props};
 ghost use Rattle.std.specs.Prelude.{◌≡◌, IfOk};
@@ -14,9 +14,10 @@ use smt_faults::Memory;
 use smt_theory::PlainOp;
 use std::alloc::Global;
 
-/// Nodes by their numbers, from 0, in the order in which they came: each with how many annotations without a
-/// label stand directly round it (`!`, SMT-LIB 2.6, section 3.6.5). At most 2^32 - 1 nodes, and as many
-/// arguments and digits in all.
+/// A table of nodes, with numbers from 0 in the order in which they came.
+///
+/// With each node it counts the annotations without a label directly round it (`!`, SMT-LIB 2.6, section
+/// 3.6.5). It holds at most 2^32 - 1 nodes, and as many arguments and digits in all.
 #[derive(Drop)]
 pub struct Nodes {
     rows: Vec<StoredRow>,
@@ -50,7 +51,7 @@ impl Nodes {
         }
     }
 
-    /// How many nodes there are.
+    /// The number of nodes.
     #[inline(always)]
     pub fn len(&self) -> usize
         ensures { result ≡ length (rows_of self.now) }
@@ -70,8 +71,8 @@ impl Nodes {
         }
     }
 
-    /// The parts of the node of a number, and how many annotations stand round it as `around` has them; `None`
-    /// from the length on. It takes less time than `get`.
+    /// The parts of the node of a number, and how many annotations are round it, as `around` counts them;
+    /// `None` from the length on. It takes less time than `get`.
     #[inline(always)]
     pub fn get_parts(&self, number: usize) -> Option<(NodeParts<'_>, usize)>
         ensures parts { option_map (λ p. parts_view p.0) result
@@ -89,8 +90,9 @@ impl Nodes {
         }
     }
 
-    /// The number that the digits of a literal spell, of the node of a number; `None` where it is 2^128 or more,
-    /// or no literal is there. It looks at no digit.
+    /// The number that the digits of a literal spell, by the number of its node. The call looks at no digit.
+    ///
+    /// `None` where the number is 2^128 or more, or where the node is no literal or there is none.
     #[inline(always)]
     pub fn literal(&self, number: usize) -> Option<u128>
         ensures { result
@@ -105,7 +107,7 @@ impl Nodes {
         }
     }
 
-    /// How many annotations without a label stand directly round the node of a number; `None` from the length
+    /// How many annotations without a label are directly round the node of a number; `None` from the length
     /// on.
     pub fn around(&self, number: usize) -> Option<usize>
         ensures { result ≡ option_map (λ row. row.around) (slice_get (rows_of self.now) number) }
@@ -116,8 +118,8 @@ impl Nodes {
         }
     }
 
-    /// Adds a node, without annotations round it, and answers its number. If memory is refused, no
-    /// node is added.
+    /// Adds a node without annotations round it, and returns its number. The only error is want of memory,
+    /// and then no node is added.
     #[inline(always)]
     pub fn push(&mut self, node: &Node<'_>) -> Result<TermId, Memory>
         ensures pushed { OnOk result (rows_of self.new
@@ -129,7 +131,8 @@ impl Nodes {
         self.push_row(stored)
     }
 
-    /// Adds the node of an operator that holds no number, with its arguments, as `push` does. It takes less time.
+    /// Adds the node of an operator that holds no number, with its arguments, as `push` does. It takes less
+    /// time.
     #[inline(always)]
     pub fn push_plain(&mut self, op: PlainOp, args: &[TermId]) -> Result<TermId, Memory>
         ensures pushed { OnOk result (rows_of self.new ≡ rows_of self.old
@@ -141,8 +144,10 @@ impl Nodes {
         self.push_row(stored)
     }
 
-    /// Adds the node of a number once more, with one annotation more round it, and answers the new number. If
-    /// memory is refused, no node is added. The cost does not grow with the node's arguments.
+    /// Adds the node of a number once more, with one more annotation round it, and returns the new number.
+    ///
+    /// The only error is want of memory, and then no node is added. The cost does not grow with the node's
+    /// arguments.
     pub fn annotate(&mut self, id: TermId) -> Result<TermId, Memory>
         requires { id < length (rows_of self.old) }
         ensures pushed { OnOk result ((row : Row) × (slice_get (rows_of self.old) id ≡ Some row)
@@ -155,7 +160,7 @@ impl Nodes {
         self.push_row(stored)
     }
 
-    /// Leaves the first so many nodes, at the cost of what goes.
+    /// Keeps the first `count` nodes. The cost is that of the nodes that it removes.
     pub fn cut(&mut self, count: usize)
         ensures { rows_of self.new ≡ take count (rows_of self.old) }
     {
@@ -164,7 +169,7 @@ impl Nodes {
         self.tables.truncate(ends, count);
     }
 
-    // Adds a row behind lists that hold what it stores, and answers its number.
+    // Adds a row, where the lists hold what it stores, and returns its number.
     #[inline(always)]
     fn push_row(&mut self, stored: Stored) -> Result<TermId, Memory>
         requires held { IsHeld (lengths (lists_of self.old.tables)) stored }
@@ -231,7 +236,7 @@ impl Nodes {
     }
 }
 
-// How many annotations stand round the node of a row.
+// How many annotations are round the node of a row.
 #[inline(always)]
 fn around(stored: Stored) -> u32
     ensures { result ≡ around_of stored }
@@ -242,7 +247,7 @@ fn around(stored: Stored) -> u32
     }
 }
 
-// The node of a row of this number, with one annotation more round it.
+// What is stored for the row of this number with one more annotation round its node.
 fn annotated(id: TermId, stored: Stored) -> Result<Stored, Memory>
     ensures { IfOk result (λ s. s ≡ annotated id stored) }
 {
@@ -255,7 +260,7 @@ fn annotated(id: TermId, stored: Stored) -> Result<Stored, Memory>
     }
 }
 
-// How far the last row reaches.
+// How far the last row reaches in the lists.
 fn last_ends(rows: &[StoredRow]) -> Ends
     ensures { result ≡ last_ends rows.now }
 {

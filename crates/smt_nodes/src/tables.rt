@@ -1,4 +1,4 @@
-//! The lists behind the rows: arguments, digits, operators with numbers, and numbers of literals that are large.
+//! The lists that rows reach into: arguments, digits, operators with numbers, and large numbers of literals.
 //! Each only grows at its end or is cut. This file knows no rows.
 
 ghost use Rattle.std.specs.Prelude.{◌≡◌, ◌≤◌, ◌<◌, ◌++◌, ◌^◌, length, slice_index_or, IfOk, OnOk, OnErr};
@@ -26,10 +26,10 @@ use smt_faults::Memory;
 use smt_theory::{Op, PlainOp, number};
 use std::alloc::Global;
 
-/// How long a list may be.
+/// The greatest length of a list.
 const MOST: usize = u32::MAX as usize;
 
-/// The lists behind the rows.
+/// The lists that rows reach into.
 #[derive(Drop)]
 pub(crate) struct Tables {
     parts: Vec<TermId>,
@@ -52,7 +52,7 @@ impl Tables {
         }
     }
 
-    /// How far the lists reach.
+    /// The lengths of the lists.
     #[inline(always)]
     pub(crate) fn ends(&self) -> Result<Ends, Memory>
         ensures { IfOk result (λ ends. ends ≡ lengths (lists_of self.now)) }
@@ -70,7 +70,7 @@ impl Tables {
         })
     }
 
-    /// Leaves so much of each list, for the first so many rows.
+    /// Cuts each list to these ends, which are those of the first `rows` rows.
     pub(crate) fn truncate(&mut self, ends: Ends, rows: usize)
         ensures lists { lists_of self.new ≡ first_of ends (lists_of self.old) }
         ensures large { (i : ℕ) (x : LargeNumber) → slice_get (large_of self.old) i ≡ Some x → x.row < rows
@@ -146,7 +146,7 @@ impl Tables {
         }
     }
 
-    /// The number that the digits of a literal spell, by what is stored of it.
+    /// The number that the digits of a literal spell, from what is stored for it.
     #[inline(always)]
     pub(crate) fn number(&self, stored: Stored) -> Option<u128>
         ensures { result ≡ held_number (large_of self.now) stored }
@@ -168,8 +168,10 @@ impl Tables {
         }
     }
 
-    /// Puts the digits, arguments or operator of a node, which will be the row of this number, at the ends of the
-    /// lists. What was put there before a refusal of memory stays until the next cut, and belongs to no row.
+    /// Adds the digits, arguments or operator of a node at the ends of the lists. The node will be the row of
+    /// this number.
+    ///
+    /// Where memory is refused, what was added before stays until the next cut, and belongs to no row.
     #[inline(always)]
     pub(crate) fn store(&mut self, node: &Node<'_>, row: usize) -> Result<Stored, Memory>
         ensures grown { Grows (lists_of self.old) (lists_of self.new) }
@@ -196,7 +198,7 @@ impl Tables {
         }
     }
 
-    // The same of a literal.
+    // Stores a literal, as `store` does.
     fn store_literal(&mut self, base: Base, digits: &[u8], row: usize) -> Result<Stored, Memory>
         ensures grown { Grows (lists_of self.old) (lists_of self.new) }
         ensures stored { IfOk result (λ s. IsStored (lists_of self.new) s (literal_of base digits.now)) }
@@ -216,7 +218,7 @@ impl Tables {
         }
     }
 
-    // Adds a large number, and answers its place.
+    // Adds a large number, and returns its place.
     fn push_large(&mut self, large: LargeNumber) -> Result<u32, Memory>
         ensures place { IfOk result (λ i. i ≡ length (large_of self.old)) }
         ensures pushed { OnOk result (large_of self.new ≡ large_of self.old ++ large ∷ []) }
@@ -228,7 +230,7 @@ impl Tables {
         Ok(place)
     }
 
-    // The same of an operator with its arguments.
+    // Stores an operator with its arguments, as `store` does.
     #[inline(always)]
     fn store_apply(&mut self, op: &Op, args: &[TermId]) -> Result<Stored, Memory>
         ensures grown { Grows (lists_of self.old) (lists_of self.new) }
@@ -241,7 +243,7 @@ impl Tables {
         }
     }
 
-    /// The same of an operator without a number, with its arguments.
+    /// Stores an operator that holds no number with its arguments, as `store` does.
     #[inline(always)]
     pub(crate) fn store_plain(&mut self, op: PlainOp, args: &[TermId]) -> Result<Stored, Memory>
         ensures grown { Grows (lists_of self.old) (lists_of self.new) }
@@ -254,7 +256,7 @@ impl Tables {
         Ok(Stored::Plain(op, self.push_parts(args)?))
     }
 
-    // The same of an operator with numbers.
+    // Stores an operator with numbers and its arguments, as `store` does.
     fn store_numbered(&mut self, op: &Op, args: &[TermId]) -> Result<Stored, Memory>
         ensures grown { Grows (lists_of self.old) (lists_of self.new) }
         ensures stored { IfOk result (λ s. IsStored (lists_of self.new) s (spec.Apply op.now args.now)) }
@@ -265,7 +267,7 @@ impl Tables {
         Ok(Stored::Numbered(place, self.push_parts(args)?))
     }
 
-    // Adds digits, and counts them.
+    // Adds digits, and returns how many.
     fn push_digits(&mut self, digits: &[u8]) -> Result<u32, Memory>
         ensures count { IfOk result (λ n. n ≡ length digits.now) }
         ensures pushed { OnOk result (self.new.digits.items ≡ self.old.digits.items ++ digits.now) }
@@ -279,7 +281,7 @@ impl Tables {
         Ok(count)
     }
 
-    // Adds arguments, and counts them.
+    // Adds arguments, and returns how many.
     #[inline(always)]
     fn push_parts(&mut self, parts: &[TermId]) -> Result<u32, Memory>
         ensures count { IfOk result (λ n. n ≡ length parts.now) }
@@ -297,7 +299,7 @@ impl Tables {
         Ok(count)
     }
 
-    // So many digits up to an end.
+    // The last `count` digits before an end.
     fn digits(&self, count: u32, end: u32) -> &[u8]
         requires count { count ≤ end }
         requires within { end ≤ length self.now.digits.items }
@@ -306,7 +308,7 @@ impl Tables {
         &self.digits.as_slice()[(end - count) as usize..end as usize]
     }
 
-    // So many arguments up to an end.
+    // The last `count` arguments before an end.
     fn parts(&self, count: u32, end: u32) -> &[TermId]
         requires count { count ≤ end }
         requires within { end ≤ length self.now.parts.items }
@@ -336,7 +338,7 @@ fn literal(base: Base, digits: &[u8]) -> Node<'_>
     }
 }
 
-/// A count in four bytes; no table that is longer is held.
+/// A count in four bytes; an error from 2^32 on, since no table is longer.
 #[inline(always)]
 pub(crate) fn narrow(count: usize) -> Result<u32, Memory>
     ensures same { IfOk result (λ n. n ≡ count) }

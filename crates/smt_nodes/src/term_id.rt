@@ -5,8 +5,8 @@ ghost use Rattle.std.specs.Prelude.{◌≡◌, ◌≤◌, ◌+◌, ◌-◌, IfOk
 use smt_faults::Memory;
 use std::marker::Model;
 
-/// The number of a node, which means something in the table that gave it alone. Contracts see it as a number.
-#[derive(Clone, Copy, PartialEq, Eq, Debug, Default)]
+/// The number of a node, which means something only in the table that gave it. Contracts see it as a number.
+#[derive(Clone, Copy, PartialEq, Eq, Debug)]
 pub struct TermId {
     number: u32,
 }
@@ -22,14 +22,15 @@ impl Model for TermId {
 }
 
 impl TermId {
-    /// How many nodes stand before it: numbers count from 0.
+    /// The number as a `usize`; numbers count from 0.
     pub fn number(self) -> usize
         ensures { result ≡ self }
     {
         self.number as usize
     }
 
-    /// The number of the same node where so many others stand before its table's; want of memory from 2^32 on.
+    /// The number of the same node where `count` other nodes come before its table's; want of memory from
+    /// 2^32 on.
     #[inline(always)]
     pub fn behind(self, count: usize) -> Result<TermId, Memory>
         ensures { IfOk result (λ id. id ≡ count + self) }
@@ -40,7 +41,7 @@ impl TermId {
         self.behind_some(count)
     }
 
-    // The same, out of line: most tables have no others before them.
+    // The number that `behind` gives, out of line: most tables have no other nodes before their own.
     #[inline(never)]
     fn behind_some(self, count: usize) -> Result<TermId, Memory>
         ensures { IfOk result (λ id. id ≡ count + self) }
@@ -54,7 +55,8 @@ impl TermId {
         }
     }
 
-    /// The number of the same node in its own table, before which so many others stand.
+    /// The inverse of `behind`: the number of the same node in its own table, without the `count` nodes that
+    /// come before.
     pub fn after(self, count: usize) -> TermId
         requires { count ≤ self }
         ensures { result ≡ self - count }
@@ -64,14 +66,14 @@ impl TermId {
         }
     }
 
-    // The same in four bytes.
+    // The number in four bytes.
     pub(crate) fn raw(self) -> u32
         ensures { result ≡ self }
     {
         self.number
     }
 
-    // The node behind so many.
+    // The node of this number, from 0.
     pub(crate) fn new(number: u32) -> TermId
         ensures { result ≡ number }
     {

@@ -1,4 +1,4 @@
-//! Small tables, built and read twice, of which memory may be refused once (`rt try --test --fail-alloc N`).
+//! Small tables that are built and read twice; memory may be refused once (`rt try --test --fail-alloc N`).
 
 use crate::{Node, NodeParts, Nodes};
 use smt_faults::Memory;
@@ -21,7 +21,7 @@ fn sum(alloc: Global) -> Result<Nodes, Memory> {
     Ok(nodes)
 }
 
-// How many arguments an operator has in the node of a number; 99 for another node.
+// The number of arguments of an operator's node; 99 for another node.
 fn arity(nodes: &Nodes, number: usize) -> usize {
     match nodes.get(number) {
         Some(Node::Apply { op: _, args }) => args.len(),
@@ -29,7 +29,7 @@ fn arity(nodes: &Nodes, number: usize) -> usize {
     }
 }
 
-// How many arguments it has there by its parts alone.
+// The number of arguments of an operator's node, by its parts alone.
 fn arity_by_parts(nodes: &Nodes, number: usize) -> usize {
     match nodes.get_parts(number) {
         Some((NodeParts::Args(args), _)) => args.len(),
@@ -37,7 +37,7 @@ fn arity_by_parts(nodes: &Nodes, number: usize) -> usize {
     }
 }
 
-// The numbers of three literals: one that its row has room for, one that it has not, and one of 129 digits.
+// The numbers of three literals: one that has room in its row, one that has none, and one of 129 digits.
 fn numbers(alloc: Global) -> Result<[Option<u128>; 3], Memory> {
     let mut nodes = Nodes::new(alloc);
     let _ = nodes.push(&Node::Bin(b"101"))?;

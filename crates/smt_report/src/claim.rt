@@ -1,4 +1,4 @@
-//! What a check claims of a model: that these formulas are true in it. This file knows no formula, and no model.
+//! The claims of a check on a model: formulas that it has to make true. This file knows no formula and no model.
 
 use std::fmt;
 

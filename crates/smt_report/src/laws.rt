@@ -1,5 +1,5 @@
-//! What holds of the definitions that the contracts name: the texts of a report, from the text to what it
-//! tells. Nothing here does anything: each contract is a law.
+//! Laws: theorems about the definitions that the contracts cite. They lead from the texts of a report to their
+//! meaning. Each is the contract of an empty function.
 
 ghost use Rattle.std.specs.Prelude.{◌≡◌, ◌↔◌, ℕ, List, [], ◌∷◌, All, codes};
 ghost use Rattle.smt_faults.specs.declared.command_flaw.CommandFlaw.TheVariants as commands;
@@ -16,7 +16,7 @@ ghost use Rattle.smt_report.specs.declared.line.Side.TheVariants as sides;
 ghost use Rattle.smt_report.specs.declared.verdict.Verdict.{Verdict};
 ghost use Rattle.smt_report.specs.declared.verdict.Verdict.TheVariants as verdicts;
 
-/// Which answer, which text and which verdict a report names so, and no other.
+/// Each of these words names one answer, one text or one verdict in a report, and no other.
 pub fn words_tell_what_they_name()
     ensures answer { (answer : CheckAnswer) → All (λ (row : List ℕ × CheckAnswer).
         (text_of_answer answer ≡ row.0) ↔ (answer ≡ row.1))
@@ -30,7 +30,7 @@ pub fn words_tell_what_they_name()
         ∷ (codes "not decided", verdicts.NotDecided) ∷ (codes "refused", verdicts.Refused) ∷ []) }
 {}
 
-/// Lines, as they are written: one of each kind, with numbers that differ.
+/// The texts of lines: at least one line of each kind, with numbers that differ.
 #[tactic(auto, using(std::proofs::lemmas::Fmt::decimal_digit))]
 pub fn lines_are_written_so()
     ensures unchecked { text_of (lines.Unchecked 1 4 answers.Unsat) ≡ codes "check 1 at command 4: unsat" }

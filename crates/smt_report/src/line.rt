@@ -1,4 +1,4 @@
-//! The lines of a report. This file knows only what they say, and not how one is found.
+//! The lines of a report. This file knows what they say, and not how they are found.
 
 ghost use Rattle.std.specs.Prelude.{◌≡◌};
 ghost use Rattle.smt_report.specs.Verdict as verdicts;
@@ -8,7 +8,7 @@ use crate::verdict::{Tally, Verdict};
 use smt_faults::{CommandFlaw, TermFlaw, TextFlaw};
 use std::fmt;
 
-/// What a check was answered where it was not `sat`.
+/// The answer to a check, where it is not `sat`.
 #[derive(Clone, Copy)]
 pub enum CheckAnswer {
     Unsat,
@@ -18,7 +18,7 @@ pub enum CheckAnswer {
     Error,
 }
 
-/// Which of the two texts.
+/// One of the two texts of a dialogue.
 #[derive(Clone, Copy)]
 pub enum Side {
     Script,
@@ -28,13 +28,13 @@ pub enum Side {
 /// A line of a report. Checks, commands, answers and items of a model count from 1, and bytes from 0.
 #[derive(Clone, Copy)]
 pub enum Line {
-    /// A check that was answered otherwise than `sat`.
+    /// A check whose answer is not `sat`.
     Unchecked {
         check: u64,
         command: u64,
         answer: CheckAnswer,
     },
-    /// A `sat` with a model or more, each of them confirmed.
+    /// A `sat` with at least one model, and all of its models confirmed.
     Confirmed {
         check: u64,
         command: u64,
@@ -44,7 +44,7 @@ pub enum Line {
         check: u64,
         command: u64,
     },
-    /// A `sat` with a model, printed for command `model`, whose first item with a flaw this is.
+    /// A `sat` with a model, printed for command `model`, whose item `item` is its first with a flaw.
     ItemFault {
         check: u64,
         command: u64,
@@ -72,19 +72,19 @@ pub enum Line {
         model: u64,
         claim: Claim,
     },
-    /// A `sat` with a complete model in which this claim is open, and none is known to be false.
+    /// A `sat` with a complete model in which this claim is open, and no claim is known to be false.
     NotDecided {
         check: u64,
         command: u64,
         model: u64,
         claim: Claim,
     },
-    /// A text that is none of the language.
+    /// A text outside the language.
     TextFault {
         side: Side,
         flaw: TextFlaw,
     },
-    /// A command that is refused.
+    /// A refused command.
     CommandFault {
         command: u64,
         flaw: CommandFlaw,
@@ -102,7 +102,7 @@ pub enum Line {
     ExtraAnswer {
         answer: u64,
     },
-    /// What the report comes to: its last line.
+    /// The verdict of the report, and its tally: the last line.
     Verdict {
         verdict: Verdict,
         tally: Tally,
@@ -110,21 +110,21 @@ pub enum Line {
 }
 
 impl Line {
-    /// Whether it is the line of a check whose models are all confirmed.
+    /// Whether the line reports a check with at least one model, all of them confirmed.
     pub fn is_confirmed(&self) -> bool
         ensures { result ≡ verdicts.is_confirmed_line self.now }
     {
         matches!(self, Line::Confirmed { .. })
     }
 
-    /// Whether it is the line of a check with a refuted model.
+    /// Whether the line reports a check with a refuted model.
     pub fn is_refuted(&self) -> bool
         ensures { result ≡ verdicts.is_refuted_line self.now }
     {
         matches!(self, Line::Refuted { .. })
     }
 
-    /// Whether it is the line of a `sat` that is neither confirmed nor refuted.
+    /// Whether the line reports a `sat` that is neither confirmed nor refuted.
     pub fn is_undecided(&self) -> bool
         ensures { result ≡ verdicts.is_undecided_line self.now }
     {
@@ -138,14 +138,14 @@ impl Line {
         }
     }
 
-    /// Whether it is the line of a check that was answered otherwise than `sat`.
+    /// Whether the line reports a check whose answer is not `sat`.
     pub fn is_unchecked(&self) -> bool
         ensures { result ≡ verdicts.is_unchecked_line self.now }
     {
         matches!(self, Line::Unchecked { .. })
     }
 
-    /// Whether it is the line of a fault.
+    /// Whether the line reports a fault.
     pub fn is_fault(&self) -> bool
         ensures { result ≡ verdicts.is_fault_line self.now }
     {
@@ -222,7 +222,7 @@ impl fmt::Display for Line {
     }
 }
 
-/// What the line on a check says behind the check; of any other line nothing.
+/// What a line on a check says after the check and its command; empty for any other line.
 #[derive(Clone, Copy)]
 struct Outcome<'a> {
     line: &'a Line,
@@ -252,7 +252,7 @@ impl fmt::Display for Outcome<'_> {
     }
 }
 
-/// What the line on a model of a check says behind the model; of any other line nothing.
+/// What a line on a model says after the command of the model; empty for any other line.
 #[derive(Clone, Copy)]
 struct Finding<'a> {
     line: &'a Line,

@@ -3,7 +3,7 @@
 use crate::line::Line;
 use crate::verdict::Verdict;
 
-/// A report: the lines, the last of them that of the verdict.
+/// A report: its lines, the last of which gives the verdict, and the verdict.
 #[derive(Drop)]
 pub struct Report {
     pub lines: Vec<Line>,

@@ -1,4 +1,4 @@
-//! What the lines of a report come to. Lines are counted as they come, and need not be kept for that.
+//! The verdict on the lines of a report. A tally counts the lines as they come, so nobody has to keep them.
 
 ghost use Rattle.std.specs.Prelude.{◌≡◌, ◌+◌, ◌<◌, ◌^◌, ◌++◌, Bool, List, [], count_by, length};
 ghost use Rattle.std.specs.List.{list_any};
@@ -8,7 +8,7 @@ ghost use Rattle.smt_report.specs.declared.line.Line.{Line as ReportLine};
 use crate::line::Line;
 use std::fmt;
 
-/// How many `sat` were confirmed, refuted and left undecided, and how many checks were answered otherwise.
+/// How many answers `sat` are confirmed, refuted and undecided, and how many checks have another answer.
 #[derive(Clone, Copy)]
 pub struct Tally {
     pub confirmed: u64,
@@ -18,7 +18,7 @@ pub struct Tally {
 }
 
 impl Tally {
-    /// Of no line.
+    /// The tally of no lines: each number is 0.
     pub fn new() -> Tally
         ensures { result ≡ verdicts.tally_of [] }
     {
@@ -30,7 +30,7 @@ impl Tally {
         }
     }
 
-    /// With further lines, of which and of the earlier ones together there are fewer than 2^64.
+    /// The tally of the lines so far and of these, as long as there are fewer than 2^64 lines in all.
     pub fn with_lines(self, lines: &[Line]) -> Tally
         ensures { (earlier : List ReportLine) → self ≡ verdicts.tally_of earlier
             → length earlier + length lines.now < 2 ^ 64
@@ -44,7 +44,8 @@ impl Tally {
         }
     }
 
-    /// What the lines come to that this is the tally of, with the line of a fault among them or without one.
+    /// The verdict on the lines with this tally; `has_fault` says whether one of them reports a fault. A fault
+    /// decides first, then a refuted `sat`, then an undecided one.
     pub fn verdict(self, has_fault: bool) -> Verdict
         ensures { (lines : List ReportLine) → self ≡ verdicts.tally_of lines
             → has_fault ≡ list_any verdicts.is_fault_line lines
@@ -86,7 +87,7 @@ fn unchecked_in(lines: &[Line]) -> u64
     lines.iter().filter(|line| line.is_unchecked()).count() as u64
 }
 
-/// What a report comes to.
+/// The verdict of a report.
 #[derive(Clone, Copy)]
 pub enum Verdict {
     /// Each `sat` is confirmed.
@@ -100,7 +101,7 @@ pub enum Verdict {
 }
 
 impl Verdict {
-    /// The exit status that tells it: 0 for valid, 1 for invalid, 2 for not decided, 3 for refused.
+    /// The exit status for the verdict: 0 for valid, 1 for invalid, 2 for not decided, 3 for refused.
     pub fn status(self) -> u8
         ensures status { result ≡ verdicts.status_of self }
         ensures below { result < 4 }
@@ -113,8 +114,8 @@ impl Verdict {
         }
     }
 
-    /// The exit status where a dialogue is valid only if every check of it is confirmed, and there is one: 2 in
-    /// place of 0 where that is not so.
+    /// The exit status where `valid` also asks that there is a check and that each is confirmed: 2 in place of 0
+    /// unless `all_confirmed`. Other verdicts keep their status.
     pub fn strict_status(self, all_confirmed: bool) -> u8
         ensures { result ≡ verdicts.strict_status_of self all_confirmed }
     {

@@ -9,17 +9,18 @@ use smt_trees::{Bytes, Tree, Trees};
 /// A command (SMT-LIB 2.6, section 4.2). Names are without bars, and keywords without their colon.
 #[derive(Drop)]
 pub enum Command {
-    /// `(set-logic name)` (section 4.2.1). The name of any logic is kept: `Stack::apply` refuses those that
-    /// aren't taken.
+    /// `(set-logic name)` (section 4.2.1). Any name is kept: `Stack::apply` refuses a logic that is not
+    /// supported.
     SetLogic {
         name: Bytes,
     },
-    /// `(set-option :print-success true)`, or `false` (section 4.1.7): whether `success` is printed.
+    /// `(set-option :print-success true)`, or `false` (section 4.1.7): whether the solver prints `success`.
     SetPrintSuccess {
         on: bool,
     },
-    /// `(set-option :global-declarations true)`, or `false` (section 4.1.7): whether the names and
-    /// abbreviations that come stay in force until a `reset`, or go with their levels as assertions do.
+    /// `(set-option :global-declarations true)`, or `false` (section 4.1.7). With `true`, new names and
+    /// abbreviations stay in force until a `reset`; with `false`, they go with their levels, as assertions
+    /// do.
     SetGlobalDeclarations {
         on: bool,
     },
@@ -52,8 +53,8 @@ pub enum Command {
         sort: Tree,
         body: Tree,
     },
-    /// `(define-const name sort body)`, in the wide profile alone: a `define-fun` without parameters
-    /// (SMT-LIB 2.7).
+    /// `(define-const name sort body)`, only in the wide profile: a `define-fun` without parameters (SMT-LIB
+    /// 2.7).
     DefineConst {
         name: Bytes,
         sort: Tree,
@@ -68,12 +69,12 @@ pub enum Command {
     Assert {
         term: Tree,
     },
-    /// `(push levels)` (section 4.2.2): the decimal digits of the number of levels, of any length. None are
-    /// those of `(push)`, in the wide profile alone: one level.
+    /// `(push levels)` (section 4.2.2). `levels` are the decimal digits of the number of levels, of any
+    /// length; `None` is `(push)`, one level, only in the wide profile.
     Push {
         levels: Option<Bytes>,
     },
-    /// `(pop levels)` (section 4.2.2), likewise.
+    /// `(pop levels)` (section 4.2.2), with `levels` as for `Push`.
     Pop {
         levels: Option<Bytes>,
     },
@@ -85,8 +86,8 @@ pub enum Command {
     Exit,
     /// `(check-sat)` (section 4.2.5).
     CheckSat,
-    /// `(check-sat-assuming (literal ..))` (section 4.2.5): each literal is a symbol, or a list of the symbol
-    /// `not` and a symbol; in the wide profile it is any tree.
+    /// `(check-sat-assuming (literal ..))` (section 4.2.5). Each literal is a symbol, or a list of the symbol
+    /// `not` and a symbol; in the wide profile, any tree.
     CheckSatAssuming {
         literals: Trees,
     },
@@ -103,7 +104,7 @@ pub enum Command {
 }
 
 impl Command {
-    /// Its kind.
+    /// The kind of the command.
     pub fn kind(&self) -> Kind
         ensures { result ≡ commands.kind_of (command_view self.now) }
     {
@@ -127,7 +128,8 @@ impl Command {
     }
 }
 
-/// What is asked of commands, but for what they do to the stack, is asked of their kinds.
+/// The kind of a command. It settles all that is asked of a command, except for what the command does to the
+/// stack.
 #[derive(Clone, Copy)]
 pub enum Kind {
     /// It sets the logic.
@@ -136,9 +138,9 @@ pub enum Kind {
     PrintSuccess { on: bool },
     /// It sets another option, or information.
     Setting,
-    /// It declares, defines, asserts, changes levels or removes all assertions.
+    /// It declares, defines, asserts, changes levels, or removes all assertions.
     Change,
-    /// It removes all, the logic too.
+    /// It removes everything, the logic too.
     Reset,
     /// It ends the script.
     Exit,
@@ -146,16 +148,16 @@ pub enum Kind {
     Check,
     /// It asks for a model.
     Model,
-    /// It asks for a text that it has itself.
+    /// It asks for its own text to be printed.
     Echo,
     /// It asks for something else.
     Query,
 }
 
-/// What a solver is asked for, beside models (SMT-LIB 2.6, sections 4.2.4 to 4.2.8).
+/// What a solver is asked for other than models (SMT-LIB 2.6, sections 4.2.4 to 4.2.8).
 #[derive(Drop)]
 pub enum Query {
-    /// `(get-value (term ..))`, of one term or more, which are not checked.
+    /// `(get-value (term ..))`, with one term or more, which are not checked.
     Values { terms: Trees },
     /// `(get-info keyword)`.
     Info { keyword: Bytes },

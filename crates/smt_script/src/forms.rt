@@ -1,5 +1,5 @@
-//! The trees that are commands, and why another tree is none. This file knows no stack: what a command does
-//! is said elsewhere.
+//! The trees that are commands, and why another tree is none. This file knows no stack, and does not say what
+//! a command does.
 
 ghost use Rattle.std.specs.Prelude.{◌≡◌, Some, Ok, Err, MatchResult, option_map, bytes_eq, if◌then◌else◌};
 ghost use Rattle.smt_theory.specs.declared.profile.Profile.TheVariants.{Base};
@@ -23,9 +23,10 @@ use smt_faults::CommandFlaw;
 use smt_theory::Profile;
 use smt_trees::{Bytes, Tree, Trees, Word, split_first};
 
-/// The command that a tree is in a profile (SMT-LIB 2.6, section 4.2). A tree that is none is refused: as
-/// `Unsupported` where it is a list that begins with the name of a command that is not supported, whatever
-/// follows, or a `define-sort` with parameters; else for its `Form`.
+/// The command that a tree is in a profile (SMT-LIB 2.6, section 4.2).
+///
+/// The error is `Unsupported` for a list that begins with the name of an unsupported command, whatever
+/// follows, and for a `define-sort` with parameters. For every other tree that is no command it is `Form`.
 pub fn read_command(profile: Profile, tree: Tree) -> Result<Command, CommandFlaw>
     ensures { MatchResult result
         (λ command. commands.command_of profile (sexp_of tree) ≡ Ok (command_view command))
@@ -48,7 +49,7 @@ pub fn read_command(profile: Profile, tree: Tree) -> Result<Command, CommandFlaw
     }
 }
 
-// The command of a list that begins with a tree that is no reserved word.
+// The command of a list that does not begin with a reserved word.
 fn named_command(profile: Profile, parts: Trees) -> Result<Command, CommandFlaw>
     ensures { (head : Sexp) (rest : Sexps) → parts ≡ Cons head rest
         → MatchResult result (λ command. commands.command_named profile head rest ≡ Some (command_view command))
@@ -80,7 +81,7 @@ fn constant_defined(parts: Parts) -> Option<Command>
     Some(Command::DefineConst { name, sort, body })
 }
 
-// The command of this word with these parts behind it.
+// The command of this word with these parts after it.
 fn command_with(profile: Profile, word: Word, parts: Parts) -> Option<Command>
     ensures { option_map command_view result ≡ commands.command_with profile word (parts_view parts) }
 {
@@ -128,14 +129,15 @@ fn command_with(profile: Profile, word: Word, parts: Parts) -> Option<Command>
     }
 }
 
-// A command that has no parts.
+// A command without parts.
 fn alone(command: Command, parts: Parts) -> Option<Command>
     ensures { option_map command_view result ≡ commands.alone (command_view command) (parts_view parts) }
 {
     parts.is_empty().then_some(command)
 }
 
-// The setting of an option: `:print-success` and `:global-declarations` have to be truth values.
+// The setting of an option. The values of `:print-success` and `:global-declarations` have to be truth
+// values.
 fn option(parts: Parts) -> Option<Command>
     ensures { option_map command_view result ≡ commands.command_with Base Word.SetOption (parts_view parts) }
 {
@@ -197,7 +199,7 @@ fn abbreviation(parts: Parts) -> Option<Command>
     Some(Command::DefineSort { name, sort })
 }
 
-// A command that asks for something, beside models.
+// A command that asks for something other than a model.
 fn query(query: Query, parts: Parts) -> Option<Command>
     ensures { option_map command_view result
         ≡ commands.alone (commands.Get (query_view query)) (parts_view parts) }
@@ -205,7 +207,7 @@ fn query(query: Query, parts: Parts) -> Option<Command>
     alone(Command::Get { query }, parts)
 }
 
-// How many levels, by their digits; without any it is one, in the wide profile.
+// The digits of the number of levels; in the wide profile there may be none, for one level.
 fn levels_of(profile: Profile, parts: Parts) -> Option<Option<Bytes>>
     ensures { option_map levels_in result ≡ commands.levels_of profile (parts_view parts) }
 {
@@ -223,7 +225,7 @@ fn assuming(profile: Profile, parts: Parts) -> Option<Command>
     Some(Command::CheckSatAssuming { literals })
 }
 
-// What is assumed: literals, and in the wide profile any terms.
+// The assumptions: literals, and in the wide profile any terms.
 fn assumed_of(profile: Profile, parts: Parts) -> Option<Trees>
     ensures { result ≡ commands.assumed_of profile (parts_view parts) }
 {

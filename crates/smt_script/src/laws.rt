@@ -1,4 +1,4 @@
-//! What holds of the definitions that the contracts name. Nothing here does anything: each contract is a law.
+//! Laws of the definitions that the contracts name. Nothing here does anything: each contract is a law.
 
 pub mod commands;
 
@@ -30,9 +30,9 @@ ghost use Rattle.smt_script.specs.Standing.{sets_global, sets_logic, sets_print_
 
 use smt_terms::laws::{definitions_are_well_sorted, labels_are_introduced};
 
-/// Each name in force after commands without a fault is new behind the earlier ones and no operator's, and
-/// each definition and label among them is well sorted over the earlier ones (SMT-LIB 2.6, sections 3.6.5 and
-/// 4.2.3).
+/// After commands without a fault, the names in force were introduced one after another (SMT-LIB 2.6,
+/// sections 3.6.5 and 4.2.3). Each differs from the earlier ones and is no operator's, and each definition
+/// and label is well sorted over the earlier ones.
 pub fn names_in_force_are_introduced()
     ensures { (profile : Profile) (commands : List Numbered) → HaveNoFlaw profile [] commands
         → AreIntroduced (signature_in_force profile commands).theories []
@@ -42,7 +42,7 @@ pub fn names_in_force_are_introduced()
     labels_are_introduced();
 }
 
-/// A declaration or a definition brings its one name, an assertion its labels, and `define-sort` its one
+/// A declaration or a definition introduces its one name, an assertion its labels, and `define-sort` its one
 /// abbreviation (SMT-LIB 2.6, sections 4.2.3 and 4.2.4).
 pub fn commands_bring_names()
     ensures constants { (profile : Profile) (earlier : List Numbered) (n : ℕ) (x : List ℕ) (sort : Sexp)
@@ -66,9 +66,8 @@ pub fn commands_bring_names()
         → abbreviations_of_command profile earlier (numbered n (DefineSort x tree)) ≡ (x, sort) ∷ [] }
 {}
 
-/// The names in force are those of the commands that stand, in the order of the commands: of those that were
-/// followed by no `reset` and, where declarations were not global, by no `reset-assertions`, and by no fewer
-/// levels (SMT-LIB 2.6, sections 4.1.4 and 4.1.7).
+/// The names in force are, in order, those of the commands that no `reset` followed and, where declarations
+/// were not global, neither a `reset-assertions` nor fewer levels (SMT-LIB 2.6, sections 4.1.4 and 4.1.7).
 pub fn names_in_force_stand()
     ensures stands { (profile : Profile) (commands earlier : List Numbered) (c : Numbered)
         → NamesStand commands earlier c
@@ -81,7 +80,7 @@ pub fn names_in_force_stand()
         (signature_in_force profile commands).entries }
 {}
 
-/// So are the abbreviations in force.
+/// The abbreviations in force are, in order, those of the commands that `names_in_force_stand` describes.
 pub fn abbreviations_in_force_stand()
     ensures stands { (profile : Profile) (commands earlier : List Numbered) (c : Numbered)
         → NamesStand commands earlier c
@@ -94,7 +93,7 @@ pub fn abbreviations_in_force_stand()
         (signature_in_force profile commands).abbreviations }
 {}
 
-/// The assertions in force are those that were followed by no reset, and by no fewer levels, whether
+/// The assertions in force are those after which no reset came and the levels were never fewer, whether
 /// declarations are global or not (SMT-LIB 2.6, section 4.1.4).
 pub fn assertions_in_force_stand()
     ensures stands { (profile : Profile) (commands earlier : List Numbered) (c : Numbered) (term : Sexp)
@@ -108,8 +107,8 @@ pub fn assertions_in_force_stand()
         → AreBrought Stands assertions_of_command commands [] commands (assertions_in_force profile commands) }
 {}
 
-/// The theories in force are those of the last logic that was set since the last `reset`, or else all
-/// (SMT-LIB 2.6, section 4.2.1).
+/// The theories in force are those of the last logic that was set since the last `reset`, or all theories
+/// where none was set (SMT-LIB 2.6, section 4.2.1).
 pub fn theories_in_force_are_the_last()
     ensures set { (profile : Profile) (commands since : List Numbered) (name : List ℕ) (theories : Theories)
         → AreSince is_whole_reset commands since → IsLast (sets_theories profile) since (SetLogic name)
@@ -120,8 +119,8 @@ pub fn theories_in_force_are_the_last()
         → (signature_in_force profile commands).theories ≡ theories_in_force profile commands }
 {}
 
-/// Whether `success` is printed was said by the last command since the last `reset` that sets it, or else at
-/// the start (SMT-LIB 2.6, sections 4.1.7 and 4.2.1).
+/// The last command since the last `reset` that sets whether `success` is printed decides it; without one, it
+/// is as at the start (SMT-LIB 2.6, sections 4.1.7 and 4.2.1).
 pub fn print_success_is_the_last()
     ensures set { (start on : Bool) (commands since : List Numbered) → AreSince is_whole_reset commands since
         → IsLast sets_print_success since (SetPrintSuccess on) → print_success_in_force start commands ≡ on }
@@ -129,7 +128,7 @@ pub fn print_success_is_the_last()
         → Never sets_print_success since → print_success_in_force start commands ≡ start }
 {}
 
-/// Whether declarations are global was said by the last command since the last `reset` that sets it, or else
+/// The last command since the last `reset` that sets whether declarations are global decides it; without one,
 /// they are not (SMT-LIB 2.6, sections 4.1.7 and 4.2.1).
 pub fn global_declarations_are_the_last()
     ensures set { (on : Bool) (commands since : List Numbered) → AreSince is_whole_reset commands since
@@ -138,16 +137,15 @@ pub fn global_declarations_are_the_last()
         → Never sets_global since → global_in_force commands ≡ false }
 {}
 
-/// Names and abbreviations that are global never stand beside others: behind commands without a fault each
-/// that brought some came while declarations were as global as they are at the end (SMT-LIB 2.6, section
-/// 4.1.7).
+/// Global names and abbreviations are never in force together with others (SMT-LIB 2.6, section 4.1.7). After
+/// commands without a fault, each was introduced while declarations were as global as they are at the end.
 pub fn declarations_are_alike()
     ensures { (profile : Profile) (commands : List Numbered) → HaveNoFlaw profile [] commands
         → AreNamesAlike profile commands }
 {}
 
-/// A logic is set, and it is too late to set one, where a command since the last `reset` made it so. Until it
-/// is too late, nothing is in force (SMT-LIB 2.6, sections 4.1.1 and 4.2.1).
+/// A logic is set, and it is too late to set one, exactly where a command since the last `reset` made it so.
+/// Until it is too late, nothing is in force (SMT-LIB 2.6, sections 4.1.1 and 4.2.1).
 pub fn logics_are_set_first()
     ensures set { (commands since : List Numbered) → AreSince is_whole_reset commands since
         → is_logic_set commands ≡ list_any (λ c. sets_logic c.command) since }
@@ -163,8 +161,9 @@ pub fn logics_are_set_first()
         → depth_in_force commands ≡ 0 }
 {}
 
-/// There is no level at the start and after a reset; `push` adds levels, and `pop` removes them. So there are
-/// as many as were added since the last reset, less those removed (SMT-LIB 2.6, sections 4.1.4 and 4.2.2).
+/// There is no level at the start and after a reset; `push` adds levels, and `pop` removes them. So the depth
+/// is the number of levels added since the last reset, less those removed (SMT-LIB 2.6, sections 4.1.4 and
+/// 4.2.2).
 pub fn depth_counts_levels()
     ensures start { depth_in_force [] ≡ 0 }
     ensures push { (commands : List Numbered) (n levels : ℕ)

@@ -27,20 +27,21 @@ use smt_terms::{Library, TermId};
 use smt_theory::{Profile, all_theories};
 use std::alloc::Global;
 
-/// An assertion: the number of the command that made it, from 1, and that of its term in the stack's library.
+/// An assertion: the number of the command that made it, from 1, and its term, by number in the stack's
+/// library.
 #[derive(Clone, Copy)]
 pub struct Assertion {
     pub command: u64,
     pub term: TermId,
 }
 
-/// What is noted of the logic, since the start or the last `Reset` (SMT-LIB 2.6, sections 4.1.1 and 4.2.1).
+/// What is known of the logic, since the start or the last `Reset` (SMT-LIB 2.6, sections 4.1.1 and 4.2.1).
 #[derive(Clone, Copy)]
 pub struct LogicState {
-    /// Whether one is set.
+    /// Whether a logic is set.
     pub(crate) set: bool,
-    /// Whether it is too late to set one: a command came that declares, defines, asserts, changes levels or
-    /// checks.
+    /// Whether it is too late to set a logic: a command declared, defined, asserted, changed levels or
+    /// checked.
     pub(crate) late: bool,
 }
 
@@ -53,7 +54,7 @@ impl LogicState {
     }
 }
 
-/// What holds before the first command, and is no part of a script.
+/// The settings before the first command, which are no part of a script.
 #[derive(Clone, Copy)]
 pub struct Start {
     /// Whether `success` is printed, until a command says otherwise.
@@ -69,9 +70,9 @@ pub struct Stack {
     alloc: Global,
     library: Library,
     assertions: Vec<Assertion>,
-    /// The literals of the last check, if nothing in force has changed since.
+    /// The literals of the last check; none where something in force has changed since.
     assumptions: Vec<TermId>,
-    /// For each level, what came outside it.
+    /// For each level, what was there before it.
     levels: Levels,
     logic: LogicState,
     /// Whether declarations are global.
@@ -85,7 +86,7 @@ pub struct Stack {
 }
 
 impl Stack {
-    /// A stack before any command: all theories of the profile, and nothing in force.
+    /// A stack before any command, with all theories of the profile and nothing else in force.
     pub fn new(alloc: Global, start: Start) -> Self
         ensures stands { StandsFor result [] }
         ensures last { last_of result ≡ 0 }
@@ -127,8 +128,8 @@ impl Stack {
         self.assertions.as_slice()
     }
 
-    /// The literals that the last check assumed, in order, if nothing in force has changed since (SMT-LIB 2.6,
-    /// section 4.2.5). Their terms are those of `library`.
+    /// The literals that the last check assumed, in order; none where something in force has changed since
+    /// (SMT-LIB 2.6, section 4.2.5). Their terms are those of `library`.
     pub fn assumptions(&self) -> &[TermId]
         ensures { (commands : List Numbered) → StandsFor self.now commands
             → AreTerms (terms_of (library_of self.now)) result.now (assumptions_in_force commands) }
@@ -152,7 +153,8 @@ impl Stack {
     }
 
     /// Whether the solver prints `success` for the next command that has no answer of its own (SMT-LIB 2.6,
-    /// section 4.1.7): as the last command said that set it since the last `reset`, or else as at the start.
+    /// section 4.1.7). The last command that set it since the last `reset` says so; without one, it is as at
+    /// the start.
     pub fn print_success(&self) -> bool
         ensures { (commands : List Numbered) → StandsFor self.now commands
             → result ≡ print_success_in_force (start_of self.now).print_success commands }
@@ -167,36 +169,39 @@ impl Stack {
         self.exited
     }
 
-    /// Applies a command that took effect, the one of this number; commands count from 1, and their numbers
-    /// grow. Refused are a command whose effect has a fault, and want of memory; then what is in force stays
-    /// as it is. The faults of effects are:
+    /// Applies a command that took effect, with its number. Commands count from 1, and their numbers grow.
     ///
-    /// - `SetLogic`: `Logic` for a name that the profile doesn't take, and after a command that set a logic,
-    ///   declared, defined, asserted, changed levels or checked, since the start or the last `Reset` (SMT-LIB
-    ///   2.6, sections 4.1.1 and 4.2.1).
+    /// The error is the fault of the command's effect, or want of memory; what is in force then stays as it
+    /// is. The faults of effects are:
+    ///
+    /// - `SetLogic`: `Logic` for a name that the profile does not accept. `Logic` too after a command that
+    ///   set a logic, declared, defined, asserted, changed levels or checked, since the start or the last
+    ///   `Reset` (SMT-LIB 2.6, sections 4.1.1 and 4.2.1).
     /// - `DeclareConst`, `DeclareFun`: `Term` with `NotFresh` for a name that is in use or is a plain
-    ///   operator's, and with the fault of the first tree that names no sort of the theories in force
+    ///   operator's. Then `Term` with the fault of the first tree that names no sort of the theories in force
     ///   (section 4.2.3).
-    /// - `DefineFun`, `DefineConst`: the same for its name; then, parameter by parameter, `Term` with the
-    ///   fault of the tree of its sort and with `BoundTwice` for a name that an earlier one has; then with the
-    ///   fault of the tree of the result's sort, with the first fault of the body, which sees the parameters
-    ///   and not the name, and with `IllSorted` for a body of another sort (section 4.2.3).
-    /// - `DefineSort`: `Term` with `NotFresh` for a name that abbreviates a sort, `Bool` and `Int`, and then
+    /// - `DefineFun`, `DefineConst`: the same for its name. Then, parameter by parameter, `Term` with the
+    ///   fault of the tree of its sort, and with `BoundTwice` for the name of an earlier parameter. Then
+    ///   `Term` with the fault of the tree of the result's sort. Then `Term` with the first fault of the
+    ///   body, which sees the parameters and not the name, and with `IllSorted` for a body of another sort
+    ///   (section 4.2.3).
+    /// - `DefineSort`: `Term` with `NotFresh` for `Bool`, `Int` and a name that abbreviates a sort, and then
     ///   with the fault of a tree that names no sort (section 4.2.3).
-    /// - `Assert`: `Term` with the first fault of its term, that of a label among them, and then with
+    /// - `Assert`: `Term` with the first fault of its term, that of a label among them. Then `Term` with
     ///   `IllSorted` for a term that is no formula (sections 3.6.5 and 4.2.4).
-    /// - `CheckSatAssuming`: `Term` with the fault of the first literal that has one, and with `IllSorted` for
-    ///   one that is no formula (section 4.2.5).
-    /// - `SetGlobalDeclarations`: `Logic` where the value is another than the one in force and a command came
-    ///   that declared, defined, asserted, changed levels or checked, since the start or the last `Reset`
-    ///   (section 4.1.7).
+    /// - `CheckSatAssuming`: `Term` with the fault of the first literal that has one, and with `IllSorted`
+    ///   for one that is no formula (section 4.2.5).
+    /// - `SetGlobalDeclarations`: `Logic` for another value than the one in force, after a command that
+    ///   declared, defined, asserted, changed levels or checked, since the start or the last `Reset` (section
+    ///   4.1.7).
     /// - `Push`: `TooDeep` where there would be more than 10,000 levels. `Pop`: `NoLevel` where it removes
-    ///   more than there are (section 4.2.2).
+    ///   more levels than there are (section 4.2.2).
     ///
-    /// The others have none. `Pop` removes what came at the levels that it removes, and takes time for that
-    /// alone; `ResetAssertions` removes all but the logic and the options. While declarations are global both
-    /// remove assertions and levels, and no name, nor a node that a definition needs. The stack keeps no tree of
-    /// the command: the nodes of its terms are in the library, those of assumptions as transient ones.
+    /// The other commands have no fault. `Pop` removes what came in the levels that it removes, and takes
+    /// time for that alone. `ResetAssertions` removes everything but the logic and the options. While
+    /// declarations are global, both remove assertions and levels, but no name, and no node that a definition
+    /// needs. The stack keeps no tree of the command: its terms are nodes of the library, and those of
+    /// assumptions are transient nodes.
     pub fn apply(&mut self, number: u64, command: &Command) -> Result<(), CommandFault>
         requires { last_of self.old < number }
         ensures faultless { OnOk result

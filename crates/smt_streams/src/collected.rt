@@ -7,7 +7,8 @@ ghost use Rattle.std.specs.Io.KnownBytes.{Appends};
 use crate::{Broken, Sink};
 use std::alloc::Global;
 
-/// A sink that takes bytes into memory, at most so many a call. A call fails where memory is refused.
+/// A sink that keeps bytes in memory, with a bound on how many a call accepts. A call fails where memory is
+/// refused.
 #[derive(Drop)]
 pub struct Collected {
     bytes: Vec<u8>,
@@ -19,7 +20,7 @@ pub struct Collected {
 impl Collected {
     ghost use Rattle.smt_streams.specs.Collected.{collected_bytes, collected_broken, collected_most};
 
-    /// A sink that has taken nothing, and takes at most `most` bytes a call, which is one or more.
+    /// A sink that has accepted nothing, and accepts at most `most` bytes a call, which is one or more.
     pub fn new(alloc: Global, most: usize) -> Collected
         requires { 0 < most }
         ensures bytes { collected_bytes result ≡ [] }
@@ -33,7 +34,7 @@ impl Collected {
         }
     }
 
-    /// The bytes taken so far.
+    /// The bytes accepted so far.
     pub fn bytes(&self) -> &[u8]
         ensures { result.now ≡ collected_bytes self.now }
     {

@@ -10,17 +10,19 @@ ghost use Rattle.smt_streams.specs.Moved.{moved};
 use crate::{Broken, Sink, Source};
 use std::io::{ErrorKind, Read, Write};
 
-// The most bytes that a pull gives.
+// The greatest number of bytes that a pull gives.
 const BLOCK: usize = 4096;
 
-/// A source over a reader, or a sink over a writer. A call that a signal interrupts is made again. A writer
-/// that takes no byte has failed. A pull gives at most 4,096 bytes.
+/// A source over a reader, or a sink over a writer.
+///
+/// It repeats a call that a signal interrupts. A writer that accepts no byte has failed. A pull gives at most
+/// 4,096 bytes.
 #[derive(Drop)]
 pub struct Device<T> {
     inner: T,
     broken: bool,
     ended: bool,
-    // What a read writes to. What stands there is of no interest before and after.
+    // The block that a read writes to. Its contents mean nothing before and after a read.
     block: [u8; BLOCK],
 }
 
@@ -75,7 +77,8 @@ impl<W: Write> Sink for Device<W> {
     }
 }
 
-// Gives the bytes of one read. They come over a block, since a reader may write behind what it gives.
+// Gives the bytes of one read. It reads into a block first, since a reader may write after the bytes that it
+// gives.
 fn read_front<R: Read>(
     reader: &mut R,
     block: &mut [u8; BLOCK],
@@ -93,8 +96,8 @@ fn read_front<R: Read>(
     Ok(count)
 }
 
-// One read, made again where a signal interrupts it. Nothing says that this comes to an end, so that the last of
-// 2^64 - 1 such calls has failed.
+// One read, repeated where a signal interrupts it. No contract bounds the interruptions, so 2^64 - 1 of them
+// count as a failure.
 fn read_uninterrupted<R: Read>(reader: &mut R, buf: &mut [u8]) -> Result<usize, Broken>
     ensures bound { ReadsAtMost result buf.new }
     ensures bytes { Consumes (R.remaining reader.old) (R.remaining reader.new) (take (moved result) buf.new) }
@@ -110,7 +113,7 @@ fn read_uninterrupted<R: Read>(reader: &mut R, buf: &mut [u8]) -> Result<usize, 
     Err(Broken)
 }
 
-// One write, made again as a read is.
+// One write, repeated where a signal interrupts it, as a read is.
 fn write_some<W: Write>(writer: &mut W, bytes: &[u8]) -> Result<usize, Broken>
     ensures bound { WritesAtMost result bytes.now }
     ensures progress { OnOk result (0 < moved result) }

@@ -6,7 +6,7 @@ ghost use Rattle.std.specs.Io.KnownBytes.{Consumes, IsAtEnd};
 
 use crate::{Broken, Source};
 
-/// A source that gives bytes in memory, at most so many a call. No call of it fails.
+/// A source that gives bytes in memory, with a bound on how many a call gives. No call of it fails.
 #[derive(Drop)]
 pub struct Pieces<'a> {
     rest: &'a [u8],
@@ -18,7 +18,7 @@ pub struct Pieces<'a> {
 impl<'a> Pieces<'a> {
     ghost use Rattle.smt_streams.specs.Pieces.{pieces_left, pieces_ended, pieces_most};
 
-    /// A source of `bytes`, with at most `most` of them a call, which is one or more.
+    /// A source that gives `bytes`, at most `most` of them a call, which is one or more.
     pub fn new(bytes: &'a [u8], most: usize) -> Pieces<'a>
         requires { 0 < most }
         ensures left { pieces_left result ≡ bytes.now }

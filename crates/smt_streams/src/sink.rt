@@ -1,4 +1,4 @@
-//! What takes bytes. This file knows no device.
+//! Sinks, which accept bytes. This file knows no device.
 
 ghost use Rattle.std.specs.Prelude.{◌≡◌, ◌<◌, ℕ, List, Bool, false, Option, length, take, is_err, OnErr, OnOk};
 ghost use Rattle.std.specs.Io.{WritesAtMost};
@@ -7,16 +7,19 @@ ghost use Rattle.smt_streams.specs.Moved.{TakesPart, moved};
 
 use crate::Broken;
 
-/// Where bytes go, a part at a time, until a call fails.
+/// A place where bytes go, some at a time, until a call fails.
 pub trait Sink {
-    /// The bytes taken so far, behind those that it held before, where they are known.
+    /// The bytes accepted so far, after those that it held before, where they are known.
     ghost taken: { Self → Option (List ℕ) };
 
     /// Whether a call has failed.
     ghost is_broken: { Self → Bool };
 
-    /// Takes bytes from the front of `bytes`, behind what was taken, and answers how many: one or more. Fails
-    /// with no byte taken. It is not called with no byte, or after a failure.
+    /// Accepts bytes from the front of `bytes`, after those accepted before, and returns how many: one or
+    /// more.
+    ///
+    /// A call that fails accepts no byte. The caller passes at least one byte, and does not call again after
+    /// a failure.
     fn put(&mut self, bytes: &[u8]) -> Result<usize, Broken>
         requires some { 0 < length bytes.now }
         requires sound { is_broken self.old ≡ false }
@@ -30,8 +33,9 @@ pub trait Sink {
         ensures { result ≡ is_broken self.now };
 }
 
-/// Puts all of `bytes`, by as many calls as the sink needs. Fails where a call does, and the sink has then
-/// taken some of them, from the front, and not all.
+/// Puts all of `bytes`, in as many calls as the sink needs.
+///
+/// It fails where a call fails. The sink has then accepted some of the bytes, from the front, but not all.
 pub fn put_all<S: Sink>(sink: &mut S, bytes: &[u8]) -> Result<(), Broken>
     requires { S.is_broken sink.old ≡ false }
     ensures whole { OnOk result (Appends (S.taken sink.old) (S.taken sink.new) bytes.now) }

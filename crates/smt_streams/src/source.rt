@@ -1,8 +1,8 @@
-//! What gives bytes. This file knows no device.
+//! Sources, which give bytes. This file knows no device.
 
 use crate::Broken;
 
-/// Where bytes come from, a part at a time, until the end is told or a call fails.
+/// A place where bytes come from, some at a time, until it reports the end or a call fails.
 pub trait Source {
     ghost use Rattle.std.specs.Prelude.{◌≡◌, ◌<◌, ℕ, List, Bool, false, true, Option, length, take, drop, is_err};
     ghost use Rattle.std.specs.Io.{ReadsAtMost};
@@ -12,15 +12,17 @@ pub trait Source {
     /// The bytes to come, where they are known.
     ghost to_come: { Self → Option (List ℕ) };
 
-    /// Whether a call has told the end.
+    /// Whether a call has reported the end.
     ghost has_ended: { Self → Bool };
 
     /// Whether a call has failed.
     ghost is_broken: { Self → Bool };
 
-    /// Gives the next bytes, at the front of `buf`, and answers how many: 0 tells the end, and is told only
-    /// where no byte is left. Bytes behind those stay as they were. Fails with no byte given. It is not
-    /// called with no room, after the end, or after a failure.
+    /// Gives the next bytes, at the front of `buf`, and returns how many; 0 reports the end, and comes only
+    /// where no byte is left.
+    ///
+    /// Bytes of `buf` after those stay as they were. A call that fails gives no byte. The caller gives room
+    /// for at least one byte, and does not call again after the end or a failure.
     fn pull(&mut self, buf: &mut [u8]) -> Result<usize, Broken>
         requires room { 0 < length buf.old }
         requires sound { is_broken self.old ≡ false }

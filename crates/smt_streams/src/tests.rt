@@ -1,5 +1,5 @@
-//! Sources and sinks that move little, fail or are interrupted. Contracts say what a call that fails leaves;
-//! that a call fails only where its reader or writer does is tested here.
+//! Sources and sinks that move little, fail or are interrupted. Contracts say what a failed call leaves;
+//! these tests say that a call fails only where its reader or writer does.
 
 ghost use Rattle.std.specs.Prelude.{◌≡◌, ◌≤◌, false, IfOk};
 ghost use Rattle.smt_streams.specs.Collected.{collected_broken};
@@ -17,7 +17,7 @@ enum Call {
     Fail,
 }
 
-// A reader and writer whose calls do what a script says, and nothing past its end.
+// A reader and writer whose calls follow a script, and move nothing after its end.
 #[derive(Drop)]
 struct Scripted<'a> {
     calls: &'a [Call],
@@ -65,7 +65,7 @@ impl Write for Scripted<'_> {
     }
 }
 
-// Pours a source into a sink, and answers how many pulls that took.
+// Pours a source into a sink, and returns the number of pulls.
 fn pour<S: Source>(source: &mut S, sink: &mut Collected) -> Result<usize, Broken>
     requires source { S.is_broken source.old ≡ false }
     requires open { S.has_ended source.old ≡ false }

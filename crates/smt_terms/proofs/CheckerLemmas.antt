@@ -1,7 +1,7 @@
 -- Sorts of lists, one step at a time.
 use Rattle.std.proofs.Common.{◌≡◌, ℕ, true, false, List, [], ◌∷◌, ◌++◌, Option, Some, None, is_some}
-use Rattle.std.proofs.Common.{Result, Ok, Err, refl, sym, ap, ◌∙◌, append_assoc, inl, inr, length, arith}
-use Rattle.smt_trees.specs.Sexp.{Sexp, Sexps, Reserved, Items, Cons, count}
+use Rattle.std.proofs.Common.{Result, Ok, Err, refl, sym, ap, ◌∙◌, append_assoc, append-nil, inl, inr, length, arith}
+use Rattle.smt_trees.specs.Sexp.{Sexp, Sexps, Reserved, Items, Cons, Nil, count}
 use Rattle.smt_trees.specs.Tree.{sexps_of}
 use Rattle.smt_trees.specs.declared.tree.Tree.{Tree}
 use Rattle.smt_trees.specs.declared.reserved.Word.TheVariants.{Bang, Let, Underscore}
@@ -36,6 +36,12 @@ sorts_behind-start names scope before left none = rw none (by (sorts_in names sc
     by : (r : Result (List Sort) TermFlaw) → r ≡ result_and_then r (λ ss. Ok ([] ++ ss))
     by (Ok ss) = refl
     by (Err f) = refl
+
+-- and at last no term is left
+pub sorts_behind-end : (names : Names) (scope : Scope) (before : List Sort) (left : Sexps) → left ≡ Nil
+    → sorts_behind names scope before left ≡ Ok before
+sorts_behind-end names scope before left none =
+    ap (λ ts. sorts_behind names scope before ts) none ∙ ap Ok (append-nil before)
 
 -- one sort more
 pub sorts_behind-next : (names later : Names) (scope : Scope) (before after : List Sort) (x : Sexp)

@@ -200,6 +200,12 @@ grown_by c d kept = record {
   rows = kept.rows;
 }
 
+-- where no name and no node has come, the contents are the same
+pub restored : (c d : Contents) → KeepsNames c d → d.rows ≡ c.rows → d ≡ c
+restored c d kept rows =
+    same_contents d c kept.theories kept.abbreviations kept.ranks kept.heads kept.declared kept.definitions kept.bodies
+    rows
+
 -- where a term was checked, or refused
 pub more_rows : {A E : Type 0} (r : Result A E) (old new : List Row) → OnOk r (Goes old new)
     → OnErr r (new ≡ old) → Goes old new

@@ -9,7 +9,7 @@ use Rattle.smt_trees.specs.declared.reserved.Word.TheVariants.{Bang, Let, Unders
 use Rattle.smt_trees.specs.Tree.{sexp_of}
 use Rattle.smt_theory.specs.Words.{look_up}
 use Rattle.smt_theory.specs.declared.sort.Sort.{Sort}
-use Rattle.smt_terms.specs.Checking.{flaw_of_label, flaw_of_labels, sort_in, sort_of_call, sort_of_plain}
+use Rattle.smt_terms.specs.Checking.{flaw_of_label, flaw_of_labels, sort_applied, sort_in, sort_of_call, sort_of_plain}
 use Rattle.smt_terms.specs.Checking.{sort_unless_variable, sorts_in}
 use Rattle.smt_forms.specs.Heads.{begins_indexed}
 use Rattle.smt_forms.specs.Identifier.{Identifier, Plain, Indexed}
@@ -253,6 +253,12 @@ plain_without_labels : (library : Library) (labels : spec.Labels) (f : List ℕ)
     ≡ sort_of_plain (names_of_library library) f o args
 plain_without_labels library labels f args None = refl
 plain_without_labels library labels f args (Some rank) = refl
+
+pub applied_without_labels : (library : Library) (labels : spec.Labels) (f : Identifier) (args : List Sort)
+    → sort_applied (names_for library labels) f args ≡ sort_applied (names_of_library library) f args
+applied_without_labels library labels (Plain f) args =
+    plain_without_labels library labels f args (look_up (names_of_library library).ranks f)
+applied_without_labels library labels (Indexed f is) args = refl
 
 pub call_without_labels : (library : Library) (labels : spec.Labels) (scope : Scope) (f : Identifier)
     (args : List Sort) → sort_of_call (names_for library labels) scope f args

@@ -34,5 +34,7 @@ pub mod TableLemmas
 pub mod AroundLemmas
 pub mod NodeLemmas
 pub mod PartNodeLemmas
+pub mod ArgumentLemmas
 pub mod LabelNodeLemmas
 pub mod BinderNodeLemmas
+pub mod FirstFaultLemmas

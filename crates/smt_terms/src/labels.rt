@@ -1,4 +1,5 @@
-//! The labels that the terms of an assertion gave so far. This file does not say which names may be labels.
+//! The labels in the terms of an assertion, as far as it is checked. This file does not say which names may be
+//! labels.
 
 ghost use Rattle.std.specs.Prelude.{◌≡◌, map};
 ghost use Rattle.std.proofs.Props.{props};
@@ -21,7 +22,7 @@ pub(crate) struct Label<'a> {
     pub(crate) node: TermId,
 }
 
-/// The labels that were given so far, in order, or that none may be.
+/// The labels so far, in order, or the refusal of all labels.
 #[derive(Drop)]
 pub(crate) struct Labels<'a> {
     pub(crate) refused: bool,
@@ -37,7 +38,7 @@ impl<'a> Labels<'a> {
     ghost use Rattle.smt_terms.specs.Labels as spec;
     ghost use Rattle.smt_forms.specs.Variables.{is_among};
 
-    /// None yet.
+    /// No labels yet.
     pub(crate) fn new(alloc: Global) -> Self
         ensures view { labels_view result ≡ spec.Given [] }
         ensures given { result.given.items ≡ [] }
@@ -49,7 +50,7 @@ impl<'a> Labels<'a> {
         }
     }
 
-    /// None may be given.
+    /// Every label is refused.
     pub(crate) fn refused(alloc: Global) -> Self
         ensures view { labels_view result ≡ spec.Refused }
         ensures given { result.given.items ≡ [] }
@@ -61,21 +62,21 @@ impl<'a> Labels<'a> {
         }
     }
 
-    /// Whether none may be given.
+    /// Whether every label is refused.
     pub(crate) fn are_refused(&self) -> bool
         ensures { result ≡ self.now.refused }
     {
         self.refused
     }
 
-    /// Whether a label of this name was given.
+    /// Whether there is a label of this name so far.
     pub(crate) fn is_given(&self, name: &[u8]) -> bool
         ensures { result ≡ is_among (given_names self.now) name.now }
     {
         self.names.contains(name)
     }
 
-    /// The labels that were given, of which none is left.
+    /// Takes out the labels so far, and leaves none.
     pub(crate) fn take_given(&mut self, alloc: Global) -> Vec<Label<'a>>
         ensures { result.items ≡ self.old.given.items }
     {
@@ -83,7 +84,7 @@ impl<'a> Labels<'a> {
         labels.given
     }
 
-    /// Adds a label of a term of this sort, whose node this is.
+    /// Adds a label of a term, with the term's sort and its node. Where memory is refused it adds none.
     pub(crate) fn push(
         &mut self,
         alloc: Global,

@@ -1,4 +1,6 @@
-//! What holds of the definitions that the contracts name. Nothing here does anything: each contract is a law.
+//! Laws: theorems about the definitions that the contracts cite. Each is the contract of an empty function.
+
+pub mod first_faults;
 
 ghost use Rattle.std.specs.List.{All};
 ghost use Rattle.std.specs.Prelude.{◌≡◌, ◌≢◌, ◌<◌, ◌↔◌, ◌∷◌, ◌++◌, ℕ, List, [], Some, None, true, false, Ok};
@@ -29,8 +31,8 @@ ghost use Rattle.smt_terms.specs.declared.library.marks.Mark.{Mark};
 
 use smt_theory::laws::sorts_are_compared;
 
-/// What a definition brings is well sorted over the earlier names (SMT-LIB 2.6, sections 4.2.3 and 5.2), and
-/// has the name that was given, which stood for nothing and is no plain operator's.
+/// A definition is well sorted over the earlier names (SMT-LIB 2.6, sections 4.2.3 and 5.2), and has the given
+/// name, which meant nothing before and is no plain operator's.
 pub fn definitions_are_well_sorted()
     ensures sorted { (s : Signature) (x : List ℕ) (parameters : List (List ℕ × Sexp)) (sort body : Sexp)
         (e : Entry) → defined_in s x parameters sort body ≡ Ok e → IsWellSorted s.theories s.entries e }
@@ -42,9 +44,9 @@ pub fn definitions_are_well_sorted()
     sorts_are_compared();
 }
 
-/// What an item of a model defines is well sorted over the earlier items (SMT-LIB 2.6, sections 4.2.6 and
-/// 5.2), and its name is new among them. Where the script declares the name, the item has the rank of that
-/// declaration; elsewhere the name is free in the script.
+/// What an item of a model defines is well sorted over the earlier items (SMT-LIB 2.6, sections 4.2.6 and 5.2), and
+/// its name is new among them. If the script declares the name, the item has the declared rank; otherwise the name
+/// is free in the script.
 pub fn items_are_well_sorted()
     ensures sorted { (script : Signature) (earlier : List Entry) (tree : Sexp) (e : Entry)
         → item_in script earlier tree ≡ Ok (Some e) → IsWellSorted script.theories earlier e }
@@ -60,8 +62,8 @@ pub fn items_are_well_sorted()
     sorts_are_compared();
 }
 
-/// An item is set aside exactly where it repeats a definition or a label of the script, in the wide profile: it
-/// has its name and its rank, and any body. That is this project's choice.
+/// An item is set aside exactly where, in the wide profile, it repeats a definition or a label of the script: its
+/// name and its rank, with any body. This is a choice of this project.
 pub fn repeated_items_are_set_aside()
     ensures { (script : Signature) (earlier : List Entry) (tree : Sexp)
         → (item_in script earlier tree ≡ Ok None) ↔ IsRepeated script tree }
@@ -69,62 +71,62 @@ pub fn repeated_items_are_set_aside()
     sorts_are_compared();
 }
 
-/// What an item defines without the wide profile, it defines with it too.
+/// An item that defines a name without the wide profile defines the same in the wide profile.
 pub fn items_are_the_same_in_the_wide_profile()
     ensures { (script : Signature) (earlier : List Entry) (tree : Sexp) (e : Entry)
         → item_in script earlier tree ≡ Ok (Some e) → item_in (widened script) earlier tree ≡ Ok (Some e) }
 {}
 
-/// A term keeps its sort over more names, none of which hides an operator, where labels are not looked at.
+/// A term keeps its sort over more names, if none of them hides an operator and labels are left out of account.
 pub fn sorts_are_kept()
     ensures { (names more : Names) (scope : List (List ℕ × Sort)) (term : Sexp) (sort : Sort)
         → Keeps names more → sort_in names scope term ≡ Ok sort → sort_in more scope term ≡ Ok sort }
 {}
 
-/// What an assertion brings (SMT-LIB 2.6, section 3.6.5) is new behind the names in force and what it brought
-/// before, no operator's, and well sorted over them.
+/// Each label of an assertion (SMT-LIB 2.6, section 3.6.5) is new after the names in force and the earlier labels,
+/// is no operator's name, and is well sorted over them.
 pub fn labels_are_introduced()
     ensures { (s : Signature) (term : Sexp) (labels : List Entry) → asserted_in (names_of s) term ≡ Ok labels
         → AreIntroduced s.theories s.entries labels }
 {}
 
-/// A declaration brings what it says (SMT-LIB 2.6, section 4.2.3): its name, with the sorts that its trees
-/// name, as its command.
+/// A declaration brings what its command says (SMT-LIB 2.6, section 4.2.3): the name, with the sorts that the trees
+/// name, under the number of the command.
 pub fn declarations_are_as_written()
     ensures { (s : Signature) (command : ℕ) (x : List ℕ) (parameters : Sexps) (sort : Sexp) (e : Entry)
         → declared_in s command x parameters sort ≡ Ok e
         → IsDeclaredAs (sort_names_of s) command x parameters sort e }
 {}
 
-/// A definition brings what it says (SMT-LIB 2.6, section 4.2.3): its name, with the sorts that its trees
-/// name, its parameters and its body.
+/// A definition brings what its command says (SMT-LIB 2.6, section 4.2.3): the name, with the sorts that the trees
+/// name, the parameters and the body.
 pub fn definitions_are_as_written()
     ensures { (s : Signature) (x : List ℕ) (parameters : List (List ℕ × Sexp)) (sort body : Sexp) (e : Entry)
         → defined_in s x parameters sort body ≡ Ok e
         → IsDefinedAs (sort_names_of s) x parameters sort body e }
 {}
 
-/// An item of a model defines what is printed (SMT-LIB 2.6, section 4.2.6), each sort as the script's
-/// abbreviations have it.
+/// An item of a model defines what the solver printed (SMT-LIB 2.6, section 4.2.6), with each sort read by the
+/// script's abbreviations.
 pub fn items_are_as_printed()
     ensures { (script : Signature) (earlier : List Entry) (tree : Sexp) (e : Entry)
         → item_in script earlier tree ≡ Ok (Some e) → IsPrintedAs (sort_names_of script) tree e }
 {}
 
-/// An assertion brings its labels, in order (SMT-LIB 2.6, section 3.6.5): each is a constant that the term
-/// which it annotates defines.
+/// An assertion brings its labels, in order (SMT-LIB 2.6, section 3.6.5): each is a constant, which the term that
+/// it annotates defines.
 pub fn assertions_bring_their_labels()
     ensures { (names : Names) (term : Sexp) (es : List Entry)
         → asserted_in names term ≡ Ok es → AreLabelsOf names (labels_in term) es }
 {}
 
-/// Names are the same exactly where the test of their bytes says so.
+/// Two names are equal exactly where the comparison of their bytes says so.
 pub fn names_are_compared()
     ensures { (x y : List ℕ) → (bytes_eq x y ≡ true) ↔ (x ≡ y) }
 {}
 
-/// A name is found at its first entry: one of its name, with none before it; and none is found where no entry
-/// has the name.
+/// A name is found at its first entry, one of its name with none before it, and not at all where no entry has the
+/// name.
 pub fn entries_are_found()
     ensures found { (entries : List Entry) (x : List ℕ) (e : Entry) → (entry_named entries x ≡ Some e)
         ↔ ((before after : List Entry) × (entries ≡ before ++ e ∷ after) × (e.name ≡ x)
@@ -133,14 +135,14 @@ pub fn entries_are_found()
         → (entry_named entries x ≡ None) ↔ All (λ e. e.name ≢ x) entries }
 {}
 
-/// What a mark counts is the same in longer contents, where it counts no more than there was.
+/// In longer contents a mark counts the same, if it counts no more than the contents had.
 pub fn marks_are_kept()
     ensures first { (mark : Mark) (c d : Contents) → IsWithin mark c → Extends c d
         → first_of mark d ≡ first_of mark c }
     ensures within { (mark : Mark) (c d : Contents) → IsWithin mark c → Extends c d → IsWithin mark d }
 {}
 
-/// A mark counts the same in contents that are cut to a later one.
+/// A mark counts the same after contents are cut to a later mark.
 pub fn earlier_marks_are_kept()
     ensures first { (mark later : Mark) (c : Contents) → IsBelow mark later
         → first_of mark (first_of later c) ≡ first_of mark c }
@@ -148,41 +150,41 @@ pub fn earlier_marks_are_kept()
         → IsWithin mark (first_of later c) }
 {}
 
-/// A term of contents is one of longer contents.
+/// A term of contents is also a term of longer contents.
 pub fn terms_are_kept()
     ensures { (c d : Contents) (i : ℕ) (t : Sexp) → Extends c d → IsTermOf c i t → IsTermOf d i t }
 {}
 
-/// A node stands for a term in longer tables too (SMT-LIB 2.6, section 3.6).
+/// A node stands for its term in longer tables too (SMT-LIB 2.6, section 3.6).
 pub fn nodes_stand_for_their_terms_still()
     ensures { (t u : Table) (slots : Slots) (next around i : ℕ) (term : Sexp) → IsLonger t u
         → Denotes t slots next around i term → Denotes u slots next around i term }
 {}
 
-/// The table of all terms of a library, the transient ones too, has the names and the definitions of the
-/// signature that it stands for.
+/// The table of all terms of a library, with the transient ones, has the names and the definitions of the library's
+/// signature.
 pub fn transient_terms_change_no_names()
     ensures { (library : Library) (s : Signature) → StandsFor library s → AreTermsOf (terms_of library) s }
 {}
 
-/// A term that a library holds is one of all its terms, the transient ones too.
+/// A term that a library holds is among all its terms, with the transient ones.
 pub fn held_terms_are_terms()
     ensures { (library : Library) (i : ℕ) (t : Sexp) → IsTermOf (contents_of library) i t → IsTerm library i t }
 {}
 
-/// The number of a term is that of a node.
+/// The number of a term is the number of a node.
 pub fn terms_have_nodes()
     ensures { (c : Contents) (i : ℕ) (t : Sexp) → IsTermOf c i t → i < length c.rows }
 {}
 
-/// What contents stand for needs the nodes of the bodies alone, and a term those up to its own.
+/// The signature of contents needs only the nodes of bodies, and a term needs only the nodes up to its own.
 pub fn needed_nodes_are_enough()
     ensures names { (count : ℕ) (c : Contents) (s : Signature) → Holds c s → Holds (needed_of count c) s }
     ensures terms { (count : ℕ) (c : Contents) (i : ℕ) (t : Sexp) → i < count → IsTermOf c i t
         → IsTermOf (needed_of count c) i t }
 {}
 
-/// A table without names and bodies is that of a signature without names, whatever nodes it has.
+/// A table without names and bodies is the table of a signature without names, whatever nodes it has.
 pub fn no_names_have_no_bodies()
     ensures { (theories : Theories) (rows : List Row) → AreTermsOf (record {
       theories = theories;

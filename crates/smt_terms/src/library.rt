@@ -7,6 +7,7 @@ ghost use Rattle.smt_terms.specs.Ends.{ends_from};
 
 pub use marks::Mark;
 
+mod arguments;
 mod assertions;
 mod binders;
 mod checker;
@@ -22,6 +23,7 @@ mod transient;
 mod whole_terms;
 
 use crate::labels::Labels;
+use crate::library::arguments::Arguments;
 use crate::sorts::SortNames;
 use smt_faults::{Memory, TermFault};
 use smt_names::NameMap;
@@ -89,6 +91,8 @@ pub struct Library {
     ends: Vec<usize>,
     nodes: Nodes,
     transient: Nodes,
+    /// Of no term between calls; kept for its memory.
+    arguments: Arguments,
     ghost paired: { length bodies.items ≡ length definitions.items } by { Prim.hlevel props },
     ghost ended: { ends.items ≡ ends_from 0 bodies.items } by { Prim.hlevel props },
 }
@@ -136,6 +140,7 @@ impl Library {
             ends: Vec::new(alloc),
             nodes: Nodes::new(alloc),
             transient: Nodes::new(alloc),
+            arguments: Arguments::new(alloc),
         }
     }
 
@@ -204,6 +209,7 @@ impl Library {
         ensures refused { IfErr result (λ fault. (s : Signature) → StandsFor self.old s
             → Tells (declared_in s command name.now (sexps_of params.now) (sexp_of sort.now)) fault) }
         ensures unchanged { OnErr result (IsUnchanged self.old self.new) }
+        ensures restored { OnErr result (contents_of self.new ≡ contents_of self.old) }
         ensures grown { Extends (contents_of self.old) (contents_of self.new) }
         ensures transient { transient_of self.new ≡ transient_of self.old }
     {
@@ -225,6 +231,7 @@ impl Library {
         ensures refused { IfErr result (λ fault. (s : Signature) → StandsFor self.old s
             → Tells (abbreviated_in (sort_names_of s) name.now (sexp_of sort.now)) fault) }
         ensures unchanged { OnErr result (IsUnchanged self.old self.new) }
+        ensures restored { OnErr result (contents_of self.new ≡ contents_of self.old) }
         ensures grown { Extends (contents_of self.old) (contents_of self.new) }
         ensures transient { transient_of self.new ≡ transient_of self.old }
     {
@@ -240,6 +247,7 @@ impl Library {
             × IsTermOf (contents_of self.new) p.0 (sexp_of term.now))
             (λ fault. Tells (sort_in (names_of s) [] (sexp_of term.now)) fault) }
         ensures kept { IsUnchanged self.old self.new }
+        ensures restored { OnErr result (contents_of self.new ≡ contents_of self.old) }
         ensures grown { Extends (contents_of self.old) (contents_of self.new) }
         ensures transient { transient_of self.new ≡ transient_of self.old }
     {
@@ -359,6 +367,7 @@ impl Library {
             (declaration name.now declared.command
             (record { parameters = declared.params.items; sort = declared.result })))) }
         ensures unchanged { OnErr result (IsUnchanged self.old self.new) }
+        ensures restored { OnErr result (contents_of self.new ≡ contents_of self.old) }
         ensures grown { Extends (contents_of self.old) (contents_of self.new) }
         ensures transient { self.new.transient ≡ self.old.transient }
     {

@@ -19,8 +19,8 @@ use smt_theory::{Sort, Theories, Width, number};
 use smt_trees::{Tree, Word, split_first};
 use std::alloc::Global;
 
-/// What names sorts: theories, and abbreviations of sorts (SMT-LIB 2.6, sections 3.5 and 4.2.3), in the order
-/// in which they came. No name abbreviates twice.
+/// The names of sorts: theories, and abbreviations (SMT-LIB 2.6, sections 3.5 and 4.2.3) in the order of their
+/// definition. No name is an abbreviation twice.
 #[derive(Drop)]
 pub(crate) struct SortNames {
     pub(crate) theories: Theories,
@@ -31,7 +31,7 @@ impl SortNames {
     ghost use Rattle.smt_terms.specs.Internal.LibraryView.{abbreviations_of, sort_names};
     ghost use Rattle.smt_theory.specs.declared.sort.Sort.{Sort};
 
-    /// The sorts of these theories, without abbreviations.
+    /// The names of sorts in these theories, without abbreviations.
     pub(crate) fn new(alloc: Global, theories: Theories) -> Self
         ensures { sort_names result ≡ record { theories = theories; abbreviations = [] } }
     {
@@ -41,8 +41,8 @@ impl SortNames {
         }
     }
 
-    /// The sort that a tree names, or what is wrong with it: out of form, a sort of the standard that is not
-    /// supported, unknown, or bit vectors of a width out of range.
+    /// The sort that a tree names, or what is wrong with it: `Form`, `Unsupported` for a sort of the standard,
+    /// `Unknown`, or `Index` for a width of bit vectors out of range.
     pub(crate) fn sort_of(&self, tree: &Tree) -> Result<Sort, TermFlaw>
         ensures { result ≡ sort_named (sort_names self.now) (sexp_of tree.now) }
     {
@@ -67,8 +67,8 @@ impl SortNames {
         Ok(found)
     }
 
-    /// Makes a name abbreviate the sort of a tree, or changes nothing: where the name is that of a sort, or
-    /// the tree names none.
+    /// Makes a name the abbreviation of the sort that a tree names. It refuses a name that is already that of a
+    /// sort, and a tree that names none. On any error it changes nothing.
     pub(crate) fn abbreviate(
         &mut self,
         alloc: Global,
@@ -90,21 +90,21 @@ impl SortNames {
         Ok(self.abbreviations.insert(name, sort)?)
     }
 
-    // The sort that a name abbreviates.
+    // The sort that an abbreviation stands for.
     fn get(&self, name: &[u8]) -> Option<Sort>
         ensures { result ≡ look_up (abbreviations_of self.now) name.now }
     {
         self.abbreviations.get(name).copied()
     }
 
-    // Whether a name is that of a sort, or abbreviates one.
+    // Whether a name is that of a sort or an abbreviation.
     fn is_taken(&self, name: &[u8]) -> bool
         ensures { result ≡ is_sort_taken (sort_names self.now) name.now }
     {
         is_named(name, b"Bool") || is_named(name, b"Int") || self.get(name).is_some()
     }
 
-    // The sort that a symbol names: what it abbreviates, or else the sort of that name.
+    // The sort that a symbol names: that of an abbreviation, or else the sort of that name.
     fn sort_of_symbol(&self, name: &[u8]) -> Result<Sort, TermFlaw>
         ensures { result ≡ sorts.sort_of_symbol (sort_names self.now).theories name.now
             (look_up (abbreviations_of self.now) name.now) }
@@ -116,7 +116,7 @@ impl SortNames {
     }
 }
 
-// The sort of a symbol that abbreviates none.
+// The sort of a symbol that is no abbreviation.
 fn sort_of_word(theories: Theories, name: &[u8]) -> Result<Sort, TermFlaw>
     ensures { result ≡ sorts.sort_of_word theories name.now }
 {
@@ -141,7 +141,7 @@ fn integers(theories: Theories) -> Result<Sort, TermFlaw>
     }
 }
 
-// The sort that a list of these parts names.
+// The sort that a list with these parts names.
 fn sort_of_list(theories: Theories, parts: &[Tree]) -> Result<Sort, TermFlaw>
     ensures { result ≡ sorts.sort_of_list theories (sexps_of parts.now) }
 {
@@ -160,7 +160,7 @@ fn sort_of_list(theories: Theories, parts: &[Tree]) -> Result<Sort, TermFlaw>
     }
 }
 
-// The sort `(_ symbol index ..)`, by what stands behind the `_`.
+// The sort `(_ symbol index ..)`, from the parts after the `_`.
 fn indexed_sort(theories: Theories, parts: &[Tree]) -> Result<Sort, TermFlaw>
     ensures { result ≡ sorts.indexed_sort theories (sexps_of parts.now) }
 {
@@ -177,7 +177,7 @@ fn indexed_sort(theories: Theories, parts: &[Tree]) -> Result<Sort, TermFlaw>
     }
 }
 
-// The sort `(_ BitVec index ..)`, by its indexes.
+// The sort `(_ BitVec index ..)`, from its indexes.
 fn bit_vector_sort(theories: Theories, indexes: &[Tree]) -> Result<Sort, TermFlaw>
     ensures { result ≡ sorts.bit_vector_sort theories (sexps_of indexes.now) }
 {
@@ -189,7 +189,7 @@ fn bit_vector_sort(theories: Theories, indexes: &[Tree]) -> Result<Sort, TermFla
     }
 }
 
-/// Bit vectors of this width; `None` stands for a number of bits out of range.
+/// The sort of bit vectors of this width; `None` means that the number of bits is out of range.
 pub(crate) fn bit_vectors(theories: Theories, width: Option<Width>) -> Result<Sort, TermFlaw>
     ensures { result ≡ sorts.bit_vectors theories width }
 {

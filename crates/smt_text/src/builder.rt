@@ -12,11 +12,11 @@ use std::collections::VecDeque;
 /// The trees of the tokens so far.
 #[derive(Drop)]
 pub(crate) struct Builder {
-    /// What the lists that are not closed hold so far, one list after another, the outermost first.
+    /// The items so far of the lists that are not closed, list after list, the outermost first.
     parts: Vec<Tree>,
-    /// Where each of them begins there, the outermost first.
+    /// The place in `parts` where each of these lists begins, the outermost first.
     begins: Vec<usize>,
-    /// The trees at the top that were not handed out.
+    /// The trees at the top that were not returned yet.
     ready: VecDeque<Tree>,
     ghost nested: { are_nested (length parts.items) (reverse begins.items) ≡ true } by { Prim.hlevel props },
 }
@@ -38,7 +38,7 @@ impl Builder {
         }
     }
 
-    /// How many lists are not closed.
+    /// The number of lists that are not closed.
     #[inline(always)]
     pub(crate) fn depth(&self) -> usize
         ensures { result ≡ depth_of (levels_of self.now) }
@@ -82,7 +82,7 @@ impl Builder {
         }
     }
 
-    /// The first tree that was not handed out.
+    /// Takes the first of the trees that are ready; `None` where none is.
     pub(crate) fn hand_out(&mut self) -> Option<Tree>
         ensures parts { self.new.parts ≡ self.old.parts }
         ensures begins { self.new.begins ≡ self.old.begins }
@@ -93,7 +93,7 @@ impl Builder {
     }
 }
 
-// Adds an item behind others. The test for room is made here, since a call of `reserve` is not inlined.
+// Appends an item. The test for room is made here, since a call of `reserve` is not inlined.
 #[inline(always)]
 fn push_in_place<T: Drop>(items: &mut Vec<T>, item: T) -> Result<(), Memory>
     ensures pushed { IfOk result (λ _. items.new.items ≡ items.old.items ++ item ∷ []) }
@@ -106,7 +106,7 @@ fn push_in_place<T: Drop>(items: &mut Vec<T>, item: T) -> Result<(), Memory>
     Ok(())
 }
 
-// Adds a tree behind those that are ready. Few trees stand at the top, so this is not inlined.
+// Appends a tree to those that are ready. Few trees are at the top, so this is not inlined.
 #[inline(never)]
 fn push_ready(ready: &mut VecDeque<Tree>, tree: Tree) -> Result<(), Memory>
     ensures { IfOk result (λ _. ready.new.items ≡ ready.old.items ++ tree ∷ []) }

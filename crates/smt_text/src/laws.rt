@@ -1,4 +1,5 @@
-//! Laws of the definitions of texts, trees and faults. Each is the contract of a function that does nothing.
+//! Laws of the definitions of texts, trees and faults. Each law is the contract of a function that does
+//! nothing.
 
 pub mod examples;
 
@@ -14,13 +15,13 @@ pub fn one_forest()
         → Forest other text ys → xs ≡ ys }
 {}
 
-/// What is read of a text, its trees and its fault, is one answer.
+/// A text has at most one reading: its trees, and its fault if it has one.
 pub fn one_reading()
     ensures one { (max_depth : ℕ) (ended : Bool) (text : List ℕ) (xs ys : Sexps) (f g : Option TextFlaw)
         → Reads max_depth ended text xs f → Reads max_depth ended text ys g → (xs ≡ ys) × (f ≡ g) }
 {}
 
-/// Of every text something is read, whether more of it comes or not.
+/// Every text has a reading, whether more of it comes or not.
 pub fn every_text_reads()
     ensures some { (max_depth : ℕ) (ended : Bool) (text : List ℕ)
         → (trees : Sexps) × (fault : Option TextFlaw) × Reads max_depth ended text trees fault }
@@ -33,16 +34,16 @@ pub fn complete_trees_stay()
         → (later : Sexps) × (ys ≡ append xs later) }
 {}
 
-/// The trees that are read of the beginning of a text, while more of it may come, are the first that are read
-/// of more of it, whether its end was told or not.
+/// The trees read from the beginning of a text, while more of it may come, are the first ones read from the
+/// longer text, whether that has ended or not.
 pub fn read_trees_stay()
     ensures stay { (max_depth : ℕ) (ended : Bool) (text more : List ℕ) (xs ys : Sexps) (f g : Option TextFlaw)
         → Reads max_depth false text xs f → Reads max_depth ended (text ++ more) ys g
         → (later : Sexps) × (ys ≡ append xs later) }
 {}
 
-/// A fault of the beginning of a text, which was found while more of it might come, is that of more of it,
-/// behind the same trees.
+/// A fault found at the beginning of a text, while more of it might come, is the fault of the longer text,
+/// after the same trees.
 pub fn read_faults_stay()
     ensures stay { (max_depth : ℕ) (ended : Bool) (text more : List ℕ) (xs ys : Sexps) (f : TextFlaw)
         (g : Option TextFlaw)

@@ -17,7 +17,7 @@ use memchr::memchr2;
 use smt_trees::{Bytes, Tree};
 use std::alloc::{AllocError, Global};
 
-/// Where in a token (SMT-LIB 2.6, section 3.1) or in a comment a text is.
+/// The state of the lexer: where in a token (SMT-LIB 2.6, section 3.1) or in a comment the text is.
 #[derive(Clone, Copy)]
 pub enum AtomState {
     /// No token has begun.
@@ -45,11 +45,11 @@ pub enum AtomState {
     KeywordName,
     /// A string literal, after its first quote.
     InText,
-    /// A quote in a string literal: its last, or the first of two that stand for one.
+    /// A quote in a string literal: its last one, or the first of two that stand for one.
     TextQuote,
     /// A quoted symbol, after its first bar.
     InBars,
-    /// Behind the last bar of a quoted symbol, which is complete.
+    /// After the last bar of a quoted symbol, which is complete.
     AfterBar,
     InComment,
 }
@@ -67,12 +67,12 @@ pub enum LexerStep {
     Open,
     /// The token has ended, and so does the innermost list.
     Close,
-    /// No text goes on with the byte.
+    /// No text continues with the byte.
     Stuck,
 }
 
 impl AtomState {
-    /// What one more byte does.
+    /// What the next byte does.
     pub(crate) fn after(self, byte: u8) -> LexerStep
         ensures { result ≡ machine.lex self byte }
     {
@@ -113,7 +113,7 @@ impl AtomState {
         }
     }
 
-    /// How many bytes at the beginning of a text the token keeps and stays what it is.
+    /// The number of bytes at the beginning of a text that the token keeps without changing its state.
     #[inline]
     pub(crate) fn run_length(self, text: &[u8]) -> usize
         ensures within { result ≤ length text.now }
@@ -169,7 +169,7 @@ impl AtomState {
     }
 }
 
-// The first byte of a token, or a byte between tokens.
+// What the first byte of a token does, or a byte between tokens.
 fn begun_by(byte: u8) -> LexerStep
     ensures { result ≡ machine.begun_by byte }
 {
@@ -192,7 +192,7 @@ fn begun_by(byte: u8) -> LexerStep
     }
 }
 
-// A byte that may show the end of the token before it.
+// What a byte does that may end the token before it.
 fn separated(byte: u8) -> LexerStep
     ensures { result ≡ machine.separated byte }
 {
@@ -277,7 +277,8 @@ fn in_comment(byte: u8) -> LexerStep
     }
 }
 
-/// The atom that a token which says these bytes is if it ends here. The vector is empty then.
+/// The atom that a token of these bytes is, if it ends here; `None` where it is no atom. The call empties the
+/// vector.
 pub(crate) fn atom_of(
     alloc: Global,
     token: AtomState,
@@ -311,7 +312,7 @@ pub(crate) fn atom_of(
     Ok(Some(atom))
 }
 
-// A reserved word or a simple symbol.
+// The reserved word or the simple symbol of these bytes. The call empties the vector.
 fn name_of(alloc: Global, bytes: &mut Vec<u8>) -> Result<Tree, AllocError>
     ensures atom { IfOk result
         (λ tree. sexp_of tree ≡ machine.name_or_word (machine.word_named bytes.old.items) bytes.old.items) }
@@ -326,7 +327,7 @@ fn name_of(alloc: Global, bytes: &mut Vec<u8>) -> Result<Tree, AllocError>
     }
 }
 
-/// How many bytes at the beginning of a text belong to a comment that has begun.
+/// The number of bytes at the beginning of a text that belong to a comment that has begun.
 pub(crate) fn comment_length(text: &[u8]) -> usize
     ensures within { result ≤ length text.now }
     ensures skipped { (k : ℕ) → k < result → machine.lex InComment (slice_index text.now k) ≡ Skip InComment }

@@ -1,14 +1,15 @@
 //! Text of the SMT-LIB language (SMT-LIB 2.6, sections 3.1 and 3.2): bytes in, S-expressions out.
 //!
-//! A [`Reader`] is fed a text in pieces of any size. It hands out the trees of the text in order, each as
-//! soon as nothing that may still come can change it, and then the fault of the text, if it has one, with its
-//! place in bytes from 0. [`read_trees`] does the same for a text that is at hand as a whole.
+//! A [`Reader`] is fed a text in pieces of any size. It returns the trees of the text in order, each as soon
+//! as no later byte can change it. Then it returns the fault of the text, if it has one, with its place in
+//! bytes from 0. [`read_trees`] does the same for a text that is at hand as a whole.
 //!
-//! The contract that the layer above uses is `Reader::next`'s: the trees that were handed out are the first
-//! ones of what is read of the bytes that were fed (`Reads` in `specs/Reading.antt`), and the answer is the
-//! next one, the fault behind them, or that there is none, however the text was cut. What a text means is in
-//! `specs/Grammar.antt` and speaks of whole texts, without a state: tokens and gaps in turn. `laws` has what
-//! follows from the definitions alone, and examples of them.
+//! The layer above uses the contract of `Reader::next`. The trees returned so far are the first ones that are
+//! read of the bytes fed (`Reads` in `specs/Reading.antt`). The answer is the next tree, or the fault after
+//! them, or that there is none, however the text was cut.
+//!
+//! `specs/Grammar.antt` says what a text means. It speaks of whole texts, as tokens and gaps in turn, without
+//! a state. `laws` holds what follows from the definitions alone, and examples of them.
 //!
 //! A reader of a text in two pieces, cut inside a name:
 //!

@@ -31,30 +31,30 @@ use smt_trees::{Bytes, Tree, Trees};
 use std::alloc::Global;
 use std::mem;
 
-/// How deep lists may nest, a list at the top being at depth 1.
+/// The greatest depth of nested lists. A list at the top is at depth 1.
 pub const MAX_DEPTH: usize = 1000;
 
-/// What a reader has to hand out.
+/// What a reader returns: the next tree, or why there is none.
 #[derive(Drop)]
 pub enum Next {
     /// The next tree, in the order of the text.
     Tree(Tree),
     /// No complete tree is left, and more bytes may come.
     Wait,
-    /// The text has ended, without a fault, and no tree is left.
+    /// The text has ended without a fault, and no tree is left.
     End,
-    /// No tree is left before the fault. It is told again for good.
+    /// No tree is left before the fault. Each later call returns it again.
     Fault(TextFault),
 }
 
-/// A reader of a text (SMT-LIB 2.6, sections 3.1 and 3.2) that comes in pieces. Lists nest at most 1,000
+/// A reader of a text that comes in pieces (SMT-LIB 2.6, sections 3.1 and 3.2). Lists nest at most 1,000
 /// deep.
 #[derive(Drop)]
 pub struct Reader {
     alloc: Global,
     fed: u64,
     finished: bool,
-    /// Where in a token the text is, and what the token says so far.
+    /// Where in a token the text is, and the bytes of the token so far.
     token: AtomState,
     bytes: Vec<u8>,
     builder: Builder,
@@ -62,7 +62,7 @@ pub struct Reader {
 }
 
 impl Reader {
-    /// A reader that nothing was fed.
+    /// A reader that has been fed nothing.
     pub fn new(alloc: Global) -> Self
         ensures stands { StandsFor result [] Nil }
         ensures finished { is_finished result ≡ false }
@@ -80,7 +80,8 @@ impl Reader {
         }
     }
 
-    /// Reads the next piece of the text, of any length. After a fault it is only counted.
+    /// Reads the next piece of the text, of any length, before `finish`. After a fault it only counts the
+    /// bytes.
     pub fn feed(&mut self, piece: &[u8])
         requires unfinished { is_finished self.old ≡ false }
         requires room { bytes_fed self.old + length piece.now < 2 ^ 64 }
@@ -96,7 +97,7 @@ impl Reader {
         self.fed += piece.len() as u64;
     }
 
-    /// How many bytes were fed.
+    /// The number of bytes fed so far, those after a fault among them.
     pub fn fed(&self) -> u64
         ensures count { result ≡ bytes_fed self.now }
         ensures stands { (fed : List ℕ) (taken : Sexps) → StandsFor self.now fed taken → result ≡ length fed }
@@ -104,7 +105,7 @@ impl Reader {
         self.fed
     }
 
-    /// Tells that the text has ended.
+    /// Ends the text: no more bytes come.
     pub fn finish(&mut self)
         requires unfinished { is_finished self.old ≡ false }
         ensures stands { (fed : List ℕ) (taken : Sexps) → StandsFor self.old fed taken
@@ -119,7 +120,7 @@ impl Reader {
         }
     }
 
-    /// Hands out the next tree, or tells why there is none.
+    /// Returns the next tree, or why there is none. Once memory was refused, each call returns that fault.
     pub fn next(&mut self) -> Next
         ensures right { (fed : List ℕ) (taken : Sexps) → StandsFor self.old fed taken
             → Answers (is_finished self.old) fed taken result }
@@ -145,7 +146,7 @@ impl Reader {
         }
     }
 
-    // Memory was refused.
+    // Whether memory was refused.
     fn is_refused(&self) -> bool
         ensures { MatchBool result (self.now.failure ≡ Some failures.Memory)
             (self.now.failure ≢ Some failures.Memory) }
@@ -153,7 +154,7 @@ impl Reader {
         matches!(self.failure, Some(Failure::Memory))
     }
 
-    // Reads a piece, while nothing has failed.
+    // Reads a piece, where nothing has failed before.
     fn read(&mut self, piece: &[u8]) -> Result<(), Failure<TextFlaw>>
         requires { self.old.fed + length piece.now < 2 ^ 64 }
         ensures beside { IsBeside self.old self.new }
@@ -172,7 +173,7 @@ impl Reader {
         Ok(())
     }
 
-    // Reads some bytes of a text that is not empty.
+    // Reads some bytes of a text that is not empty, and returns how many.
     fn read_some(&mut self, text: &[u8]) -> Result<usize, Failure<Refusal>>
         requires { 0 < length text.now }
         ensures beside { IsBeside self.old self.new }
@@ -200,7 +201,7 @@ impl Reader {
         Ok(count)
     }
 
-    // Reads the tokens that end at the beginning of a text, and the white space between them.
+    // Reads the tokens that end within a text, from its beginning on, and the white space between them.
     fn read_tokens(&mut self, text: &[u8]) -> Result<usize, Memory>
         requires token { self.old.token ≡ Nothing }
         requires bytes { self.old.bytes.items ≡ [] }
@@ -219,7 +220,7 @@ impl Reader {
     }
 
     // Reads an atom that ends, a parenthesis or white space at the beginning of a text that is not empty. It
-    // reads nothing where something else stands there, or one that comes seldom.
+    // reads nothing where something else is there, or something rare.
     #[inline(always)]
     fn read_token(&mut self, text: &[u8]) -> Result<usize, Memory>
         requires some { 0 < length text.now }
@@ -245,7 +246,7 @@ impl Reader {
         }
     }
 
-    // Reads a literal of a bit vector, and the byte behind it, where that ends it.
+    // Reads a literal of a bit vector, and the byte after it, where that ends it.
     #[inline(always)]
     fn read_literal(&mut self, text: &[u8]) -> Result<usize, Memory>
         requires some { 0 < length text.now }
@@ -262,8 +263,8 @@ impl Reader {
         }
     }
 
-    // Reads an atom whose bytes stand behind a mark of so many, and the byte behind it, where that ends it. So
-    // many of its bytes are known to be kept: they are not looked at again.
+    // Reads an atom whose bytes come after a mark of this length, and the byte after it, where that ends it.
+    // The first `known` bytes are known to be kept, and are not looked at again.
     #[inline(always)]
     fn read_atom(
         &mut self,
@@ -297,7 +298,7 @@ impl Reader {
         Ok(end + 1)
     }
 
-    // Adds the atom that a token which says so many bytes at the beginning of a text is, if it is one.
+    // Adds the atom that a token of the first `count` bytes of a text is, if it is one.
     #[inline(always)]
     fn add_atom(&mut self, token: AtomState, text: &[u8], count: usize) -> Result<(), Memory>
         requires { count ≤ length text.now }
@@ -325,7 +326,7 @@ impl Reader {
         }
     }
 
-    // Adds the reserved word or the simple symbol of so many bytes at the beginning of a text.
+    // Adds the reserved word or the simple symbol that the first `count` bytes of a text spell.
     #[inline(always)]
     fn add_name(&mut self, text: &[u8], count: usize) -> Result<(), Memory>
         requires { count ≤ length text.now }
@@ -344,7 +345,7 @@ impl Reader {
         }
     }
 
-    // Adds the atom of another token.
+    // Adds the atom of any other token.
     fn add_other(&mut self, token: AtomState, text: &[u8], count: usize) -> Result<(), Memory>
         requires { count ≤ length text.now }
         ensures beside { IsBeside self.old self.new }
@@ -398,7 +399,7 @@ impl Reader {
         Ok(1)
     }
 
-    // One byte, while nothing has failed.
+    // Reads one byte, where nothing has failed before.
     fn advance(&mut self, byte: u8) -> Result<(), Failure<Refusal>>
         ensures beside { IsBeside self.old self.new }
         ensures goes { Goes (step MAX_DEPTH (state_of self.old) byte) (refusal_of (lex self.old.token byte))
@@ -424,7 +425,7 @@ impl Reader {
         }
     }
 
-    // The token that has begun ends here, and a list begins.
+    // Ends the token that has begun, and begins a list.
     fn begin_list(&mut self) -> Result<(), Failure<Refusal>>
         ensures beside { IsBeside self.old self.new }
         ensures goes { Goes (settle (act MAX_DEPTH OpenParenthesis (flush (state_of self.old)))) TooDeep
@@ -438,7 +439,7 @@ impl Reader {
         Ok(())
     }
 
-    // The token that has begun ends here, and so does the innermost list.
+    // Ends the token that has begun, and the innermost list.
     fn end_list(&mut self) -> Result<(), Failure<Refusal>>
         ensures beside { IsBeside self.old self.new }
         ensures goes { Goes (settle (act MAX_DEPTH CloseParenthesis (flush (state_of self.old)))) Unfit
@@ -452,7 +453,7 @@ impl Reader {
         Ok(())
     }
 
-    // Adds the atom that has begun, if one has, which ends here.
+    // Ends the token that has begun, and adds its atom, if it has one.
     fn finish_token(&mut self, next: AtomState) -> Result<(), Memory>
         ensures beside { IsBeside self.old self.new }
         ensures finished { IfOk result (λ _. finished next (state_of self.old) ≡ state_of self.new) }
@@ -477,7 +478,7 @@ impl Reader {
     }
 }
 
-/// The trees of a whole text, or its fault.
+/// The trees of a whole text; or its fault, or want of memory.
 pub fn read_trees(alloc: Global, text: &[u8]) -> Result<Trees, TextFault>
     ensures { MatchResult result (λ trees. Reads max_depth true text.now trees None)
         (λ fault. (flaw : TextFlaw) → flaw_in fault ≡ Some flaw

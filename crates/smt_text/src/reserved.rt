@@ -1,5 +1,5 @@
-//! Which reserved word some bytes spell. Candidates are told by their length and first byte, as each symbol
-//! of a text is asked; this file knows no text.
+//! The reserved word that some bytes spell. Length and first byte select the candidates, since every symbol
+//! of a text is looked up. This file knows no text.
 
 ghost use Rattle.std.specs.Prelude.{◌≡◌, ◌≢◌, MatchOption};
 ghost use Rattle.smt_text.specs.Internal.LexerStates as machine;
@@ -9,7 +9,7 @@ ghost use Rattle.smt_trees.specs.declared.reserved.Word.{Word};
 
 use smt_trees::{Word, spelling};
 
-// The reserved words that are written with so many bytes and begin with this one.
+// The reserved words of this length that begin with this byte.
 #[inline(always)]
 fn words_like(length: usize, first: u8) -> &'static [Word]
     ensures { result.now ≡ machine.words_like length first }
@@ -55,7 +55,7 @@ fn words_like(length: usize, first: u8) -> &'static [Word]
     }
 }
 
-/// The reserved word that is written so, if there is one.
+/// The reserved word of this spelling, if there is one.
 #[inline(always)]
 pub(crate) fn word_of(bytes: &[u8]) -> Option<Word>
     ensures named { result ≡ word_named bytes.now }

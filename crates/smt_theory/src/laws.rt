@@ -1,4 +1,4 @@
-//! What holds of the definitions that the contracts name. Nothing here does anything: each contract is a law.
+//! Laws of the definitions that the contracts name. Nothing here does anything: each contract is a law.
 
 pub mod names;
 
@@ -12,25 +12,30 @@ ghost use Rattle.smt_theory.specs.declared.op.OpFault.TheVariants.{Index, Unknow
 ghost use Rattle.smt_theory.specs.declared.sort.Sort.{Sort};
 ghost use Rattle.smt_theory.specs.declared.theories.Theories.{Theories};
 
-/// An operator has a result's sort for arguments of given sorts exactly where the table has it, and no second
-/// one.
+/// An operator has a result's sort for arguments of given sorts exactly where the table has it, and it has at
+/// most one.
 pub fn ranks_are_the_table()
     ensures computed { (op : Op) (args : List Sort) (sort : Sort) → (rank_of op args ≡ Some sort)
         ↔ HasRank op args sort }
     ensures one { (op : Op) (args : List Sort) (a b : Sort) → HasRank op args a → HasRank op args b → a ≡ b }
 {}
 
-/// A symbol with indexes is an operator exactly where the symbol is the operator's own name, the indexes are
-/// its own, and the operator is one of the theories.
+/// A symbol with indexes names an operator exactly where the symbol is the operator's own name, the indexes
+/// are its own, and the operator is one of the theories.
 pub fn operators_are_found_by_their_names()
     ensures { (theories : Theories) (symbol : List ℕ) (indexes : List IndexView) (op : Op)
         → (op_by theories symbol indexes ≡ Ok op) ↔ IsOperatorBy theories symbol indexes op }
 {}
 
-/// The indexes are at fault exactly where there are some, the symbol is the name of an indexed operator of
-/// the theories, and none of that name has these. The symbol is unknown exactly where no operator of the
-/// theories has the name: no plain one, or, with indexes, no indexed one. A name is one whatever the
-/// operator's indexes are, so `bvX` is for each numeral X (SMT-LIB 2.6, logic QF_BV).
+/// Which fault an identifier has that names no operator: its indexes are wrong, or its symbol is unknown
+/// (SMT-LIB 2.6, logic QF_BV).
+///
+/// - The indexes are wrong exactly where there are some, the symbol names an indexed operator of the
+///   theories, and no operator of that name has these indexes.
+/// - The symbol is unknown exactly where no operator of the theories has the name: no plain one where there
+///   are no indexes, no indexed one where there are some.
+///
+/// Whether a symbol is a name does not depend on the indexes: `bvX` is one for each numeral X.
 pub fn faults_of_operators_are_told_apart()
     ensures index { (theories : Theories) (symbol : List ℕ) (indexes : List IndexView)
         → (op_by theories symbol indexes ≡ Err Index)
@@ -42,7 +47,7 @@ pub fn faults_of_operators_are_told_apart()
         → (op_by theories symbol (first ∷ rest) ≡ Err Unknown) ↔ ¬ IsIndexedName theories symbol }
 {}
 
-/// Two sorts are the same exactly where the test says so.
+/// Two sorts are the same exactly where the comparison says so.
 pub fn sorts_are_compared()
     ensures { (a b : Sort) → IsTrue (is_same_sort a b) ↔ (a ≡ b) }
 {}

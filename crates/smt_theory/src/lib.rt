@@ -3,15 +3,15 @@
 //! The theories are Core, Ints and FixedSizeBitVectors, the last with the operators that the logic QF_BV
 //! adds. Bit vectors are up to 128 bits wide.
 //!
-//! A logic has theories in a profile of the language (`theories_of`), a symbol with its indexes is an operator
-//! of theories (`op_of`), and an operator has a result's sort for the sorts of its arguments (`rank`). Nothing
-//! here allocates, or knows a text or a value.
+//! `theories_of` finds the theories of a logic in a profile of the language. `op_of` finds the operator that
+//! a symbol with its indexes names in theories. `rank` gives the sort of an operator's result for the sorts
+//! of its arguments. Nothing here allocates, or knows a text or a value.
 //!
 //! **The contract for the layer above**: `rank` gives a sort exactly where the table of ranks, `HasRank` of
 //! `specs/Ranks.antt`, has the operator with these arguments and that result. The table has one line for each
 //! row of the standard's theory files.
 //!
-//! A call, of `(< 1 2 3)` in the logic `QF_LIA`:
+//! A call, for `(< 1 2 3)` in the logic `QF_LIA`:
 //!
 //! ```text
 //! let theories = theories_of(Profile::Base, b"QF_LIA")?;                    // Core and Ints

@@ -7,8 +7,10 @@ ghost use Rattle.std.specs.Str.Parse.{digits_value};
 ghost use Rattle.smt_theory.specs.Numbers.{below_word};
 ghost use Rattle.smt_theory.specs.Numbers as numbers;
 
-/// The number that digits spell in a base; `None` where it is 2^128 or more. Digits from ten on are letters
-/// of either case, leading zeros change nothing, and what comes of other bytes is of no interest.
+/// The number that digits spell in a base; `None` where it is 2^128 or more.
+///
+/// Digits from ten on are letters of either case. Leading zeros change nothing. Any other byte counts as the
+/// digit 36.
 pub fn number(base: u8, digits: &[u8]) -> Option<u128>
     requires { 0 < base }
     ensures { result ≡ below_word (digits_value base digits.now) }
@@ -19,7 +21,8 @@ pub fn number(base: u8, digits: &[u8]) -> Option<u128>
     }
 }
 
-// The number in 64 bits, where it fits these: most numbers do, and a digit takes half the time there.
+// The number, computed in 64 bits; `None` where it does not fit. Most numbers fit, and a digit takes half the
+// time there.
 fn short_number(base: u8, digits: &[u8]) -> Option<u64>
     requires { 0 < base }
     ensures same { IfSome result (λ n. n ≡ digits_value base digits.now) }
@@ -41,7 +44,7 @@ fn with_short_digit(base: u8, value: u64, byte: u8) -> Option<u64>
         .checked_add(u64::from(digit(byte)))
 }
 
-// The number in 128 bits.
+// The number, computed in 128 bits; `None` where it does not fit.
 fn long_number(base: u8, digits: &[u8]) -> Option<u128>
     requires { 0 < base }
     ensures { result ≡ below_word (digits_value base digits.now) }
@@ -61,7 +64,7 @@ fn with_digit(base: u8, value: u128, byte: u8) -> Option<u128>
         .checked_add(u128::from(digit(byte)))
 }
 
-/// The value of a digit, or of a letter, from 10 on; 36 of other bytes.
+/// The value of a decimal digit, or of a letter of either case, from 10 on; 36 for other bytes.
 pub fn digit(byte: u8) -> u8
     ensures { result ≡ digit_value byte }
 {
@@ -73,7 +76,8 @@ pub fn digit(byte: u8) -> u8
     }
 }
 
-/// Whether these bytes are a numeral: `0`, or decimal digits that do not begin with `0`.
+/// Whether these bytes are a numeral: `0`, or decimal digits that do not begin with `0` (SMT-LIB 2.6, section
+/// 3.1).
 pub(crate) fn is_numeral(bytes: &[u8]) -> bool
     ensures { result ≡ numbers.is_numeral bytes.now }
 {

@@ -1,5 +1,5 @@
-//! Operators, by the theory that they are of, and why an identifier is none. This file finds no operator by
-//! its name, and gives none a rank.
+//! Operators by theory, and why an identifier is none. This file finds no operator by its name, and gives
+//! none a rank.
 
 mod bits_names;
 pub(crate) mod names;
@@ -42,21 +42,21 @@ pub enum IntsOp {
     Comparison(Comparison),
     Mod,
     Abs,
-    /// `(_ divisible n)`; an operator for n from 1 on.
+    /// `(_ divisible n)`: an operator where n is 1 or more.
     Divisible(u64),
 }
 
-/// The operators on integers that are applied from the left.
+/// An operator on integers that is applied from the left.
 #[derive(Clone, Copy)]
 pub enum Arithmetic {
-    /// `-`, of one argument its negation.
+    /// `-`, which negates where it has one argument.
     Minus,
     Plus,
     Times,
     Div,
 }
 
-/// The relations on integers that are chained.
+/// A relation on integers that is chained.
 #[derive(Clone, Copy)]
 pub enum Comparison {
     /// `<=`
@@ -83,7 +83,7 @@ pub enum BitsOp {
     Comparison(BitsComparison),
     /// `bvcomp`
     Comp,
-    /// `(_ repeat i)`; an operator for i from 1 on.
+    /// `(_ repeat i)`: an operator where i is 1 or more.
     Repeat(u64),
     /// `(_ zero_extend i)`
     ZeroExtend(u64),
@@ -95,7 +95,7 @@ pub enum BitsOp {
     RotateRight(u64),
 }
 
-/// The operators on one bit vector.
+/// An operator on one bit vector.
 #[derive(Clone, Copy)]
 pub enum BitsUnary {
     /// `bvnot`
@@ -104,7 +104,7 @@ pub enum BitsUnary {
     Negate,
 }
 
-/// The operators on bit vectors that are applied from the left, to two or more.
+/// An operator on two or more bit vectors that is applied from the left.
 #[derive(Clone, Copy)]
 pub enum BitsFolded {
     /// `bvand`
@@ -119,7 +119,7 @@ pub enum BitsFolded {
     Multiply,
 }
 
-/// The operators on two bit vectors that give a third.
+/// An operator on two bit vectors whose result is a bit vector.
 #[derive(Clone, Copy)]
 pub enum BitsBinary {
     /// `bvnand`
@@ -148,7 +148,7 @@ pub enum BitsBinary {
     ShiftRightSigned,
 }
 
-/// The relations on two bit vectors.
+/// A relation on two bit vectors.
 #[derive(Clone, Copy)]
 pub enum BitsComparison {
     /// `bvult`
@@ -169,12 +169,13 @@ pub enum BitsComparison {
     SignedAtLeast,
 }
 
-/// Why an identifier is no operator.
+/// Why an identifier names no operator.
 #[derive(Clone, Copy, Debug)]
 pub enum OpFault {
-    /// No operator has that name in that form: plain where there is no index, indexed where there is one.
+    /// No operator has that name in that form: plain where there are no indexes, indexed where there are
+    /// some.
     Unknown,
-    /// The name is an indexed operator's, and the indexes are wrong in number, kind or range.
+    /// The name is that of an indexed operator, and the indexes are wrong in number, kind or range.
     Index,
 }
 

@@ -29,7 +29,7 @@ pub fn rank(op: Op, args: &[Sort]) -> Option<Sort>
     }
 }
 
-/// The same of an operator that holds no number, which takes less time.
+/// The same sort as `rank` gives, for an operator that holds no number; it takes less time.
 #[inline(always)]
 pub fn plain_rank(op: PlainOp, args: &[Sort]) -> Option<Sort>
     ensures { result ≡ rank_of (op_of_plain op) args.now }
@@ -100,7 +100,7 @@ fn rank_of_choice(args: &[Sort]) -> Option<Sort>
     }
 }
 
-// Whether the sorts are these.
+// Whether the arguments have exactly these sorts, in order.
 #[inline(always)]
 pub(crate) fn are(args: &[Sort], sorts: &[Sort]) -> bool
     ensures { result ≡ are_exactly sorts.now args.now }

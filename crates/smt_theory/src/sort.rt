@@ -2,11 +2,9 @@
 
 use crate::width::Width;
 
-/// A sort of the theories (SMT-LIB 2.6, theories Core, Ints and FixedSizeBitVectors). The default means
-/// nothing: small vectors ask for one.
-#[derive(Clone, Copy, PartialEq, Eq, Default)]
+/// A sort of the theories (SMT-LIB 2.6, theories Core, Ints and FixedSizeBitVectors).
+#[derive(Clone, Copy, PartialEq, Eq)]
 pub enum Sort {
-    #[default]
     Bool,
     Int,
     /// `(_ BitVec n)`.

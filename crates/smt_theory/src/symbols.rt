@@ -1,4 +1,4 @@
-//! Comparison of symbols with words. This file knows no operator and no logic, which are both found by it.
+//! Comparison of symbols with words. This file knows no operator and no logic.
 
 ghost use Rattle.std.specs.Prelude.{◌≡◌, bytes_eq, get_or};
 
@@ -10,7 +10,7 @@ pub(crate) fn is_named(symbol: &[u8], word: &[u8]) -> bool
     symbol == word
 }
 
-/// The byte at a place of the symbol; 0 behind its end.
+/// The byte at a place of the symbol, from 0; 0 after its end.
 #[inline(always)]
 pub(crate) fn byte_at(symbol: &[u8], place: usize) -> u8
     ensures { result ≡ get_or symbol.now place 0 }

@@ -8,22 +8,22 @@ use crate::profile::Profile;
 use crate::symbols::is_named;
 use crate::wide::wide_theories_of;
 
-/// The theories that a logic has besides Core.
+/// The theories of a logic besides Core.
 #[derive(Clone, Copy)]
 pub struct Theories {
     /// The theory Ints.
     pub ints: bool,
-    /// The theory FixedSizeBitVectors with the operators of the logic QF_BV.
+    /// The theory FixedSizeBitVectors, with the operators of the logic QF_BV.
     pub bits: bool,
-    /// The theory Reals, with Ints Reals_Ints; in the wide profile alone.
+    /// The theory Reals, and Reals_Ints where Ints is there too; only in the wide profile.
     pub reals: bool,
-    /// The theory ArraysEx; in the wide profile alone.
+    /// The theory ArraysEx; only in the wide profile.
     pub arrays: bool,
     /// Whether the profile is the wide one.
     pub wide: bool,
 }
 
-/// All theories of a profile: those before a logic is set.
+/// All theories of a profile: those in force before a logic is set.
 pub fn all_theories(profile: Profile) -> Theories
     ensures { result ≡ specs.all_theories profile }
 {
@@ -39,9 +39,11 @@ pub fn all_theories(profile: Profile) -> Theories
     }
 }
 
-/// The theories of the logic of this name in a profile; `None` where it is not supported. Which logics are
-/// supported is this project's own choice, and a logic chooses theories alone: `ALL` is all that there are.
-/// In the wide profile the names with and without `QF_` are one logic.
+/// The theories of the logic of this name in a profile; `None` where the logic is not supported.
+///
+/// Which logics are supported is this project's own choice. A logic chooses theories and restricts nothing
+/// else; `ALL` has all theories of the profile. In the wide profile a name means the same with and without
+/// `QF_`.
 pub fn theories_of(profile: Profile, logic: &[u8]) -> Option<Theories>
     ensures { result ≡ theories_named profile logic.now }
 {

@@ -7,7 +7,7 @@ ghost use Rattle.smt_theory.specs.Theories as specs;
 use crate::symbols::is_named;
 use crate::theories::Theories;
 
-/// The theories of the logic of this name in the wide profile.
+/// The theories of the logic of this name in the wide profile; `None` where the logic is not supported.
 pub(crate) fn wide_theories_of(logic: &[u8]) -> Option<Theories>
     ensures { result ≡ specs.first_with specs.wide_logics (specs.without_letters logic.now) }
 {
@@ -43,7 +43,7 @@ pub(crate) fn wide_theories_of(logic: &[u8]) -> Option<Theories>
     }
 }
 
-// The name without a `QF_` at its front.
+// The name without a leading `QF_`.
 fn without_letters(logic: &[u8]) -> &[u8]
     ensures { result.now ≡ specs.without_letters logic.now }
 {
@@ -53,7 +53,7 @@ fn without_letters(logic: &[u8]) -> &[u8]
     }
 }
 
-// Arrays, bit vectors, integers and reals by the letters A, B, I and R.
+// The theories by letters: A for arrays, B for bit vectors, I for integers and R for reals.
 fn theories_by(letters: &[u8]) -> Theories
     ensures { result ≡ specs.theories_by letters.now }
 {

@@ -25,7 +25,7 @@ impl Model for Width {
 }
 
 impl Width {
-    /// The width of so many bits; `None` for 0 and above 128.
+    /// The width of this many bits; `None` for 0 and for more than 128.
     pub fn new(bits: u64) -> Option<Width>
         ensures { result ≡ width_of bits }
     {
@@ -36,7 +36,7 @@ impl Width {
         }
     }
 
-    /// How many bits it has, 1 to 128.
+    /// The number of bits, 1 to 128.
     pub fn bits(self) -> u64
         ensures value { result ≡ self }
         ensures some { 1 ≤ result }
@@ -45,7 +45,7 @@ impl Width {
         u64::from(self.bits)
     }
 
-    /// Whether so many bits can hold this number.
+    /// Whether this number fits in as many bits.
     pub(crate) fn holds(self, number: u128) -> bool
         ensures { result ≡ nat_lt number (2 ^ self) }
     {

@@ -1,4 +1,5 @@
-//! The bytes of an atom, of which few need no memory of their own. This file knows no kind of atom.
+//! The bytes of an atom, which need no memory of their own where they are few. This file knows no kind of
+//! atom.
 
 ghost use Rattle.std.specs.Prelude.{◌≡◌, ◌≤◌, ℕ, List, [], IfOk, IfSome, length, take};
 
@@ -6,7 +7,7 @@ use std::alloc::{AllocError, Global};
 use std::marker::Model;
 use std::mem;
 
-/// How many bytes are kept without memory of their own.
+/// The greatest number of bytes that are kept without memory of their own.
 const SHORT: usize = 22;
 
 /// Bytes of an atom. A contract sees them as the list of the bytes.
@@ -15,7 +16,7 @@ pub struct Bytes {
     kept: Kept,
 }
 
-// A `Bytes` has 24 bytes either way. Behind the short ones stand others, which mean nothing.
+// A `Bytes` has 24 bytes either way. Those after the bytes of a short atom mean nothing.
 #[derive(Drop)]
 enum Kept {
     Short(u8, [u8; SHORT]),
@@ -33,7 +34,7 @@ impl Model for Bytes {
 }
 
 impl Bytes {
-    /// A copy of bytes.
+    /// A copy of these bytes.
     pub fn new(alloc: Global, bytes: &[u8]) -> Result<Self, AllocError>
         ensures { IfOk result (λ b. b ≡ bytes.now) }
     {
@@ -59,8 +60,8 @@ impl Bytes {
         })
     }
 
-    /// The bytes of a vector, which is empty then. Many bytes are not copied, and few leave the vector its
-    /// memory.
+    /// The bytes of a vector, which the call empties. It does not copy many bytes; where they are few, the
+    /// vector keeps its memory.
     pub fn taken_from(alloc: Global, bytes: &mut Vec<u8>) -> Result<Self, AllocError>
         ensures taken { IfOk result (λ b. b ≡ bytes.old.items) }
         ensures emptied { IfOk result (λ b. bytes.new.items ≡ []) }
@@ -91,7 +92,7 @@ impl Bytes {
         }
     }
 
-    /// A copy of the bytes that allocates nothing, if they are few.
+    /// A copy of the bytes that allocates nothing; `None` where they are too many for that.
     #[inline(always)]
     pub(crate) fn short_copy(&self) -> Option<Bytes>
         ensures { IfSome result (λ b. b ≡ self.now) }
@@ -104,7 +105,7 @@ impl Bytes {
         }
     }
 
-    /// A copy of the bytes, of its own memory.
+    /// A copy of the bytes, with memory of its own.
     pub fn copy(&self, alloc: Global) -> Result<Bytes, AllocError>
         ensures { IfOk result (λ b. b ≡ self.now) }
     {
@@ -115,7 +116,7 @@ impl Bytes {
     }
 }
 
-// The bytes of a text that is not so long, and zeros.
+// The bytes of a text of at most `SHORT` bytes, and zeros after them.
 fn padded(text: &[u8]) -> [u8; SHORT]
     requires { length text.now ≤ SHORT }
     ensures { take (length text.now) result ≡ text.now }

@@ -1,13 +1,13 @@
-//! S-expressions (SMT-LIB 2.6, section 3.2): the trees that a text is read as, and that a term, a command, a
-//! model and an answer are. This crate knows no text and no meaning.
+//! S-expressions, the trees that texts, terms, commands, models and answers are made of (SMT-LIB 2.6, section
+//! 3.2). This crate knows no text and no meaning.
 //!
 //! A [`Tree`] is an atom, a reserved word or a list of trees. A contract sees it as the S-expression that it
 //! is (`sexp_of` in `specs/Tree.antt`, over `Sexp` in `specs/Sexp.antt`), and the layers above match on it.
 //!
-//! A call, of the trees of `(assert p)`:
+//! A call, on the trees of `(assert p)`:
 //!
 //! ```text
-//! let (word, rest) = split_first(trees)?;         // the word `assert`, and the trees behind it
+//! let (word, rest) = split_first(trees)?;         // the word `assert`, and the trees after it
 //! rest[0].is_symbol(b"p")                         // true
 //! ```
 #![tactic(auto)]

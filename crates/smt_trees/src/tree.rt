@@ -1,4 +1,4 @@
-//! S-expressions, as the reader hands them out. This file reads no text, and knows no term.
+//! S-expressions, as the reader returns them. This file reads no text, and knows no term.
 
 ghost use Rattle.std.specs.Prelude.{◌≡◌, IfOk, IfSome, MatchOption};
 ghost use Rattle.smt_trees.specs.Sexp as sexp;
@@ -32,7 +32,7 @@ pub enum Tree {
     List(Trees),
 }
 
-/// S-expressions side by side. A contract sees them as the list of S-expressions that they are.
+/// S-expressions in order. A contract sees them as the list of S-expressions that they are.
 #[cycle(tree)]
 pub struct Trees {
     items: Vec<Tree>,
@@ -60,7 +60,7 @@ impl Model for Trees {
 }
 
 impl Drop for Trees {
-    // Apart from the drop of a tree, which an atom goes through in a few steps.
+    // This is kept apart from the drop of a tree, so that an atom is dropped in a few steps.
     #[inline(never)]
     #[cycle(tree)]
     fn drop(self) {
@@ -69,7 +69,7 @@ impl Drop for Trees {
 }
 
 impl Trees {
-    /// The trees of a vector; nothing is allocated.
+    /// The trees of a vector. Nothing is allocated.
     pub fn new(items: Vec<Tree>) -> Self
         ensures { result ≡ sexps_of items.items }
     {
@@ -83,7 +83,7 @@ impl Trees {
         self.items.as_slice()
     }
 
-    /// The vector of these trees; nothing is allocated.
+    /// The vector of these trees. Nothing is allocated.
     pub fn into_vec(self) -> Vec<Tree>
         ensures { sexps_of result.items ≡ self }
     {
@@ -91,7 +91,7 @@ impl Trees {
         items
     }
 
-    /// A copy of the trees, of its own memory.
+    /// A copy of the trees, with memory of its own.
     #[cycle(copy)]
     pub fn copy(&self, alloc: Global) -> Result<Trees, AllocError>
         ensures { IfOk result (λ ts. ts ≡ self.now) }
@@ -119,7 +119,7 @@ impl Tree {
         }
     }
 
-    /// A copy of the tree, of its own memory.
+    /// A copy of the tree, with memory of its own.
     #[cycle(copy)]
     pub fn copy(&self, alloc: Global) -> Result<Tree, AllocError>
         ensures { IfOk result (λ t. sexp_of t ≡ sexp_of self.now) }
@@ -138,7 +138,7 @@ impl Tree {
     }
 }
 
-// A copy of a tree that is a short symbol.
+// A copy of a tree that is a short symbol; `None` for any other tree.
 #[inline(always)]
 fn short_symbol(tree: &Tree) -> Option<Tree>
     ensures { IfSome result (λ t. sexp_of t ≡ sexp_of tree.now) }
@@ -149,7 +149,7 @@ fn short_symbol(tree: &Tree) -> Option<Tree>
     }
 }
 
-/// The first of some trees and those after it, if there is one.
+/// The first of these trees and the trees after it; `None` where there are no trees.
 pub fn split_first(trees: &[Tree]) -> Option<(&Tree, &[Tree])>
     ensures { MatchOption result (sexps_of trees.now ≡ Nil)
         (λ p. sexps_of trees.now ≡ Cons (sexp_of p.0.now) (sexps_of p.1.now)) }

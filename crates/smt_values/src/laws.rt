@@ -1,5 +1,5 @@
-//! What holds of the definitions that the contracts name. Nothing here does anything: each contract is a law,
-//! and a body calls only the laws that it rests on.
+//! Laws of the definitions that the contracts name. Nothing here does anything: each contract is a law, and a
+//! body calls only the laws that it rests on.
 
 pub mod connectives;
 pub mod known;
@@ -29,9 +29,9 @@ pub fn known_results_are_true()
         → AllAgree knowns args → Agrees (known_step op knowns) (operate z op args) }
 {}
 
-/// Over arguments that are all known, of sorts that the operator has a rank for, only an integer may stay
-/// open, and only of operators of theory Ints: every result of another sort is known, every one of arguments
-/// without an integer, and every one of theory Core.
+/// Over known arguments, of sorts that the operator has a rank for, only an integer may stay open, and only
+/// for an operator of the theory Ints. A result is known where its sort is another, where no argument is an
+/// integer, and for each operator of the theory Core.
 pub fn known_arguments_give_known_results()
     ensures other_sorts { (op : Op) (sorts : List Sort) (sort : Sort) (args : List Element)
         → HasRank op sorts sort → AreOfSorts sorts args → sort ≢ Int
@@ -44,7 +44,7 @@ pub fn known_arguments_give_known_results()
         → IsSome (known_step (Core op) (map Some args)) }
 {}
 
-/// An operator that has a rank gives an element of the rank's sort for arguments of the rank's sorts.
+/// An operator gives an element of its rank's sort for arguments of the rank's sorts.
 pub fn results_are_of_their_sorts()
     ensures { (z : DivisionByZero) (op : Op) (sorts : List Sort) (sort : Sort) (args : List Element)
         → HasRank op sorts sort → AreOfSorts sorts args → IsOfSort sort (operate z op args) }
@@ -56,7 +56,7 @@ pub fn results_are_of_their_sorts()
     signed::signed_fits();
 }
 
-/// `div` and `mod` by a number that is not 0 are the one quotient and the one remainder with `a = n * q + r`
+/// `div` and `mod` by n, if n is not 0, give the one quotient q and the one remainder r with `a = n * q + r`
 /// and `0 <= r < |n|` (SMT-LIB 2.6, theory Ints).
 pub fn division_is_by_the_law()
     ensures exact { (z : DivisionByZero) (a n : ℤ) → n ≢ pos 0 → a ≡ n *ℤ quotient z a n +ℤ remainder z a n }
@@ -67,8 +67,8 @@ pub fn division_is_by_the_law()
         → (q ≡ quotient z a n) × (r ≡ remainder z a n) }
 {}
 
-/// What `div` and `mod` give by 0 is free: for any one dividend it may be any integer, whatever it is for the
-/// others and for the other of the two (SMT-LIB 2.6, theory Ints).
+/// What `div` and `mod` give by 0 is free (SMT-LIB 2.6, theory Ints). For any one dividend each may give any
+/// integer, whatever it gives for the other dividends, and whatever the other of the two gives.
 pub fn division_by_zero_is_free()
     ensures quotient { (z : DivisionByZero) (a r : ℤ) → (y : DivisionByZero) × (quotient y a (pos 0) ≡ r)
         × ((b n : ℤ) → b ≢ a → quotient y b n ≡ quotient z b n)
@@ -78,8 +78,8 @@ pub fn division_by_zero_is_free()
         × ((b n : ℤ) → quotient y b n ≡ quotient z b n) }
 {}
 
-/// Of two bit vectors of one width the first is less exactly where it is not at least the second, as numbers
-/// and read as signed.
+/// The first of two bit vectors of one width is less exactly where it is not at least the second, both as
+/// numbers and read as signed.
 pub fn comparisons_are_opposites()
     ensures unsigned { (m s t : ℕ)
         → compares_bits UnsignedLess m s t ≡ not (compares_bits UnsignedAtLeast m s t) }

@@ -1,22 +1,20 @@
 //! Values, and the operators of SMT-LIB 2.6 on them.
 //!
-//! A value is a truth value, an integer that fits 128 bits, or a bit vector of at most 128 bits; where a
-//! value is missing, an element is open: the program does not know it. Nothing here allocates, or knows a
-//! text or a name.
+//! A value is a truth value, an integer that fits 128 bits, or a bit vector of at most 128 bits. An element
+//! without a value is open: the program does not know it. Nothing here allocates, or knows a text or a name.
 //!
 //! **The contract for the layer above**: `apply` gives what is known of an operator's result, `known_step` of
-//! `specs/KnownOperations.antt`, and so does `apply_in_place`, which may move the arguments; and by
+//! `specs/KnownOperations.antt`; so does `apply_in_place`, which may move the arguments. By
 //! `known_results_are_true` of [`laws`] what is known is the standard's value, `operate` of
 //! `specs/Operations.antt`, whatever the open arguments are and whatever division by zero gives.
 //!
-//! A call, of `(+ 1 2)` where the operator came from `smt_theory::op_of`:
+//! A call, for `(+ 1 2)`, where the operator came from `smt_theory::op_of`:
 //!
 //! ```text
 //! let one = numeral(b"1");                                                  // Some(Value::Int(1))
 //! let two = numeral(b"2");
 //! apply(plus, &[one, two])                                                  // Some(Value::Int(3))
-//! apply(plus, &[one, None])                                                 // None: the second argument is
-//! open
+//! apply(plus, &[one, None])                                                 // None: an argument is open
 //! ```
 #![tactic(auto)]
 

@@ -10,15 +10,17 @@ use crate::value::Value;
 use smt_bits::literals;
 use smt_theory::number;
 
-/// The integer that the decimal digits of a numeral spell; `None` exactly where it is over 2^127 - 1. Leading
-/// zeros change nothing, and what comes of other bytes than digits is of no interest.
+/// The integer that the decimal digits of a numeral spell; `None` exactly where it is over 2^127 - 1.
+///
+/// Leading zeros change nothing. For bytes that are no digits the result means nothing.
 pub fn numeral(digits: &[u8]) -> Option<Value>
     ensures { known_element result ≡ numeral_element digits.now }
 {
     numeral_of(number(10, digits))
 }
 
-/// The same as `numeral` of any digits that spell this number: what `smt_theory::number` says of them.
+/// The integer that `numeral` gives for any digits that spell this number, as `smt_theory::number` returns
+/// it.
 pub fn numeral_of(number: Option<u128>) -> Option<Value>
     ensures { (digits : List ℕ) → number ≡ below_word (digits_value 10 digits)
         → known_element result ≡ numeral_element digits }
@@ -29,15 +31,15 @@ pub fn numeral_of(number: Option<u128>) -> Option<Value>
     }
 }
 
-/// The bit vector that hexadecimal digits of either case spell, four bits a digit; `None` where there is none
-/// or more than 32. What comes of other bytes than digits is of no interest.
+/// The bit vector that hexadecimal digits of either case spell, four bits a digit; `None` where there are no
+/// digits or more than 32. For bytes that are no digits the result means nothing.
 pub fn hex(digits: &[u8]) -> Option<Value>
     ensures { known_element result ≡ hex_element digits.now }
 {
     literals::hex(digits).map(Value::Bits)
 }
 
-/// The same as `hex`, where the number that the digits spell is known: what `smt_theory::number` says of them.
+/// The bit vector that `hex` gives, where `number` is what `smt_theory::number` returns for the digits.
 pub fn hex_of(number: Option<u128>, digits: &[u8]) -> Option<Value>
     requires { number ≡ below_word (digits_value 16 digits.now) }
     ensures { known_element result ≡ hex_element digits.now }
@@ -45,15 +47,15 @@ pub fn hex_of(number: Option<u128>, digits: &[u8]) -> Option<Value>
     literals::hex_of(number, digits).map(Value::Bits)
 }
 
-/// The bit vector that binary digits spell, one bit a digit; `None` where there is none or more than 128.
-/// What comes of other bytes than digits is of no interest.
+/// The bit vector that binary digits spell, one bit a digit; `None` where there are no digits or more than
+/// 128. For bytes that are no digits the result means nothing.
 pub fn bin(digits: &[u8]) -> Option<Value>
     ensures { known_element result ≡ bin_element digits.now }
 {
     literals::bin(digits).map(Value::Bits)
 }
 
-/// The same as `bin`, where the number that the digits spell is known: what `smt_theory::number` says of them.
+/// The bit vector that `bin` gives, where `number` is what `smt_theory::number` returns for the digits.
 pub fn bin_of(number: Option<u128>, digits: &[u8]) -> Option<Value>
     requires { number ≡ below_word (digits_value 2 digits.now) }
     ensures { known_element result ≡ bin_element digits.now }

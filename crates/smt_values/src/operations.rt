@@ -12,12 +12,16 @@ ghost use Rattle.smt_values.specs.KnownOperations.{known_step};
 use crate::value::Value;
 use smt_theory::{CoreOp, Op};
 
-/// What is known of the operator's result for these arguments, where `None` stands for an open one; `None`
-/// where the result is open.
+/// What is known of the operator's result for these arguments; `None` is an open argument, and an open
+/// result.
 ///
-/// Open are an integer outside -2^127 to 2^127 - 1, as the result or as a partial result of an operator that
-/// is applied from the left; `div` and `mod` at divisor 0; and what has an open argument, but for `and`,
-/// `or`, `=>` and `ite` where the known arguments decide (this project's own rule).
+/// These results are open:
+///
+/// - an integer outside -2^127 to 2^127 - 1, as the result or as a partial result of an operator that is
+///   applied from the left;
+/// - `div` and `mod` at divisor 0;
+/// - every result with an open argument, except for `and`, `or`, `=>` and `ite` where the known arguments
+///   decide (this project's own rule).
 pub fn apply(op: Op, args: &[Option<Value>]) -> Option<Value>
     ensures { known_element result ≡ known_step op (known_elements args.now) }
 {
@@ -28,7 +32,8 @@ pub fn apply(op: Op, args: &[Option<Value>]) -> Option<Value>
     }
 }
 
-/// As [`apply`]. The arguments may change places: n of `distinct` take time n log n, where `apply` takes n^2.
+/// What [`apply`] gives. The arguments may change places, so `distinct` of n arguments takes time n log n,
+/// where `apply` takes n^2.
 pub fn apply_in_place(op: Op, args: &mut [Option<Value>]) -> Option<Value>
     ensures { known_element result ≡ known_step op (known_elements args.old) }
 {

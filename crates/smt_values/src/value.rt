@@ -6,7 +6,7 @@ use smt_bits::Bits;
 #[derive(Clone, Copy, PartialEq, Eq)]
 pub enum Value {
     Bool(bool),
-    /// From -2^127 to 2^127 - 1: an integer outside has no value here.
+    /// An integer from -2^127 to 2^127 - 1. An integer outside has no value here.
     Int(i128),
     Bits(Bits),
 }

@@ -13,23 +13,24 @@ use std::io::Read;
 use std::rt::Files;
 use std::{fs, io};
 
-/// How many bytes of a file are looked at for a hint.
+/// The most bytes of a file that are read for a hint.
 const BEGINNING: usize = 4096;
 
-/// What a run came to.
+/// The outcome of a run.
 #[derive(Clone, Copy)]
 pub(crate) struct Ran {
     pub(crate) verdict: Verdict,
-    /// Whether every check is confirmed, and there is one.
+    /// Whether there is a check, and each check is confirmed.
     pub(crate) all_confirmed: bool,
-    /// The usual mistake that its fault looks like.
+    /// The usual mistake that a line of the report looks like.
     pub(crate) hint: Option<Hint>,
-    /// Whether an explanation was wanted, and could not be made or written.
+    /// Whether the user asked for an explanation that could not be made or written.
     pub(crate) unexplained: bool,
 }
 
-/// Checks the dialogue in two files, and prints each line of the report once it is decided; then the explanation,
-/// where one is wanted. What a hint needs beside the report is looked for only where hints are wanted.
+/// Checks the dialogue in two files. It prints the lines of the report as `smt_dialogue::run` puts them, and then
+/// the explanation, if `settings` ask for one. It reads both files again for a hint only where `hints` says so. A file
+/// that can't be opened is `RunFault::Script` or `RunFault::Answers`.
 pub(crate) fn run<R: Files + AllocGlobal + Print>(
     rt: &R,
     settings: Settings,
@@ -51,7 +52,7 @@ pub(crate) fn run<R: Files + AllocGlobal + Print>(
     Ok(ran)
 }
 
-// The mistake that a line looks like, if both files look like it too.
+// The hint, if the beginnings of both files agree with it.
 fn hint_for<R: Files + AllocGlobal>(rt: &R, hint: Hint, settings: Settings) -> Option<Hint> {
     let script = beginning(rt, settings.script);
     let answers = beginning(rt, settings.answers);
@@ -63,7 +64,7 @@ fn hint_for<R: Files + AllocGlobal>(rt: &R, hint: Hint, settings: Settings) -> O
     )
 }
 
-// The beginning of a file that can be read again: of a pipe there is none, since what was pulled is gone.
+// The beginning of a regular file; `None` for a pipe, whose bytes are gone once they are read.
 fn beginning<R: Files + AllocGlobal>(rt: &R, name: &str) -> Option<Vec<u8>> {
     match fs::metadata(rt, name) {
         Ok(found) if found.is_file() => {}
@@ -75,7 +76,7 @@ fn beginning<R: Files + AllocGlobal>(rt: &R, name: &str) -> Option<Vec<u8>> {
     Vec::from_slice(rt.alloc(), &block[..count.min(BEGINNING)]).ok()
 }
 
-// Checks the dialogue in two files that are open.
+// Checks the dialogue in two open files.
 fn run_open<R: AllocGlobal + Print, F: Read + Drop>(
     rt: &R,
     script: F,
@@ -105,11 +106,11 @@ fn run_open<R: AllocGlobal + Print, F: Read + Drop>(
     })
 }
 
-// That no explanation was printed.
+// The failure to print an explanation.
 #[derive(Clone, Copy)]
 struct Untold;
 
-// Prints the explanation of a dialogue whose texts and lines were kept.
+// Prints the explanation of a dialogue; it fails where the texts or the lines were not kept.
 fn tell<R: AllocGlobal + Print>(
     rt: &R,
     script: Option<&[u8]>,

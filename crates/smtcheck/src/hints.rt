@@ -1,9 +1,9 @@
-//! Usual mistakes, by the line that tells a fault. This file knows no file.
+//! Usual mistakes, each found by a line of the report. This file knows no file.
 
 use smt_dialogue::{CheckAnswer, Line};
 use smt_faults::{CommandFlaw, TermFlaw, TextFlaw};
 
-/// What a user may have done wrong, by the fault of the report.
+/// What a user may have done wrong, as a line of the report suggests.
 #[derive(Clone, Copy, PartialEq, Eq)]
 pub(crate) enum Hint {
     /// The solver prints no `success`.
@@ -12,16 +12,16 @@ pub(crate) enum Hint {
     Success,
     /// The files are exchanged.
     Exchanged,
-    /// A file is compressed or in another code.
+    /// A file is compressed or in another encoding.
     Coded,
     /// The model has items for labels or defined constants.
     Labels,
-    /// A model is asked for behind `unsat`.
+    /// The script asks for a model after `unsat`.
     ModelBehindUnsat,
 }
 
 impl Hint {
-    /// What to do.
+    /// The text of the hint: what to do.
     pub(crate) fn text(self) -> &'static str {
         match self {
             Hint::NoSuccess => {
@@ -43,7 +43,7 @@ impl Hint {
     }
 }
 
-/// The mistake that a line looks like, behind a check that was answered by `unsat` or not.
+/// The mistake that a line looks like; `after_unsat` says whether the line before reports an `unsat`.
 pub(crate) fn hint_of(line: &Line, after_unsat: bool) -> Option<Hint> {
     match line {
         Line::UnexpectedAnswer { answer: 1, .. } => Some(Hint::NoSuccess),
@@ -64,8 +64,8 @@ pub(crate) fn hint_of(line: &Line, after_unsat: bool) -> Option<Hint> {
     }
 }
 
-/// The mistake that a line looks like, if the beginnings of both texts, where they are known, and what was said of
-/// `success`, look like it too.
+/// The hint, if the setting for `success` and the beginnings of both texts, where they are known, agree with it. In
+/// place of `NoSuccess` it may return `Success`.
 pub(crate) fn confirmed(
     hint: Hint,
     script: Option<&[u8]>,
@@ -90,7 +90,7 @@ pub(crate) fn confirmed(
     if holds { Some(hint) } else { None }
 }
 
-// Whether a text begins with a byte that no text begins with, or its beginning is not known.
+// Whether a text begins with a byte that can begin no text, or its beginning is not known.
 fn is_coded(text: Option<&[u8]>) -> bool {
     match text {
         Some(text) => match text.first() {
@@ -108,7 +108,7 @@ fn begins_with_success(answers: Option<&[u8]>) -> bool {
     }
 }
 
-/// Whether a line is that of a check that was answered by `unsat`.
+/// Whether a line reports a check answered by `unsat`.
 pub(crate) fn is_unsat(line: &Line) -> bool {
     match line {
         Line::Unchecked {
@@ -158,7 +158,7 @@ fn begins_as_command(text: &[u8]) -> bool {
     false
 }
 
-// What stands behind white space and comments.
+// The text after leading white space and comments.
 fn behind_gaps(text: &[u8]) -> &[u8] {
     let mut left = text;
     let mut comment = false;

@@ -1,4 +1,4 @@
-//! The lines of a report out of their texts. This file knows no dialogue.
+//! Reads the lines of a report from their texts. This file knows no dialogue.
 
 ghost use Rattle.std.specs.Prelude.{◌≡◌, IfOk, IfSome};
 ghost use Rattle.smt_report.specs.LineText.{text_of};
@@ -7,7 +7,7 @@ use smt_dialogue::{CheckAnswer, Claim, Line, Memory, Side, Tally, Verdict};
 use smt_faults::{CommandFlaw, TermFlaw, TextFlaw};
 use std::alloc::Global;
 
-/// The line that has a text, if there is one. (Its text is written and compared, whatever was read.)
+/// The line with this text, if there is one. (Whatever line was read, its own text is written and compared.)
 pub(crate) fn line_of(alloc: Global, text: &[u8]) -> Result<Option<Line>, Memory>
     ensures { IfOk result (λ found. IfSome found (λ line. text_of line ≡ text.now)) }
 {
@@ -22,7 +22,7 @@ pub(crate) fn line_of(alloc: Global, text: &[u8]) -> Result<Option<Line>, Memory
     }
 }
 
-/// The line that a text seems to have. It takes no memory, and its text is not compared.
+/// The line that a text seems to be. It needs no memory, and does not compare the line's own text.
 pub(crate) fn read_line(text: &[u8]) -> Option<Line> {
     if let Some(rest) = text.strip_prefix(b"check ") {
         return read_check(rest);
@@ -33,7 +33,7 @@ pub(crate) fn read_line(text: &[u8]) -> Option<Line> {
     read_verdict(text.strip_prefix(b"verdict: ")?)
 }
 
-// A number, and what stands behind it.
+// A number, and the text after it.
 fn read_number(text: &[u8]) -> Option<(u64, &[u8])> {
     let mut number = 0u64;
     let mut rest = text;
@@ -51,7 +51,7 @@ fn read_number(text: &[u8]) -> Option<(u64, &[u8])> {
     Some((number, rest))
 }
 
-// A number with nothing behind it.
+// A number with nothing after it.
 fn read_last(text: &[u8]) -> Option<u64> {
     let (number, rest) = read_number(text)?;
     if rest.is_empty() { Some(number) } else { None }
@@ -88,7 +88,7 @@ fn read_answer(text: &[u8]) -> Option<CheckAnswer> {
     }
 }
 
-// What is said of a model.
+// The line with this finding on a model.
 fn read_finding(check: u64, command: u64, model: u64, text: &[u8]) -> Option<Line> {
     if let Some(rest) = text.strip_prefix(b"item ") {
         let (item, rest) = read_number(rest)?;
@@ -135,7 +135,7 @@ fn read_finding(check: u64, command: u64, model: u64, text: &[u8]) -> Option<Lin
     }
 }
 
-// A claim, and what stands behind it.
+// A claim, and the text after it.
 fn read_claim(text: &[u8]) -> Option<(Claim, &[u8])> {
     if let Some(rest) = text.strip_prefix(b"assertion of command ") {
         let (command, rest) = read_number(rest)?;

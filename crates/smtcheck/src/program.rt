@@ -14,12 +14,12 @@ use std::{env, io};
 /// The status where there is no report.
 const NO_REPORT: u8 = 4;
 
-/// The status of a command line that was refused, or asked for help.
+/// The status of a command line that was refused or asked for help.
 const REFUSED: u8 = 5;
 
-/// Runs the program, and answers its exit status: 0 to 3 by the verdict, 4 where there is no report, 5 where the
-/// command line was refused or asked for help, and 0 where it asked for the version. Standard error may be a
-/// terminal: then a usual mistake is told there.
+/// Runs the program, and returns its exit status: 0 to 3 by the verdict, and 4 where there is no report. It is 5
+/// where the command line was refused or asked for help, and 0 where it asked for the version. The program hints at
+/// a usual mistake on standard error if that is a terminal, or if the command line asks for an explanation.
 pub(crate) fn run_program<R: Files + Env + AllocGlobal + Print + Eprint>(
     rt: &R,
     on_terminal: bool,
@@ -38,7 +38,7 @@ pub(crate) fn run_program<R: Files + Env + AllocGlobal + Print + Eprint>(
     }
 }
 
-/// Runs the program on these words, the program's name first, and answers its exit status.
+/// Runs the program on these words, the program's name first, and returns its exit status.
 pub(crate) fn run_words<R: Files + AllocGlobal + Print + Eprint>(
     rt: &R,
     words: &[&str],
@@ -72,7 +72,7 @@ fn run_settings<R: Files + AllocGlobal + Print + Eprint>(
     }
 }
 
-// Tells on standard error what stands in no report.
+// Writes on standard error what the report does not say: that an explanation is missing, and a hint.
 fn tell_beside<R: Eprint>(rt: &R, ran: Ran) {
     if ran.unexplained {
         let _ = eprintln!(rt; "smtcheck: the explanation could not be made, or not be written");
@@ -83,7 +83,7 @@ fn tell_beside<R: Eprint>(rt: &R, ran: Ran) {
     }
 }
 
-// Tells why a command line was refused, or what it asked for.
+// Prints why a command line was refused, or what it asked for, and returns the exit status.
 fn refuse<R: Print + Eprint>(rt: &R, fault: LineFault) -> u8 {
     let is_version = fault.asks_for_version();
     match fault {
@@ -95,7 +95,7 @@ fn refuse<R: Print + Eprint>(rt: &R, fault: LineFault) -> u8 {
     }
 }
 
-// Tells on standard error why there is no report, and answers the status of that.
+// Writes on standard error why there is no report, and returns the status for that.
 fn tell_fault<R: Eprint>(rt: &R, fault: RunFault) -> u8
     ensures { result ≡ 4 }
 {

@@ -1,9 +1,9 @@
-//! A source that keeps what it gave, for an explanation. This file knows no file and no line.
+//! A source that keeps the bytes it gave, for an explanation. This file knows no file and no line.
 
 use smt_streams::{Broken, Source};
 use std::alloc::Global;
 
-/// Bytes that are kept, as long as memory is not refused.
+/// The bytes kept so far; none once memory was refused for them.
 #[derive(Drop)]
 struct Kept {
     keeps: bool,
@@ -20,7 +20,7 @@ impl Kept {
     }
 }
 
-/// A source over another one, which keeps the bytes that were pulled, as long as memory is not refused.
+/// A source over another one. It keeps the bytes pulled, as long as memory is not refused.
 #[derive(Drop)]
 pub(crate) struct Recorded<S> {
     inner: S,
@@ -31,7 +31,7 @@ impl<S> Recorded<S> {
     ghost use Rattle.std.specs.Prelude.{◌≡◌};
     ghost use Rattle.smtcheck.specs.Recorded.{inner_of};
 
-    /// A source of which nothing was pulled yet. It keeps what is pulled, or nothing.
+    /// A source over this one, before its first pull; `keeps` says whether it keeps the bytes.
     pub(crate) fn new(alloc: Global, inner: S, keeps: bool) -> Recorded<S>
         ensures { inner_of result ≡ inner }
     {
@@ -45,7 +45,7 @@ impl<S> Recorded<S> {
         }
     }
 
-    /// The bytes that were pulled; `None` where memory was refused for them, or none were to be kept.
+    /// The bytes pulled so far; `None` where memory was refused for them, or where the source keeps none.
     pub(crate) fn bytes(&self) -> Option<&[u8]> {
         if self.kept.keeps && self.kept.whole {
             Some(self.kept.bytes.as_slice())

@@ -1,5 +1,5 @@
-//! A sink that reads the lines of a report that it passes on: whether each check is confirmed, and whether its
-//! fault looks like a usual mistake. It keeps them, where that is wanted. This file knows no file.
+//! A sink that reads the lines of a report as it passes them on. It notes whether each check is confirmed, and
+//! whether a line looks like a usual mistake. On request it also keeps the lines. This file knows no file.
 
 use crate::hints::{Hint, hint_of, is_unsat};
 use crate::lines::{line_of, read_line};
@@ -7,10 +7,10 @@ use smt_dialogue::{Line, Verdict};
 use smt_streams::{Broken, Sink};
 use std::alloc::Global;
 
-/// The most bytes of a line that are kept: no line of a report is longer.
+/// The most bytes kept of a line: no line of a report is longer.
 const LINE: usize = 256;
 
-/// The beginning of the line in turn, and what was seen of the lines before.
+/// The beginning of the present line, and what the lines before it showed.
 #[derive(Drop)]
 struct Seen {
     alloc: Global,
@@ -20,7 +20,8 @@ struct Seen {
     all_confirmed: bool,
     hint: Option<Hint>,
     keeps: bool,
-    /// The lines, where they are kept, as long as each could be read and memory was not refused.
+    /// The lines, if they are kept. `whole` says whether all are here: it is false once a line can't be read or
+    /// memory is refused.
     lines: Vec<Line>,
     whole: bool,
 }
@@ -37,7 +38,7 @@ impl Seen {
         }
     }
 
-    // Looks at the line that has ended. (Memory is asked for only where lines are kept.)
+    // Reads the line that has just ended. (It asks for memory only where lines are kept.)
     fn note_line(&mut self) {
         let text = &self.line[..self.used.min(LINE)];
         let seen = read_line(text);
@@ -69,7 +70,7 @@ impl Seen {
     }
 }
 
-/// A sink over another one, which keeps the beginning of the line in turn, and what it saw of the lines.
+/// A sink over another one, with the beginning of the present line and what the lines before it showed.
 #[derive(Drop)]
 pub(crate) struct Watched<S> {
     inner: S,
@@ -80,7 +81,7 @@ impl<S> Watched<S> {
     ghost use Rattle.std.specs.Prelude.{◌≡◌};
     ghost use Rattle.smtcheck.specs.Watched.{inner_of};
 
-    /// A sink over this one. It keeps the lines, or none.
+    /// A sink over this one; `keeps` says whether it keeps the lines.
     pub(crate) fn new(alloc: Global, inner: S, keeps: bool) -> Watched<S>
         ensures { inner_of result ≡ inner }
     {
@@ -100,17 +101,17 @@ impl<S> Watched<S> {
         }
     }
 
-    /// Whether the verdict was that each check is confirmed, and that there is one.
+    /// Whether the last line is the verdict on at least one check, all of them confirmed.
     pub(crate) fn confirms_all(&self) -> bool {
         self.seen.all_confirmed
     }
 
-    /// The usual mistake that a line looked like.
+    /// The usual mistake that a line looks like; the first one found.
     pub(crate) fn hint(&self) -> Option<Hint> {
         self.seen.hint
     }
 
-    /// The lines; `None` where memory was refused for them, or none were to be kept.
+    /// The lines; `None` where memory was refused for one, one could not be read, or the sink keeps none.
     pub(crate) fn lines(&self) -> Option<&[Line]> {
         if self.seen.keeps && self.seen.whole {
             Some(self.seen.lines.as_slice())
@@ -120,7 +121,7 @@ impl<S> Watched<S> {
     }
 }
 
-// Whether a line is the verdict on a dialogue of which every check is confirmed, and that has one.
+// Whether a line is the verdict on a dialogue with at least one check, all of them confirmed.
 fn is_all_confirmed(line: &Line) -> bool {
     match line {
         Line::Verdict {

@@ -3,7 +3,7 @@
  *
  * This is the interface of the static library that crates/smtcheck_c builds. Every call is proved to do what is said
  * here, as long as its caller keeps to the four rules below, which nothing checks. docs/EMBEDDING.md says how to link
- * it, and what 'valid' means.
+ * it, and docs/CLAIMS.md says what 'valid' means.
  *
  * 1. A pointer leads to as many bytes, or to the struct, that the call says, and these have a value: also where a
  *    call only writes them. No pointer is null, not even for a length of 0: of an empty text it may be any address.
@@ -15,7 +15,7 @@
  *    its size.
  *
  * A call keeps no pointer that it is given, so any number of threads may call at a time; a session stays on the thread
- * that began it. A call uses the machine's stack for lists that stand in another, which may be 1,000 deep: 3 MB of stack
+ * that began it. A call uses the machine's stack for lists inside other lists, which may be 1,000 deep: 3 MB of stack
  * are enough. Nothing checks it, and a stack that is too small ends the process by a signal.
  */
 #ifndef SMTCHECK_H
@@ -31,10 +31,10 @@ extern "C" {
 
 /* What a call answers. The first four are verdicts, and are the program's exit statuses. */
 enum smtcheck_outcome {
-    /* Every `sat` is confirmed: a model was printed for it, and each such model makes every assertion in force true.
-       It says nothing of the other answers. */
+    /* Every `sat` is confirmed: a model was printed for it, and each such model makes every assertion in force and
+       every assumption of the check true. It says nothing of the other answers. */
     SMTCHECK_VALID = 0,
-    /* Some model that was printed for a `sat` makes an assertion in force false. */
+    /* Some model that was printed for a `sat` makes an assertion in force or an assumption of the check false. */
     SMTCHECK_INVALID = 1,
     /* No `sat` is refuted, and some `sat` is not confirmed. */
     SMTCHECK_NOT_DECIDED = 2,
@@ -68,7 +68,7 @@ struct smtcheck_options {
 /* How many checks of each kind a report has, and how many lines. */
 struct smtcheck_summary {
     uint64_t confirmed; /* a `sat` with a model or more, each of them confirmed */
-    uint64_t refuted;   /* a `sat` with a model that makes an assertion false */
+    uint64_t refuted;   /* a `sat` with a model that makes an assertion or an assumption false */
     uint64_t undecided; /* a `sat` that is neither */
     uint64_t unchecked; /* a check that was answered otherwise than `sat` */
     uint64_t lines;     /* all lines, that of the verdict among them */
@@ -132,7 +132,7 @@ uint32_t smtcheck_session_answers(struct smtcheck_session *session, const char *
 uint32_t smtcheck_session_end_script(struct smtcheck_session *session);
 uint32_t smtcheck_session_end_answers(struct smtcheck_session *session);
 
-/* The verdict of a session that was begun, once it is decided, and SMTCHECK_OPEN before. */
+/* The verdict of a session that was begun, once it is decided, and SMTCHECK_OPEN before, also where it has failed. */
 uint32_t smtcheck_session_verdict(struct smtcheck_session *session);
 
 /*
@@ -144,7 +144,7 @@ uint32_t smtcheck_session_verdict(struct smtcheck_session *session);
  * until `*wanted` is 0. Together the texts are the report's.
  *
  * It answers as smtcheck_session_verdict does. Or it answers SMTCHECK_MEMORY: then no line is taken, `*wanted` and the
- * bytes at `text` stay as they were, and it may be called again.
+ * bytes at `text` stay as they were, and the next call gives the same lines. The session does not fail by it.
  */
 uint32_t smtcheck_session_text(struct smtcheck_session *session, char *text, size_t room, size_t *wanted);
 
@@ -153,7 +153,7 @@ void smtcheck_session_free(struct smtcheck_session *session);
 
 /*
  * Tells the version of the library, and the toolchain that proved it, as `smtcheck --version` does behind the program's
- * name: `0.7.1 (rattle-kit-13f ..)`.
+ * name: `0.7.2 (rattle-kit-13f ..)`.
  *
  * It answers the length of that text, which has no byte 0. If it has at most `room` bytes, the first bytes at `text` are
  * the text, and those behind it stay as they were; if it has more, all stay as they were.

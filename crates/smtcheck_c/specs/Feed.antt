@@ -100,3 +100,4 @@ pub record AreGivenLines (before after : Feed) (wanted : ℕ) (room filled : Lis
   pub given : wanted ≤ length room → FeedsThen before after (λ h. with_taken h lines)
   pub none_left : wanted ≤ length room → after.waiting.items ≡ []
   pub kept : length room < wanted → FeedsThen before after (λ h. h)
+  pub left : length room < wanted → after.waiting.items ≡ lines

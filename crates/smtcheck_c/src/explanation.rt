@@ -1,4 +1,4 @@
-//! The explanation of a report, told to C. This file decides nothing.
+//! The explanation of a report, for C. This file decides nothing.
 
 ghost use Rattle.std.specs.Prelude.{◌≡◌, ◌<◌, ◌≤◌, ◌-◌, ◌^◌, ◌↔◌, IfOk};
 ghost use Rattle.smtcheck_c.specs.Told.{IsExplained, IsNumbered};
@@ -17,12 +17,14 @@ pub(crate) struct Explained {
     pub(crate) text: Vec<u8>,
 }
 
-/// Explains the report on a solver's dialogue, as the program does with `--explain`: where each check that is not
-/// confirmed stands, and the fault, and why. The texts are called `script` and `answers` there.
+/// Explains the report on a solver's dialogue, as the program does with `--explain`. The explanation says where each
+/// check that is not confirmed is, where the fault is, and why. It calls the texts `script` and `answers`.
 ///
-/// It answers the number of the verdict: 0 to 3, as `smtcheck_validate`. Then `wanted` has the number of bytes of the
-/// explanation, and `text` begins with it if it has room for all of it, and else stays as it was. It answers 4 where
-/// memory was refused and 5 where the limit of the options is 2^64 - 1; then both stay as they were.
+/// It returns the number of the verdict, from 0 to 3, as `smtcheck_validate` does. Then `wanted` has the number of
+/// bytes of the explanation. `text` begins with it if it has room for all of it, and otherwise stays as it was.
+///
+/// It returns 4 where memory was refused, and 5 exactly where the limit of the options is 2^64 - 1. Then `text` and
+/// `wanted` stay as they were.
 #[unsafe(no_mangle)]
 pub extern "C" fn smtcheck_explain(
     alloc: Global,
@@ -53,7 +55,7 @@ pub extern "C" fn smtcheck_explain(
     }
 }
 
-// The explanation, before any of it is told.
+// Checks a dialogue, and explains its report. Returns the number of the verdict and the explanation.
 fn tell_why(
     alloc: Global,
     script: &[u8],

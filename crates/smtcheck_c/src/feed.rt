@@ -1,7 +1,7 @@
 //! A session, with the lines that were taken of it and that C was not given: its buffer had no room for their text,
 //! or memory was refused. This file knows no pointer.
 
-ghost use Rattle.std.specs.Prelude.{◌≡◌, ◌≢◌, ◌<◌, ◌⊎◌, false, true, IfOk, OnErr};
+ghost use Rattle.std.specs.Prelude.{◌≡◌, ◌≢◌, ◌<◌, ◌⊎◌, None, false, true, IfOk, OnErr};
 ghost use Rattle.smt_dialogue.specs.History.{History, begun, with_answers, with_answers_end, with_script};
 ghost use Rattle.smt_dialogue.specs.History.{with_script_end};
 ghost use Rattle.smt_dialogue.specs.Session.{failure_of};
@@ -26,6 +26,7 @@ impl Feed {
         ensures feeds { Feeds result (begun options) }
         ensures script { is_script_over result ≡ false }
         ensures answers { is_answers_over result ≡ false }
+        ensures failure { failure_of result.session ≡ None }
     {
         Feed {
             session: Session::new(alloc, options),
@@ -123,8 +124,10 @@ impl Feed {
         ensures given { IfOk result (λ wanted.
             AreGivenLines self.old self.new wanted room.old room.new) }
         ensures kept { OnErr result (FeedsThen self.old self.new (λ h. h)) }
+        ensures left { OnErr result (AreNextLines self.old self.new.waiting.items) }
         ensures room { OnErr result (room.new ≡ room.old) }
         ensures over { AreEndsOf self.old self.new }
+        ensures failure { failure_of self.new.session ≡ failure_of self.old.session }
     {
         self.gather();
         let text = text_of_lines(alloc, self.waiting.as_slice())?;
@@ -141,6 +144,7 @@ impl Feed {
         ensures feeds { FeedsThen self.old self.new (λ h. h) }
         ensures next { AreNextLines self.old self.new.waiting.items }
         ensures over { AreEndsOf self.old self.new }
+        ensures failure { failure_of self.new.session ≡ failure_of self.old.session }
     {
         if self.waiting.is_empty() {
             self.waiting = self.session.take_lines();

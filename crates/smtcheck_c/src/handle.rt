@@ -40,7 +40,7 @@ impl<T, A: Allocator> Handle<T, A> {
         Handle { at, alloc }
     }
 
-    /// The box again, of a handle that has a value.
+    /// Turns a handle that has a value back into the box of that value.
     pub(crate) fn into_box(self) -> Box<T, A>
         requires { (x : T) × (self.value ≡ Some x) }
         ensures { self.value ≡ Some result.value }

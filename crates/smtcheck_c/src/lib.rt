@@ -1,8 +1,8 @@
 //! The library for programs in C: one export for each function of `include/smtcheck.h`, over `smt_dialogue`.
 //!
-//! This crate decides nothing. Each export hands what C gives it to `smt_dialogue`, and what that answers to C;
-//! its contract states the clauses of the function that it calls again, of what C is given. In C a slice is a
-//! pointer and a length, and a parameter `alloc` is left out.
+//! This crate decides nothing. Each export passes what C gives it to `smt_dialogue`, and passes the result to C. Its
+//! contract restates the clauses of the function that it calls, for what C gets. In C a slice is a pointer and a
+//! length, and a parameter `alloc` is left out.
 //!
 //! ```text
 //! smtcheck_validate("(check-sat)", 11, "unsat", 5, &options, &summary, text, room, &wanted)

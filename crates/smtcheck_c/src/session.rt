@@ -1,10 +1,10 @@
 //! Sessions that C tells a dialogue piece by piece, by a handle. This file decides nothing.
 
-ghost use Rattle.std.specs.Prelude.{◌≡◌, ◌≢◌, ◌-◌, ◌^◌, ◌⊎◌, ◌↔◌, None, Some, false, true};
+ghost use Rattle.std.specs.Prelude.{◌≡◌, ◌≢◌, ◌<◌, ◌≤◌, ◌-◌, ◌^◌, ◌⊎◌, ◌↔◌, None, Some, false, true};
 ghost use Rattle.smt_dialogue.specs.History.{History, with_answers, with_answers_end, with_script};
 ghost use Rattle.smt_dialogue.specs.History.{with_script_end};
 ghost use Rattle.smt_dialogue.specs.Session.{failure_of};
-ghost use Rattle.smtcheck_c.specs.Feed.{AreEndsOf, AreGivenLines, HasBegun, Holds, HoldsThen, IfHeld};
+ghost use Rattle.smtcheck_c.specs.Feed.{AreEndsOf, AreGivenLines, AreNextLines, HasBegun, Holds, HoldsThen, IfHeld};
 ghost use Rattle.smtcheck_c.specs.Feed.{IsNumberHeld, IsTellingNumber, StaysFailed, is_answers_over, is_script_over};
 ghost use Rattle.smtcheck_c.specs.declared.feed.Feed.{Feed as Fed};
 
@@ -27,6 +27,7 @@ pub extern "C" fn smtcheck_session_new(
     ensures begun { result ≡ 6 → HasBegun options.now session.new.feed }
     ensures script { IfHeld session.new.feed (λ f. is_script_over f ≡ false) }
     ensures answers { IfHeld session.new.feed (λ f. is_answers_over f ≡ false) }
+    ensures failure { IfHeld session.new.feed (λ f. failure_of f.session ≡ None) }
     ensures none { result ≢ 6 → session.new.feed ≡ None }
     ensures outcome { (result ≡ 4) ⊎ ((result ≡ 5) ⊎ (result ≡ 6)) }
     ensures options { (result ≡ 5) ↔ (options.now.steps ≡ 2 ^ 64 - 1) }
@@ -129,11 +130,12 @@ pub extern "C" fn smtcheck_session_end_answers(alloc: Global, session: &mut Smtc
     outcome
 }
 
-/// The number of the verdict, if it is decided, and 6 if it is not.
+/// The number of the verdict, if it is decided, and 6 if it is not, also where the session has failed.
 #[unsafe(no_mangle)]
 pub extern "C" fn smtcheck_session_verdict(alloc: Global, session: &mut SmtcheckSession) -> u32
     requires { (f : Fed) × (session.old.feed ≡ Some f) }
     ensures outcome { IsNumberHeld result session.new.feed }
+    ensures range { (result < 4) ⊎ (result ≡ 6) }
     ensures same { session.new.feed ≡ session.old.feed }
 {
     let feed = take(alloc, session);
@@ -145,7 +147,8 @@ pub extern "C" fn smtcheck_session_verdict(alloc: Global, session: &mut Smtcheck
 /// Gives the text of the next lines that are decided and were not given: `wanted` is its length, and it stands at the
 /// front of `text`, and is given, if there is room for all of it; else `text` stays as it was, and the next call
 /// gives the same lines. Where `wanted` is 0 there is none. Answers as `smtcheck_session_verdict`, or 4 where memory
-/// was refused: then nothing is given, and `text` and `wanted` stay as they were.
+/// was refused: then nothing is given, `text` and `wanted` stay as they were, and the next call gives the same lines.
+/// The session does not fail by it.
 #[unsafe(no_mangle)]
 pub extern "C" fn smtcheck_session_text(
     alloc: Global,
@@ -158,10 +161,15 @@ pub extern "C" fn smtcheck_session_text(
     ensures given { result ≢ 4 → IfHeld session.old.feed (λ f.
         IfHeld session.new.feed (λ g. AreGivenLines f g wanted.new text.old text.new)) }
     ensures outcome { result ≢ 4 → IsNumberHeld result session.new.feed }
+    ensures range { (result ≤ 4) ⊎ (result ≡ 6) }
     ensures kept { result ≡ 4 → HoldsThen session.old.feed session.new.feed (λ h. h) }
+    ensures left { result ≡ 4 → IfHeld session.old.feed (λ f.
+        IfHeld session.new.feed (λ g. AreNextLines f g.waiting.items)) }
     ensures text { result ≡ 4 → text.new ≡ text.old }
     ensures wanted { result ≡ 4 → wanted.new ≡ wanted.old }
     ensures over { IfHeld session.old.feed (λ f. IfHeld session.new.feed (λ g. AreEndsOf f g)) }
+    ensures failure { IfHeld session.old.feed (λ f. IfHeld session.new.feed (λ g.
+        failure_of g.session ≡ failure_of f.session)) }
 {
     let mut feed = take(alloc, session);
     let given = feed.give(alloc, text);

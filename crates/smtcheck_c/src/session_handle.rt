@@ -25,7 +25,7 @@ impl Model for SmtcheckSession {
     ghost also_owns = { λ s. feed_at s.alloc s.at s.feed };
 }
 
-/// Takes the session out of its handle, which has none then.
+/// Takes the session out of its handle, which has none after the call.
 pub(crate) fn take(alloc: Global, session: &mut SmtcheckSession) -> Box<Feed>
     requires { (f : Fed) × (session.old.feed ≡ Some f) }
     ensures taken { session.old.feed ≡ Some result.value }
@@ -42,7 +42,7 @@ pub(crate) fn put(session: &mut SmtcheckSession, feed: Box<Feed>)
     *session = wrap(Handle::of(feed));
 }
 
-// The same value, as C keeps it.
+// The handle as C keeps it, with a pointer to bytes. It has the same session or none.
 fn wrap(handle: Handle<Feed, Global>) -> SmtcheckSession
     ensures { result.feed ≡ handle.value }
 {
@@ -51,7 +51,7 @@ fn wrap(handle: Handle<Feed, Global>) -> SmtcheckSession
     SmtcheckSession { at, alloc }
 }
 
-// The same value, for the code.
+// The handle as this crate uses it, with a pointer to a `Feed`. It has the same session or none.
 fn unwrap(session: SmtcheckSession) -> Handle<Feed, Global>
     ensures { result.value ≡ session.feed }
 {

@@ -10,7 +10,7 @@ use smt_dialogue::{Line, Tally};
 pub struct SmtcheckSummary {
     /// How many `sat` are confirmed by the models printed for them.
     pub confirmed: u64,
-    /// How many `sat` have a model that makes an assertion false.
+    /// How many `sat` have a model that makes an assertion or an assumption false.
     pub refuted: u64,
     /// How many `sat` are neither.
     pub undecided: u64,

@@ -1,4 +1,4 @@
-//! The text of lines, and texts in the caller's buffer. This file knows nothing of what a line means.
+//! The text of lines, and texts in the caller's buffer. This file does not know what a line means.
 
 ghost use Rattle.std.specs.Prelude.{◌≡◌, ◌<◌, ◌≤◌, ◌++◌, length, drop, IfOk, string_bytes};
 ghost use Rattle.smt_dialogue.specs.Run as runs;
@@ -7,7 +7,7 @@ ghost use Rattle.smtcheck_c.specs.Told.{IsPut};
 use smt_dialogue::{Line, Memory};
 use std::alloc::Global;
 
-/// The text of lines, each with its end.
+/// The text of lines, each followed by byte 10.
 pub(crate) fn text_of_lines(alloc: Global, lines: &[Line]) -> Result<String, Memory>
     ensures { IfOk result (λ text. string_bytes text ≡ runs.text_of_lines lines.now) }
 {
@@ -19,8 +19,8 @@ pub(crate) fn text_of_lines(alloc: Global, lines: &[Line]) -> Result<String, Mem
     Ok(text)
 }
 
-/// Puts a text at the front of a buffer where there is room for all of it, and else nothing. Answers how many
-/// bytes the text has.
+/// Puts a text at the front of a buffer if there is room for all of it; otherwise the buffer stays as it was.
+/// Returns how many bytes the text has.
 pub(crate) fn put_text(text: &[u8], room: &mut [u8]) -> usize
     ensures wanted { result ≡ length text.now }
     ensures put { IsPut text.now room.old room.new }

@@ -1,4 +1,4 @@
-//! The report on a whole script and whole answers, told to C. This file decides nothing.
+//! The report on a whole script and whole answers, for C. This file decides nothing.
 
 ghost use Rattle.std.specs.Prelude.{◌≡◌, ◌<◌, ◌≤◌, ◌-◌, ◌^◌, ◌↔◌, IfOk, string_bytes};
 ghost use Rattle.smtcheck_c.specs.Told.{IsInvalidBy, IsTelling, IsTold, IsValidBy};
@@ -10,7 +10,7 @@ use crate::text::{put_text, text_of_lines};
 use smt_dialogue::{Memory, Options, validate};
 use std::alloc::Global;
 
-/// What is told of a dialogue.
+/// The results of a dialogue, before C gets any of them.
 #[derive(Drop)]
 pub(crate) struct Telling {
     /// The number of its verdict.
@@ -22,10 +22,12 @@ pub(crate) struct Telling {
 
 /// Checks a solver's dialogue: the script that it read, and the answers that it printed, in order.
 ///
-/// It answers the number of the verdict, as the program's exit status: 0 for valid, 1 for invalid, 2 for not
-/// decided, 3 for refused. Then `summary` has the counts, `wanted` the number of bytes of the report's text, and
-/// `text` begins with that text if it has room for all of it, and else stays as it was. It answers 4 where memory
-/// was refused and 5 where the limit of the options is 2^64 - 1; then all three stay as they were.
+/// It returns the number of the verdict, as the program's exit status: 0 for valid, 1 for invalid, 2 for not decided,
+/// 3 for refused. Then `summary` has the counts, and `wanted` the number of bytes of the report's text. `text` begins
+/// with that text if it has room for all of it, and otherwise stays as it was.
+///
+/// It returns 4 where memory was refused, and 5 exactly where the limit of the options is 2^64 - 1. Then `summary`,
+/// `text` and `wanted` stay as they were.
 #[unsafe(no_mangle)]
 pub extern "C" fn smtcheck_validate(
     alloc: Global,
@@ -61,7 +63,7 @@ pub extern "C" fn smtcheck_validate(
     }
 }
 
-// What is told of a dialogue, before any of it is.
+// Checks a dialogue, and collects the results for C.
 fn tell(alloc: Global, script: &[u8], answers: &[u8], options: Options) -> Result<Telling, Memory>
     ensures telling { IfOk result (λ t.
         IsTelling options script.now answers.now t.number t.summary (string_bytes t.text)) }

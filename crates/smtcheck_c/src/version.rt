@@ -1,4 +1,4 @@
-//! Which version of the library it is. This file reads nothing.
+//! The version of the library. This file reads nothing.
 
 ghost use Rattle.std.specs.Prelude.{◌≡◌, length};
 ghost use Rattle.smtcheck_c.specs.Told.{IsPut};
@@ -6,11 +6,11 @@ ghost use Rattle.smtcheck_c.specs.Told.{IsPut};
 use crate::text::put_text;
 
 /// The version of the library and the kit that proves it, as `smtcheck --version` has them.
-pub const VERSION: &str = "0.7.1 (rattle-kit-13f logic dac8208d650f15bf)";
+pub const VERSION: &str = "0.7.2 (rattle-kit-13f logic dac8208d650f15bf)";
 
-/// Tells the version of the library, and the toolchain that proved it.
+/// Writes the version of the library, and of the toolchain that proved it, into `text`.
 ///
-/// It answers the number of bytes of that text. `text` begins with it if it has room for all of it, and else
+/// It returns the number of bytes of `VERSION`. `text` begins with them if it has room for all of them, and otherwise
 /// stays as it was.
 #[unsafe(no_mangle)]
 pub extern "C" fn smtcheck_version(text: &mut [u8]) -> usize

@@ -1,5 +1,4 @@
-//! What a command line asks for, and why it can't be taken. This file reads no words, and knows of `clap`
-//! only the error.
+//! What a command line asks for, and why it is refused. This file reads no words, and knows only the error of `clap`.
 
 ghost use Rattle.std.specs.Prelude.{◌≡◌};
 ghost use Rattle.smtcheck_command_line.specs.Settings.{asks_for_version};
@@ -18,28 +17,28 @@ pub struct Settings<'a> {
     pub answers: &'a str,
     /// Whether the solver prints `success` before the script sets `:print-success`.
     pub print_success: bool,
-    /// Which language is taken.
+    /// The profile of the language that is accepted.
     pub profile: Profile,
-    /// How many steps the evaluation of a model may take, from 0 to 2^64 - 2: what its assertions cost.
+    /// The most steps that the evaluation of a model may cost, from 0 to 2^64 - 2. All its assertions count.
     pub steps: u64,
-    /// Whether the report is followed by an explanation of what is not confirmed.
+    /// Whether an explanation of what is not confirmed follows the report.
     pub explain: bool,
-    /// Whether a dialogue counts as not decided where a check was answered otherwise than by a confirmed `sat`,
-    /// or where there is no check.
+    /// Whether the exit status is 2 in place of 0 where a check is not answered by a confirmed `sat`, or where
+    /// there is no check.
     pub strict: bool,
 }
 
-/// Why a command line can't be taken.
+/// Why a command line is refused.
 #[derive(Debug, Drop)]
 pub enum LineFault {
     /// Memory was refused.
     Memory,
-    /// It is not in form, or asks for help: the text to print is that of the error.
+    /// It is not in form, or asks for help or the version. The text to print is that of the error.
     Refused(Error),
 }
 
 impl LineFault {
-    /// Whether the command line asks for the version, and for nothing else.
+    /// Whether the command line asks for the version.
     pub fn asks_for_version(&self) -> bool
         ensures { result ≡ asks_for_version self.now }
     {

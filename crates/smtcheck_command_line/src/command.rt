@@ -1,5 +1,5 @@
-//! What a command line may say, what the program says of it, and how its words are read. This file opens no
-//! file, and prints nothing.
+//! The words that a command line accepts, the texts of help on them, and the reading of the words. This file opens
+//! no file, and prints nothing.
 
 ghost use Rattle.std.specs.Prelude.{◌≡◌, ◌<◌, ◌-◌, ◌^◌, IfErr, IfOk, None, [], true, false};
 ghost use Rattle.clap.specs.Walk.{texts};
@@ -17,8 +17,8 @@ use clap::{Arg, ArgAction, ArgMatches, Command};
 use smt_theory::Profile;
 use std::alloc::{AllocError, Global};
 
-/// The version of the program and the kit that proves it, which `--version` prints behind the program's name.
-const VERSION: &str = "0.7.1 (rattle-kit-13f logic dac8208d650f15bf)";
+/// The version of the program and the kit that proves it, which `--version` prints after the program's name.
+const VERSION: &str = "0.7.2 (rattle-kit-13f logic dac8208d650f15bf)";
 
 const ABOUT: &str = "Checks the models that an SMT solver printed.
 
@@ -125,7 +125,7 @@ fn file<'a>(alloc: Global, id: &'a str, help: &'a str) -> Arg<'a>
         .help(help)
 }
 
-// An option without a value, which is false where it is not given.
+// An option without a value, which is false where it is missing.
 fn flag<'a>(alloc: Global, id: &'a str, help: &'a str, long_help: &'a str) -> Arg<'a>
     ensures rule { rule_of result ≡ flag_rule id.entry.now }
     ensures plain { IsPlainArg result }
@@ -158,7 +158,7 @@ fn print_success<'a>(alloc: Global) -> Arg<'a>
         .long_help(PRINT_SUCCESS)
 }
 
-// The option that says which language is taken.
+// The option for the profile of the language.
 fn profile<'a>(alloc: Global) -> Arg<'a>
     ensures rule { (places : PlacesOfTwo) × (rule_of result ≡ profile_rule places) }
     ensures plain { IsPlainArg result }
@@ -178,7 +178,7 @@ fn profile<'a>(alloc: Global) -> Arg<'a>
         .long_help(PROFILE)
 }
 
-// The option that says how many steps the evaluation of a model may take.
+// The option for the most steps that the evaluation of a model may cost.
 fn steps<'a>(alloc: Global) -> Arg<'a>
     ensures rule { rule_of result ≡ steps_rule }
     ensures plain { IsPlainArg result }
@@ -196,7 +196,9 @@ fn steps<'a>(alloc: Global) -> Arg<'a>
         .long_help(STEPS)
 }
 
-/// Reads the words of a command line, the program's name first.
+/// Reads the words of a command line, the program's name first. It refuses words that are not in form, and requests
+/// for help or the version, each with a text to print (`LineFault::Refused`). Where memory is refused, the error is
+/// `LineFault::Memory`.
 pub fn settings<'a>(alloc: Global, words: &'a [&'a str]) -> Result<Settings<'a>, LineFault>
     ensures ok { IfOk result (λ s. OfCommand (AreSettings (texts words.entry.now) s)) }
     ensures two_words { TakesTwo (texts words.entry.now) result }
@@ -228,7 +230,7 @@ pub fn settings<'a>(alloc: Global, words: &'a [&'a str]) -> Result<Settings<'a>,
     })
 }
 
-// The language that a word of the option names.
+// The profile that a word of the option names.
 fn profile_of(word: &str) -> Profile
     ensures { result ≡ profile_named word.now }
 {
@@ -239,8 +241,8 @@ fn profile_of(word: &str) -> Profile
     }
 }
 
-// Whether an option without a value is given. The contract of `get_flag` says nothing of other values than the
-// two that clap gives such an option.
+// Whether an option without a value is given. (The contract of `get_flag` covers only the two values that clap
+// gives such an option.)
 fn is_given_in(matches: &ArgMatches, id: &str) -> bool
     ensures { result ≡ is_given (first_value (found_of matches.now) id.now) }
 {

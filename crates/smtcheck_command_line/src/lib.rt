@@ -1,5 +1,5 @@
-//! The command line of the program: what it may say, and what it asks for. This crate opens no file, and
-//! knows no dialogue; the languages that a user can choose are those of `smt_theory`.
+//! The command line of the program: the words that it accepts, and what they ask for. This crate opens no file, and
+//! knows no dialogue. The profiles that a user can choose are those of `smt_theory`.
 //!
 //! ```text
 //! let words = ["smtcheck", "--print-success", "off", "--profile", "wide", "script.smt2", "answers.txt"];

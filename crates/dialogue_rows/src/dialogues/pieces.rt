@@ -1,5 +1,5 @@
-//! Dialogues that are told piece by piece: the lines that come are those of the report, however both
-//! texts are cut. This file looks into no line.
+//! Dialogues whose texts come piece by piece: however both texts are cut, the lines are those of the report. This
+//! file looks into no line.
 
 ghost use Rattle.std.specs.Prelude.{◌≡◌, ◌<◌, false};
 ghost use Rattle.smt_dialogue.specs.History.{History};
@@ -11,12 +11,12 @@ use smt_dialogue::{Failed, Options, Session};
 use std::alloc::{AllocError, Global};
 use std::io::Write;
 
-// The most bytes of a text that is cut at every place, and of one that is cut at some twenty.
+// The most bytes of a text that is cut at every place, and of one that is cut at some twenty places.
 const EVERY: usize = 600;
 
 const SOME: usize = 60_000;
 
-/// Both texts of a dialogue, and how it begins.
+/// Both texts of a dialogue, and its options.
 #[derive(Clone, Copy)]
 pub(crate) struct Dialogue<'a> {
     pub script: &'a [u8],
@@ -24,8 +24,8 @@ pub(crate) struct Dialogue<'a> {
     pub options: Options,
 }
 
-/// Tells the dialogue to sessions in pieces, and prints the first line that is another than that of the
-/// report, where there is one.
+/// Feeds the dialogue to sessions in pieces, and prints the first line that differs from that of the report, if
+/// there is one.
 pub(crate) fn print_other<W: Write>(
     alloc: Global,
     out: &mut W,
@@ -38,14 +38,14 @@ pub(crate) fn print_other<W: Write>(
     Ok(())
 }
 
-// The text of which a piece is told first in turn.
+// The text whose piece comes first each time.
 #[derive(Clone, Copy, PartialEq, Eq)]
 enum First {
     Script,
     Answers,
 }
 
-// Cuts both texts at each place in turn, or at some. Answers whether a line was another.
+// Cuts both texts at each place in turn, or at some places. Returns whether a line differed.
 fn print_other_cut<W: Write>(
     alloc: Global,
     out: &mut W,
@@ -62,7 +62,7 @@ fn print_other_cut<W: Write>(
     Ok(false)
 }
 
-// Cuts both texts at one place; those of many bytes with the script first alone.
+// Cuts both texts at one place. Long texts are fed only with the script first.
 fn print_other_at<W: Write>(
     alloc: Global,
     out: &mut W,
@@ -83,7 +83,7 @@ fn print_other_at<W: Write>(
     Ok(false)
 }
 
-// Tells both texts one byte at a time: those of few bytes with either of them first in turn.
+// Feeds both texts one byte at a time. Short texts are fed with either of them first in turn.
 fn print_other_bytes<W: Write>(
     alloc: Global,
     out: &mut W,
@@ -103,12 +103,12 @@ fn print_other_bytes<W: Write>(
     Ok(())
 }
 
-// How many bytes the longer text has.
+// The number of bytes of the longer text.
 fn length_of(dialogue: Dialogue) -> usize {
     dialogue.script.len().max(dialogue.answers.len())
 }
 
-// How far the places are apart at which texts of so many bytes are cut: the longest are cut once.
+// The distance between the places where texts of this length are cut. The longest texts are cut once.
 fn step_of(most: usize) -> usize
     ensures { 0 < result }
 {
@@ -128,7 +128,7 @@ fn name_of(first: First) -> &'static str {
     }
 }
 
-// Tells each text in two pieces, cut at one place.
+// Feeds each text in two pieces, cut at one place.
 fn tell_cut<'a>(
     alloc: Global,
     dialogue: Dialogue,
@@ -147,7 +147,7 @@ fn tell_cut<'a>(
     Ok(seen)
 }
 
-// Tells each text one byte at a time; behind the end of the shorter one its pieces are empty.
+// Feeds each text one byte at a time. After the end of the shorter one its pieces are empty.
 fn tell_bytes<'a>(
     alloc: Global,
     dialogue: Dialogue,
@@ -178,12 +178,12 @@ fn tell_each(session: &mut Session, seen: &mut Seen, dialogue: Dialogue, first: 
     Ok(())
 }
 
-// The bytes before a place and those behind it.
+// The bytes before a place, and those from there on.
 fn split(text: &[u8], place: usize) -> (&[u8], &[u8]) {
     text.split_at(place.min(text.len()))
 }
 
-// The byte at a place, or none behind the end.
+// The byte at a place, or none after the end.
 fn byte_at(text: &[u8], place: usize) -> &[u8] {
     if place < text.len() {
         &text[place..place + 1]
@@ -192,7 +192,7 @@ fn byte_at(text: &[u8], place: usize) -> &[u8] {
     }
 }
 
-// Tells a piece of each text, one of them first.
+// Feeds a piece of each text, one of them first.
 fn tell_both(
     session: &mut Session,
     seen: &mut Seen,
@@ -243,7 +243,7 @@ fn tell_answers(session: &mut Session, seen: &mut Seen, piece: &[u8]) -> Result<
     went(told)
 }
 
-// Tells the end of each text, one of them first.
+// Ends each text, one of them first.
 fn end_both(session: &mut Session, seen: &mut Seen, first: First) -> Result<()>
     requires stands { (h : History) × StandsFor session.old h }
     requires script { is_script_ended session.old ≡ false }
@@ -285,7 +285,7 @@ fn end_answers(session: &mut Session, seen: &mut Seen) -> Result<()>
     went(told)
 }
 
-// Takes the lines that are decided.
+// Takes out the decided lines, and compares them.
 fn see(session: &mut Session, seen: &mut Seen) -> Result<(), AllocError>
     ensures stands { (h : History) → StandsFor session.old h
         → (g : History) × StandsFor session.new g }
@@ -298,7 +298,7 @@ fn see(session: &mut Session, seen: &mut Seen) -> Result<(), AllocError>
     outcome
 }
 
-// A session fails where memory is refused; no row has a text of 2^64 bytes.
+// Ends the program where a session has failed: by refused memory, since no row has a text of 2^64 bytes.
 fn went(told: Result<(), Failed>) -> Result<()> {
     match told {
         Ok(()) => Ok(()),

@@ -1,11 +1,11 @@
-//! The lines that a session hands out, beside those of a report. This file knows no session.
+//! The lines of a session, compared with those of a report. This file knows no session.
 
 use smt_dialogue::Line;
 use std::alloc::{AllocError, Global};
 use std::io;
 use std::io::Write;
 
-/// How many lines came that are those of the report, and the first that is another.
+/// How many lines agreed with the report, and the first line that differed.
 #[derive(Drop)]
 pub(crate) struct Seen<'a> {
     alloc: Global,
@@ -14,7 +14,7 @@ pub(crate) struct Seen<'a> {
     other: Option<Other>,
 }
 
-/// What came in the place of a line of the report.
+/// What came in place of a line of the report.
 #[derive(Drop)]
 enum Other {
     Line(String),
@@ -23,7 +23,7 @@ enum Other {
 }
 
 impl<'a> Seen<'a> {
-    /// No line came of the report of these lines.
+    /// Before any line came, for a report with these lines.
     pub(crate) fn new(alloc: Global, report: &'a [String]) -> Seen<'a> {
         Seen {
             alloc,
@@ -33,7 +33,7 @@ impl<'a> Seen<'a> {
         }
     }
 
-    /// Takes the lines that came next.
+    /// Compares the next lines with those of the report.
     pub(crate) fn take(&mut self, lines: &[Line]) -> Result<(), AllocError> {
         for line in lines {
             self.take_line(line)?;
@@ -56,19 +56,19 @@ impl<'a> Seen<'a> {
         Ok(())
     }
 
-    /// Takes the end of both texts, behind which no line comes.
+    /// Ends the comparison: no line comes after the end of both texts.
     pub(crate) fn end(&mut self) {
         if !self.is_other() && !self.left.is_empty() {
             self.other = Some(Other::End);
         }
     }
 
-    /// Whether a line was another than that of the report.
+    /// Whether a line differed from that of the report.
     pub(crate) fn is_other(&self) -> bool {
         self.other.is_some()
     }
 
-    /// Writes which line was another, and what came.
+    /// Writes which line differed, and what came in its place.
     pub(crate) fn write<W: Write>(&self, out: &mut W) -> io::Result<()> {
         let number = self.count.saturating_add(1);
         match &self.other {

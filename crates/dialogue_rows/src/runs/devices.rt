@@ -6,16 +6,16 @@ use std::io::{ErrorKind, Read, Write};
 /// The calls of a reader or a writer, and which of them fails.
 #[derive(Clone, Copy)]
 pub(crate) struct Calls {
-    /// How many come before the one that fails.
+    /// How many calls come before the one that fails.
     before: u64,
-    /// Whether that was made.
+    /// Whether the call that fails was made.
     failed: bool,
-    /// How many were made.
+    /// How many calls were made.
     made: u64,
 }
 
 impl Calls {
-    /// The call of this number fails, from 1.
+    /// Calls of which the one of this number fails, from 1.
     pub(crate) fn failing(number: u64) -> Calls {
         Calls {
             before: number.saturating_sub(1),
@@ -24,7 +24,7 @@ impl Calls {
         }
     }
 
-    /// No call fails of as many as a run may make.
+    /// Calls of which none fails in a run.
     pub(crate) fn sound() -> Calls {
         Calls {
             before: u64::MAX,
@@ -33,7 +33,7 @@ impl Calls {
         }
     }
 
-    // Counts a call, and answers whether it fails.
+    // Counts a call, and returns whether it fails.
     fn fails(&mut self) -> bool {
         self.made = self.made.saturating_add(1);
         if self.before == 0 {
@@ -45,7 +45,7 @@ impl Calls {
     }
 }
 
-/// A reader of a text, that gives all that there is room for.
+/// A reader of a text that fills the buffer as far as the text goes.
 #[derive(Drop)]
 pub(crate) struct Text<'a> {
     left: &'a [u8],
@@ -80,17 +80,17 @@ impl Read for Text<'_> {
     }
 }
 
-/// A writer that takes one byte a call.
+/// A writer that accepts one byte in each call.
 #[derive(Drop)]
 pub(crate) struct Narrow {
     bytes: Vec<u8>,
     calls: Calls,
-    /// Whether the call that fails answers that it took no byte, and not an error.
+    /// Whether the call that fails accepts no byte, in place of returning an error.
     takes_none: bool,
 }
 
 impl Narrow {
-    /// A writer that puts what it takes behind these bytes.
+    /// A writer that adds the bytes it accepts after these.
     pub(crate) fn new(bytes: Vec<u8>, calls: Calls, takes_none: bool) -> Narrow {
         Narrow {
             bytes,
@@ -109,7 +109,7 @@ impl Narrow {
         self.calls.made
     }
 
-    /// The bytes that were taken.
+    /// All bytes of the writer.
     pub(crate) fn into_bytes(self) -> Vec<u8> {
         self.bytes
     }

@@ -1,4 +1,4 @@
-//! What is read of a text, written out. This file prints nothing, and looks into no tree.
+//! The results of the reader for a text, written out. This file prints nothing, and looks into no tree.
 
 ghost use Rattle.std.specs.Prelude.{◌≡◌, ◌+◌, ◌<◌, ◌^◌, length};
 ghost use Rattle.smt_text.specs.Reader.{is_finished, bytes_fed};
@@ -9,16 +9,16 @@ use smt_text::{Next, Reader, read_trees};
 use smt_trees::{Tree, Trees};
 use std::alloc::{AllocError, Global};
 
-/// What is read of a whole text by one call.
+/// The result of one call for a whole text.
 pub(crate) fn read_whole(alloc: Global, text: &[u8]) -> Result<Vec<u8>, AllocError> {
     match read_trees(alloc, text) {
         Ok(trees) => writing::written(alloc, trees.as_slice(), None),
-        // The trees before the fault are read again.
+        // (This call returned no trees before the fault: so they are read in pieces.)
         Err(_) => read_in_pieces(alloc, text, b"", b""),
     }
 }
 
-/// What is read of a text in three pieces, some of which may be empty. The trees are taken after each piece.
+/// The result for a text in three pieces, some of which may be empty. It takes the trees out after each piece.
 pub(crate) fn read_in_pieces(
     alloc: Global,
     first: &[u8],
@@ -40,7 +40,7 @@ pub(crate) fn read_in_pieces(
     writing::written(alloc, trees.as_slice(), fault)
 }
 
-// Takes the trees that are ready. Answers the fault behind them, if there is one.
+// Takes out the trees that are ready, and returns the fault after them, if there is one.
 fn take(reader: &mut Reader, trees: &mut Vec<Tree>) -> Result<Option<TextFault>, AllocError>
     ensures finished { is_finished reader.new ≡ is_finished reader.old }
     ensures counted { bytes_fed reader.new ≡ bytes_fed reader.old }

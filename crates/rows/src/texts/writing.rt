@@ -6,7 +6,7 @@ use smt_faults::TextFault;
 use smt_trees::{Bytes, Tree, Word, spelling, split_first};
 use std::alloc::{AllocError, Global};
 
-/// Trees, with a space behind each, and the fault behind them.
+/// Trees, with a space after each, and then the fault.
 pub(crate) fn written(
     alloc: Global,
     trees: &[Tree],
@@ -18,7 +18,7 @@ pub(crate) fn written(
     Ok(out)
 }
 
-// Writes trees, with a space behind each.
+// Writes trees, with a space after each.
 fn write_trees(out: &mut Vec<u8>, trees: &[Tree]) -> Result<(), AllocError> {
     let Some((tree, rest)) = split_first(trees) else {
         return Ok(());
@@ -41,7 +41,7 @@ fn write_trees(out: &mut Vec<u8>, trees: &[Tree]) -> Result<(), AllocError> {
     write_trees(out, rest)
 }
 
-// Writes the fault with its place, or that there is none. Want of memory is a failure of this call.
+// Writes the fault with its place, or that there is none. This call fails where the fault is that memory was refused.
 fn write_end(alloc: Global, out: &mut Vec<u8>, fault: Option<TextFault>) -> Result<(), AllocError> {
     let end = match fault {
         None => format!(in alloc; ".")?,
@@ -71,7 +71,7 @@ fn write_atom(out: &mut Vec<u8>, kind: u8, bytes: &Bytes) -> Result<(), AllocErr
     Ok(())
 }
 
-// Writes a byte, by an escape where it is white space or can't be printed.
+// Writes a byte, as an escape where it is white space, a backslash or not printable.
 fn write_byte(out: &mut Vec<u8>, byte: u8) -> Result<(), AllocError> {
     match byte {
         b'\n' => out.extend_from_slice(b"\\n")?,

@@ -1,4 +1,4 @@
-//! Terms as the nodes of a library, in which the names of a model are declared. This file prints nothing.
+//! Terms as the nodes of a library that declares the names of a model. This file prints nothing.
 
 ghost use Rattle.std.specs.Prelude.{◌<◌, ◌-◌, ◌^◌};
 ghost use Rattle.smt_trees.specs.Sexp.{Sexp};
@@ -17,7 +17,7 @@ use smt_trees::{Tree, Trees};
 use smt_values::Value;
 use std::alloc::Global;
 
-/// Declares each name that a model defines, by the command of its place, from 1.
+/// Declares each name that a model defines. The number of its command is its place in the model, from 1.
 pub(crate) fn declare_items(alloc: Global, script: &mut Library, model: &Trees) -> Result<()>
     requires { (s : Signature) × StandsFor script.old s }
     ensures { (s : Signature) × StandsFor script.new s }
@@ -53,7 +53,7 @@ fn sorts_of(alloc: Global, parameters: &[Tree]) -> Result<Vec<Tree>> {
     Ok(sorts)
 }
 
-/// What is known of a term by its node, over a model that is read behind it, or what is wrong with the term.
+/// The known value of a term, found by its node over a model that is read after the term; or the flaw of the term.
 pub(crate) fn known_by_node(
     script: &mut Library,
     model: &Trees,
@@ -73,7 +73,7 @@ pub(crate) fn known_by_node(
     }
 }
 
-/// How many of so many steps are left when a term was evaluated over a model; nothing where it costs more.
+/// How many of the given steps are left after the evaluation of a term over a model; `None` where it costs more.
 pub(crate) fn left_of(
     script: &mut Library,
     model: &Trees,
@@ -95,7 +95,7 @@ pub(crate) fn left_of(
     }
 }
 
-// What is known of a term over a model; nothing of one that costs more than is left.
+// The known value of a term over a model; `None` for a term that costs more steps than are left.
 fn known_over(
     script: &Library,
     model: &Trees,

@@ -1,4 +1,4 @@
-//! The definitions of a model as their trees. This file knows no nodes.
+//! The definitions of a model as trees. This file knows no nodes.
 
 use smt_eval::Memory;
 use smt_eval::plain::Definition;
@@ -7,7 +7,7 @@ use smt_terms::{Definition as Defined, Library};
 use smt_trees::Trees;
 use std::alloc::Global;
 
-/// The definitions of a model with their bodies, which a library of them doesn't keep as trees.
+/// The definitions of a model with their bodies as trees, which a library of them does not keep.
 pub(crate) fn plain_definitions<'a>(
     alloc: Global,
     library: &'a Library,
@@ -26,7 +26,7 @@ pub(crate) fn plain_definitions<'a>(
     Ok(definitions)
 }
 
-// Puts a definition behind others.
+// Adds a definition after the others.
 fn push_definition<'a>(
     definitions: &mut Vec<Definition<'a>>,
     defined: &'a Defined,

@@ -10,7 +10,7 @@ pub fn negation_is_the_complement_and_one()
     ensures { (m s : ℕ) → s < 2 ^ m → bvneg m s ≡ bvadd m (bvnot m s) 1 }
 {}
 
-/// To subtract what was added gives back the first number.
+/// Subtracting what was added gives back the first number.
 pub fn subtraction_undoes_addition()
     ensures { (m s t : ℕ) → s < 2 ^ m → t < 2 ^ m → bvsub m (bvadd m s t) t ≡ s }
 {}
@@ -40,14 +40,15 @@ pub fn shifts_fit()
     ensures ashr { (m s t : ℕ) → bvashr m s t < 2 ^ m }
 {}
 
-/// Multiplication is the one that adds up: by 1 it changes nothing, and it goes into sums.
+/// Multiplication by 1 changes nothing, and multiplication distributes over sums.
 pub fn multiplication_adds_up()
     ensures by_one { (m s : ℕ) → s < 2 ^ m → bvmul m s 1 ≡ s }
     ensures by_sum { (m s t u : ℕ) → bvmul m s (bvadd m t u) ≡ bvadd m (bvmul m s t) (bvmul m s u) }
 {}
 
-/// What the five divisions give by 0 (SMT-LIB 2.6, theory FixedSizeBitVectors and logic QF_BV): all bits set,
-/// and the dividend; of the signed quotient 1 for a dividend below 0, and -1 for another.
+/// What the five divisions give by 0 (SMT-LIB 2.6, theory FixedSizeBitVectors and logic QF_BV). The unsigned
+/// quotient has all bits set, and each remainder is the dividend. The signed quotient is 1 for a dividend
+/// below 0, and -1 for any other.
 pub fn division_by_zero_is_as_the_standard_has_it()
     ensures quotient { (m s : ℕ) → bvudiv m s 0 ≡ bvnot m 0 }
     ensures remainder { (m s : ℕ) → bvurem m s 0 ≡ s }

@@ -5,7 +5,7 @@ ghost use Rattle.std.specs.Str.Parse.{AllDigits, digits_value};
 ghost use Rattle.smt_bits.specs.BitVector.{vector};
 ghost use Rattle.smt_bits.specs.Literals.{bin_vector, hex_vector};
 
-/// A constant's number is the one that its digits spell, which fits the bits that they have.
+/// The number of a constant is the one that its digits spell, in as many bits as they have.
 pub fn constants_are_their_digits()
     ensures hexadecimal { (digits : List ℕ) → AllDigits 16 digits
         → hex_vector digits ≡ vector (4 * length digits) (digits_value 16 digits) }

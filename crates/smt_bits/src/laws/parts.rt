@@ -6,13 +6,13 @@ ghost use Rattle.smt_bits.specs.BitVector.{BitVector, IsVector, signed};
 ghost use Rattle.smt_bits.specs.Operators as meaning;
 ghost use Rattle.smt_bits.specs.Parts.{zero_extension};
 
-/// A bit vector that is cut in two and put together again is the same.
+/// A bit vector that is cut in two and concatenated again is the same.
 pub fn a_vector_is_its_parts()
     ensures { (m j s : ℕ) → 1 ≤ j → j < m → s < 2 ^ m
         → meaning.concat j (meaning.extract (m - 1) j s) (meaning.extract (j - 1) 0 s) ≡ s }
 {}
 
-/// To rotate by as much in the other direction brings a bit vector back.
+/// A rotation by as much in the other direction brings a bit vector back.
 pub fn rotations_are_inverse()
     ensures left { (i m s : ℕ) → 1 ≤ m → s < 2 ^ m
         → meaning.rotate_right i m (meaning.rotate_left i m s) ≡ s }
@@ -20,14 +20,13 @@ pub fn rotations_are_inverse()
         → meaning.rotate_left i m (meaning.rotate_right i m s) ≡ s }
 {}
 
-/// A bit vector that is extended by its sign stands for the same integer.
+/// A sign extension keeps the integer that a bit vector is, read as signed.
 pub fn sign_extension_keeps_the_integer()
     ensures { (i m s : ℕ) → 1 ≤ m → s < 2 ^ m → signed (m + i) (meaning.sign_extend i m s) ≡ signed m s }
 {}
 
-/// The bits of what is cut out, put together or repeated are those of the vectors that it is made of, in
-/// their order, the bit of place 0 being the lowest (SMT-LIB 2.6, theory FixedSizeBitVectors and logic
-/// QF_BV).
+/// The results of `extract`, `concat` and `repeat` have the bits of their vectors, in order; the bit at place
+/// 0 is the lowest (SMT-LIB 2.6, theory FixedSizeBitVectors and logic QF_BV).
 pub fn parts_have_their_bits()
     ensures concat_low { (n s t k : ℕ) → k < n → bit_at (meaning.concat n s t) k ≡ bit_at t k }
     ensures concat_high { (n s t k : ℕ) → t < 2 ^ n → bit_at (meaning.concat n s t) (n + k) ≡ bit_at s k }
@@ -36,8 +35,8 @@ pub fn parts_have_their_bits()
         → bit_at (meaning.repeat i m s) k ≡ bit_at s (k % m) }
 {}
 
-/// A rotation to the left by i takes the bit of place k to place k + i, and one to the right that of place k
-/// + i to place k, around the width (SMT-LIB 2.6, logic QF_BV).
+/// A rotation to the left by i moves the bit at place k to place k + i, around the width. One to the right
+/// moves the bit at place k + i to place k (SMT-LIB 2.6, logic QF_BV).
 pub fn rotations_move_bits_around()
     ensures left { (i m s k : ℕ) → s < 2 ^ m → k < m
         → bit_at (meaning.rotate_left i m s) ((k + i) % m) ≡ bit_at s k }
@@ -45,7 +44,7 @@ pub fn rotations_move_bits_around()
         → bit_at (meaning.rotate_right i m s) k ≡ bit_at s ((k + i) % m) }
 {}
 
-/// An extension keeps the bits, and past them it has zeros, or copies of the highest one (SMT-LIB 2.6, logic
+/// An extension keeps the bits, and has zeros above them, or copies of the highest one (SMT-LIB 2.6, logic
 /// QF_BV).
 pub fn extensions_keep_bits()
     ensures zero_extend { (i k : ℕ) (v w : BitVector) → zero_extension i v ≡ Some w

@@ -4,20 +4,20 @@ ghost use Rattle.std.specs.Prelude.{◌≡◌, ℕ, ◌+◌, ◌-◌, ◌^◌, �
 ghost use Rattle.std.specs.Int.{bit_at};
 ghost use Rattle.smt_bits.specs.Operators.{bvashr, bvlshr, bvshl};
 
-/// A shift to the left by t takes the bit of place k to place t + k, and has zeros below t.
+/// A shift to the left by t moves the bit at place k to place t + k, and leaves zeros below place t.
 pub fn shifts_left_move_bits()
     ensures moved { (m s t k : ℕ) → t + k < m → bit_at (bvshl m s t) (t + k) ≡ bit_at s k }
     ensures zeros { (m s t k : ℕ) → k < t → bit_at (bvshl m s t) k ≡ 0 }
 {}
 
-/// A shift to the right by t takes the bit of place t + k to place k, and zeros from past the width.
+/// A shift to the right by t moves the bit at place t + k to place k; zeros come in from beyond the width.
 pub fn shifts_right_move_bits()
     ensures moved { (m s t k : ℕ) → bit_at (bvlshr m s t) k ≡ bit_at s (t + k) }
     ensures zeros { (m s t k : ℕ) → s < 2 ^ m → m ≤ t + k → bit_at (bvlshr m s t) k ≡ 0 }
 {}
 
-/// An arithmetic shift to the right by t takes the bit of place t + k to place k, and copies of the highest
-/// bit from past the width: all zeros or all ones where t is the width or more.
+/// An arithmetic shift to the right by t moves the bit at place t + k to place k; copies of the highest bit
+/// come in from beyond the width. Where t is the width or more, the result is all zeros or all ones.
 pub fn arithmetic_shifts_keep_the_sign()
     ensures moved { (m s t k : ℕ) → s < 2 ^ m → t + k < m → bit_at (bvashr m s t) k ≡ bit_at s (t + k) }
     ensures signs { (m s t k : ℕ) → s < 2 ^ m → k < m → m ≤ t + k

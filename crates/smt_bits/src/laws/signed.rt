@@ -5,8 +5,8 @@ ghost use Rattle.std.specs.Prelude.{◌<ℤ◌, int_div, int_rem, unsigned_abs};
 ghost use Rattle.smt_bits.specs.BitVector.{modulo, signed};
 ghost use Rattle.smt_bits.specs.Operators as meaning;
 
-/// Each number of m bits stands for one integer from -2^(m-1) on and below 2^(m-1), and each of these for one
-/// number of m bits.
+/// Read as signed, each number of m bits is one integer from -2^(m-1) on and below 2^(m-1), and each of these
+/// is one number of m bits.
 pub fn the_signed_reading_is_one_to_one()
     ensures number { (m s : ℕ) → s < 2 ^ m → modulo m (signed m s) ≡ s }
     ensures integer { (m : ℕ) (z : ℤ) → neg_ℤ (pos (2 ^ m)) ≤ℤ z → z <ℤ pos (2 ^ m)
@@ -15,7 +15,7 @@ pub fn the_signed_reading_is_one_to_one()
     ensures high { (m s : ℕ) → s < 2 ^ suc m → signed (suc m) s <ℤ pos (2 ^ m) }
 {}
 
-/// `bvsdiv` and `bvsrem` by a number that is not 0 are the quotient, modulo 2^m, and the remainder of the
+/// `bvsdiv` and `bvsrem` by a number other than 0 are the quotient, modulo 2^m, and the remainder of the
 /// division that rounds towards 0.
 pub fn signed_division_is_by_the_law()
     ensures exact { (m s t : ℕ)
@@ -30,7 +30,7 @@ pub fn signed_division_is_by_the_law()
     ensures at_most_zero { (m s t : ℕ) → signed m s ≤ℤ pos 0 → int_rem (signed m s) (signed m t) ≤ℤ pos 0 }
 {}
 
-/// `bvsmod` by a number that is not 0 is the remainder that is 0 or has the divisor's sign.
+/// `bvsmod` by a number other than 0 is the remainder that is 0 or has the divisor's sign.
 pub fn signed_modulus_is_by_the_law()
     ensures exact { (m s t : ℕ) → 1 ≤ m → s < 2 ^ m → t < 2 ^ m → t ≢ 0
         → (q : ℤ) × (signed m s ≡ q *ℤ signed m t +ℤ signed m (meaning.bvsmod m s t)) }
@@ -42,7 +42,7 @@ pub fn signed_modulus_is_by_the_law()
         → signed m t ≤ℤ pos 0 → signed m (meaning.bvsmod m s t) ≤ℤ pos 0 }
 {}
 
-/// `bvcomp` is 1 for equals and for nothing else.
+/// `bvcomp` is 1 for equal numbers and for no others.
 pub fn equals_are_compared()
     ensures set { (s t : ℕ) → meaning.bvcomp s t ≡ 1 → s ≡ t }
     ensures equal { (s t : ℕ) → s ≡ t → meaning.bvcomp s t ≡ 1 }

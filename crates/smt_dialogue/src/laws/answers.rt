@@ -1,4 +1,4 @@
-//! Laws of answers: which command takes which, and which say that their command took no effect. Nothing here
+//! Laws of answers: which command accepts which, and which say that their command took no effect. Nothing here
 //! does anything: each contract is a law.
 
 ghost use Rattle.std.specs.Prelude.{◌≡◌, ◌⊎◌, ◌↔◌, ℕ, List, [], ◌∷◌, true, false, codes, map};
@@ -47,10 +47,9 @@ pub fn answers_have_their_forms()
         ≡ true ∷ true ∷ [] }
 {}
 
-/// What a command of each kind needs of the answers where `success` is printed, and where it is not: in this
-/// order `check-sat`, `get-model`, `echo`, other queries, `exit`, the option set to true and to false, other
-/// settings, the logic, changes and `reset`. In the profile Wide a solver may say of a logic that it is not
-/// known.
+/// What a command of each kind needs of the answers where `success` is printed, and where it is not. The kinds are,
+/// in this order, `check-sat`, `get-model`, `echo`, other queries, `exit`, the option set to true and to false, other
+/// settings, the logic, changes and `reset`. In the profile Wide a solver may say of a logic that it is not known.
 pub fn needs_go_by_the_kind()
     ensures printed { (profile : Profile) → map (need_of_kind profile true)
         (kinds.Check ∷ kinds.Model ∷ kinds.Echo ∷ kinds.Query ∷ kinds.Exit ∷ kinds.PrintSuccess true

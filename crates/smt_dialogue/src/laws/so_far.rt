@@ -1,11 +1,22 @@
 //! What holds of the lines of two texts so far, of which more may come. Nothing here does anything: each
 //! contract is a law, and each call is of a law that it rests on.
 
-ghost use Rattle.std.specs.Prelude.{◌≡◌, ℕ, List, Bool, true};
+ghost use Rattle.std.specs.Prelude.{◌≡◌, ◌++◌, ◌∷◌, ℕ, List, Bool, Some, true};
+ghost use Rattle.smt_trees.specs.Sexp.{Sexp};
+ghost use Rattle.smt_script.specs.Command.{is_check};
 ghost use Rattle.smt_dialogue.specs.FirstFault.{TextSoFar};
+ghost use Rattle.smt_dialogue.specs.InForce.{signature_after};
+ghost use Rattle.smt_dialogue.specs.Judgement.{judgement_of};
+ghost use Rattle.smt_dialogue.specs.Lines.{claims_of_check, unchecked_answer};
+ghost use Rattle.smt_dialogue.specs.Pairs.{Pair};
 ghost use Rattle.smt_dialogue.specs.Report.{IsReport};
 ghost use Rattle.smt_dialogue.specs.SoFar.{AreGrown, AreLinesSoFar, IsBeginning, IsGrown, IsSoFar};
+ghost use Rattle.smt_dialogue.specs.Validity.{IsSatCheck};
+ghost use Rattle.smt_dialogue.specs.VerdictLaws.{HasItsLine, IsModelIn, IsWaitingWith};
+ghost use Rattle.smt_dialogue.specs.Window.{Printed, closes};
+ghost use Rattle.smt_dialogue.specs.declared.judgement.Judgement.TheVariants.{Confirmed};
 ghost use Rattle.smt_dialogue.specs.declared.options.Options.{Options};
+ghost use Rattle.smt_report.specs.declared.line.CheckAnswer.{CheckAnswer};
 ghost use Rattle.smt_report.specs.declared.line.Line.{Line};
 
 use smt_text::laws::{every_text_reads, one_reading, read_faults_stay, read_trees_stay};
@@ -55,3 +66,29 @@ pub fn lines_so_far_stay()
     read_trees_stay();
     decided_lines_stay();
 }
+
+/// Where a dialogue waits, each check that is decided has its line among the lines so far: one that was answered
+/// otherwise than `sat`, a `sat` with a model that is not confirmed, and each `sat` whose window has ended or is
+/// closed where it waits.
+pub fn decided_checks_have_their_lines()
+    ensures answered { (options : Options) (script answers : TextSoFar) (before after : List Pair)
+        (check : Pair) (closed : Bool) (ls : List Line) (answer : Sexp) (other : CheckAnswer)
+        → IsWaitingWith options script answers before check after closed ls
+        → is_check check.command ≡ true → check.answer ≡ Some answer → unchecked_answer answer ≡ Some other
+        → HasItsLine before ls }
+    ensures unconfirmed { (options : Options) (script answers : TextSoFar) (before after : List Pair)
+        (check : Pair) (closed : Bool) (ls : List Line) (model : Printed)
+        → IsWaitingWith options script answers before check after closed ls
+        → IsSatCheck check → IsModelIn before after model
+        → (judgement_of options.limit.steps (signature_after options.profile before)
+        (claims_of_check options.profile before check.command) model.parts ≡ Confirmed → ⊥)
+        → HasItsLine before ls }
+    ensures ended { (options : Options) (script answers : TextSoFar) (before first last : List Pair)
+        (check next : Pair) (closed : Bool) (ls : List Line)
+        → IsWaitingWith options script answers before check (first ++ next ∷ last) closed ls
+        → IsSatCheck check → closes next ≡ true → HasItsLine before ls }
+    ensures closed { (options : Options) (script answers : TextSoFar) (before after : List Pair)
+        (check : Pair) (ls : List Line)
+        → IsWaitingWith options script answers before check after true ls
+        → IsSatCheck check → HasItsLine before ls }
+{}

@@ -1,4 +1,4 @@
-//! Laws of the models of a check: what ends them, which they are, and which claim is told. Nothing here does
+//! Laws of the models of a check: what ends them, which they are, and which claim is reported. Nothing here does
 //! anything: each contract is a law.
 
 ghost use Rattle.std.specs.List.{All};
@@ -14,8 +14,8 @@ ghost use Rattle.smt_dialogue.specs.Pairs.{Pair, pair_of};
 ghost use Rattle.smt_dialogue.specs.Window.{Printed, asks_model, closes, models_from};
 ghost use Rattle.smt_script.specs.Command.{kind_of};
 
-/// The models of a check end at the next check, whatever its answer, and at a command that changes what is in
-/// force and was not refused; and at no other command.
+/// The models of a check end at the next check, whatever its answer, and at a command that changes what is in force
+/// and was not refused. They end at no other command.
 pub fn windows_end_at_checks_and_changes()
     ensures checks { (literals : Sexps) (answer : Option Sexp) → (closes (pair_of CheckSat answer) ≡ true)
         × (closes (pair_of (CheckSatAssuming literals) answer) ≡ true) }
@@ -28,8 +28,8 @@ pub fn windows_end_at_checks_and_changes()
         → closes_window command ≡ false → closes (pair_of command answer) ≡ false }
 {}
 
-/// The models of pairs are those of the first pairs and then those of the others; and of a single pair the list
-/// that was answered to a `get-model`, unless it is an error.
+/// The models of pairs are those of the first pairs and then those of the others. The model of a single pair is the
+/// list that answered its `get-model`, unless that list is an error.
 pub fn models_are_the_lists_that_were_asked_for()
     ensures joined { (n : ℕ) (xs ys : List Pair)
         → models_from n (xs ++ ys) ≡ models_from n xs ++ models_from (n + length xs) ys }
@@ -43,8 +43,8 @@ pub fn models_are_the_lists_that_were_asked_for()
         → models_from n (pair_of command answer ∷ []) ≡ [] }
 {}
 
-/// A claim is the first that passes a test exactly where it passes and none before it does; and there is none
-/// exactly where none passes.
+/// A claim is the first that passes a test exactly where it passes and no claim before it passes. There is no first
+/// claim exactly where none passes.
 pub fn first_claims_have_none_before()
     ensures found { (test : Sexp → Bool) (claims : List Claimed) (claim : Claim)
         → (first_claim test claims ≡ Some claim)

@@ -1,5 +1,4 @@
-//! Laws of the values of terms: of a `let` by putting terms in place, and of calls by a `let`. Nothing here does
-//! anything.
+//! Laws of the values of terms: a `let` as substitution, and a call as a `let`. Nothing here does anything.
 
 ghost use Rattle.std.specs.List.{zip};
 ghost use Rattle.std.specs.Prelude.{◌≡◌, ◌≢◌, ℕ, List, [], ◌∷◌, All};
@@ -13,9 +12,9 @@ ghost use Rattle.smt_eval.specs.Substitution.{let_of, put_in};
 ghost use Rattle.smt_terms.specs.Signature.{Defined, Entry, Signature, with_entry};
 ghost use Rattle.smt_eval.specs.Meaning.{meaning_in, value_over, values_of};
 
-/// A `let` of terms whose values depend on no variable is its body with these terms in place of the names that
-/// are bound, where no inner `let` hides them; and in whatever order two neighbours are bound, each term is seen
-/// without the other (SMT-LIB 2.6, sections 3.6.1 and 5.3).
+/// A `let` whose terms' values depend on no variable has the value of its body with these terms in place of
+/// the bound names, where no inner `let` hides them. The first two bindings may change places where their
+/// names differ: neither term sees the other's name (SMT-LIB 2.6, sections 3.6.1 and 5.3).
 pub fn lets_are_put_in_place()
     ensures closed { (z : DivisionByZero) (definitions : Signature) (r : List (List ℕ × Element))
         (bs : List (List ℕ × Sexp)) (body : Sexp)
@@ -28,9 +27,9 @@ pub fn lets_are_put_in_place()
         ≡ value_over z definitions r (let_of ((y, t) ∷ (x, s) ∷ bs) body) }
 {}
 
-/// A call of the last definition is the `let` of its parameters over the definitions before it, where these give
-/// its arguments the same values; a constant is its body; and other names mean what they did (SMT-LIB 2.6,
-/// sections 4.2.3 and 5.3).
+/// A call of the last definition has the value of the `let` of its parameters over the definitions before it,
+/// where these give its arguments the same values. A constant has the value of its body, and other names keep
+/// their meanings (SMT-LIB 2.6, sections 4.2.3 and 5.3).
 pub fn calls_are_lets()
     ensures call { (z : DivisionByZero) (s : Signature) (e : Entry) (ps : List (List ℕ)) (body first : Sexp)
         (rest : Sexps) → e.origin ≡ Defined ps body

@@ -19,8 +19,8 @@ use smt_terms::TermFault;
 use smt_trees::{Tree, Trees, Word, split_first};
 use smt_values::{Value, bin, hex, numeral};
 
-/// What is known of a term over the definitions that it sees, where the variables have these values, the
-/// innermost first.
+/// What is known of a term over the definitions that it sees. The variables have these values, the innermost
+/// first.
 #[cycle(known_plain)]
 pub(crate) fn known_value<'a>(
     over: Definitions<'_>,
@@ -55,7 +55,7 @@ fn known_symbol(
     }
 }
 
-// What is known of the term that is a list of these parts.
+// What is known of a term that is a list of these parts.
 #[cycle(known_plain)]
 fn known_list<'a>(
     over: Definitions<'_>,
@@ -73,7 +73,7 @@ fn known_list<'a>(
     }
 }
 
-// What is known of a list that begins with a reserved word, by what stands behind it.
+// What is known of a list that begins with a reserved word, by the parts after the word.
 #[cycle(known_plain)]
 fn known_reserved<'a>(
     over: Definitions<'_>,
@@ -95,7 +95,7 @@ fn known_reserved<'a>(
     }
 }
 
-// What is known of the identifier `(_ symbol index ..)`, by what stands behind the `_`.
+// What is known of the identifier `(_ symbol index ..)`, by the parts after the `_`.
 fn known_indexed(over: Definitions<'_>, parts: &[Tree]) -> Result<Option<Value>, Memory>
     ensures { Gives (known_by (indexed (sexps_of parts.now)) (λ f. meaning_of over.entry f [])) result }
 {
@@ -106,7 +106,7 @@ fn known_indexed(over: Definitions<'_>, parts: &[Tree]) -> Result<Option<Value>,
     }
 }
 
-// What is known of the term `(let (binding ..) body)`, by what stands behind the `let`.
+// What is known of the term `(let (binding ..) body)`, by the parts after the `let`.
 #[cycle(known_plain)]
 fn known_let<'a>(
     over: Definitions<'_>,
@@ -124,7 +124,7 @@ fn known_let<'a>(
     known_value(over, variables.as_slice(), body)
 }
 
-// The variables that bindings bring, with what is known of each: each term is seen without them.
+// The variables of bindings, with what is known of each. Each term is evaluated without these variables.
 #[cycle(known_plain)]
 fn knowns_bound_by<'a>(
     over: Definitions<'_>,
@@ -144,7 +144,7 @@ fn knowns_bound_by<'a>(
     Ok(variables)
 }
 
-// What is known of what a head is applied to: the head is no reserved word that begins a term.
+// What is known of a head applied to arguments. The head is no reserved word that begins a term.
 #[cycle(known_plain)]
 fn known_call<'a>(
     over: Definitions<'_>,

@@ -46,8 +46,8 @@ pub(crate) fn known_applied(
     }
 }
 
-/// What is known of a symbol that is no variable, applied to arguments: what its definition gives, or what
-/// the operator does.
+/// What is known of a symbol that is no variable, applied to arguments: what its definition gives, or else
+/// what the operator of that name gives.
 #[cycle(known_plain)]
 pub(crate) fn known_named(
     over: Definitions<'_>,
@@ -83,7 +83,7 @@ fn known_body(
     known_value(earlier, variables.as_slice(), definition.body)
 }
 
-// The last definition of a name, with those before it.
+// The last definition of a name, with the definitions before it.
 fn last_named<'a>(
     definitions: &'a [Definition<'a>],
     name: &[u8],
@@ -106,7 +106,7 @@ fn last_named<'a>(
     None
 }
 
-/// What an operator gives, if a name is one.
+/// What an operator gives for arguments; `None` where the name is no operator's.
 pub(crate) fn known_of_operator(op: Result<Op, OpFault>, args: &[Option<Value>]) -> Option<Value>
     ensures { known_element result ≡ known_of_op op (known_elements args.now) }
 {

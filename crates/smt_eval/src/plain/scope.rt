@@ -12,7 +12,7 @@ use smt_theory::Sort;
 use smt_values::Value;
 use std::alloc::Global;
 
-/// Puts a variable behind others.
+/// Appends a variable.
 pub(crate) fn push_variable<'a>(
     variables: &mut Vec<Variable<'a, Option<Value>>>,
     name: &'a [u8],
@@ -27,7 +27,7 @@ pub(crate) fn push_variable<'a>(
     }
 }
 
-/// The parameters of a definition with what is known of the arguments, the first with the first.
+/// The parameters of a definition, each with what is known of the argument at its place.
 pub(crate) fn bind<'a>(
     alloc: Global,
     params: &'a [(Vec<u8>, Sort)],

@@ -1,4 +1,5 @@
-//! Which of two faults of a form is told: that it is not supported, or that it is none. Nothing here does anything.
+//! Which of two faults of a form is reported: that it is not supported, or that it is ill formed. Nothing
+//! here does anything.
 
 ghost use Rattle.std.specs.Prelude.{◌≡◌, ◌↔◌, ◌⊎◌, List, [], ◌∷◌, Err, All};
 ghost use Rattle.smt_faults.specs.declared.term_flaw.TermFlaw.TheVariants.{Unsupported};
@@ -7,9 +8,13 @@ ghost use Rattle.smt_trees.specs.declared.reserved.Word.TheVariants as words;
 ghost use Rattle.smt_forms.specs.Identifier.{applied};
 ghost use Rattle.smt_forms.specs.ItemForm.{item_form};
 
-/// What is not supported is told by its word, whatever stands behind it: a term that begins with `forall`,
-/// `exists`, `match` or `as`, or that applies an `as`, and an item that begins with `define-fun-rec` or
-/// `define-funs-rec`. What else is no term and no item has a wrong form.
+/// The word of a form alone decides whether it is reported as unsupported, whatever follows the word.
+/// Unsupported are:
+///
+/// - a term that begins with `forall`, `exists`, `match` or `as`, or that applies an `as`;
+/// - an item that begins with `define-fun-rec` or `define-funs-rec`.
+///
+/// Every other list that is no term or no item has a wrong form.
 pub fn unsupported_forms_are_told_by_their_words()
     ensures words { (args : Sexps) → All (λ w. applied (Reserved w) args ≡ Err Unsupported)
         (words.Forall ∷ words.Exists ∷ words.Match ∷ words.As ∷ []) }

@@ -1,4 +1,4 @@
-//! The trees behind the word of a command, taken one after another. This file knows no command.
+//! The trees after the word of a command, taken one after another. This file knows no command.
 
 ghost use Rattle.std.specs.Prelude.{◌≡◌, MatchOption};
 ghost use Rattle.smt_trees.specs.Sexp.{Nil, Cons, Sexp};
@@ -7,7 +7,7 @@ ghost use Rattle.smt_trees.specs.Tree.{sexp_of};
 use smt_trees::{Tree, Trees};
 use std::vec::IntoIter;
 
-/// Trees that are taken one by one.
+/// Trees that are taken from the front, one by one.
 #[derive(Drop)]
 pub(crate) struct Parts {
     left: IntoIter<Tree>,
@@ -17,7 +17,7 @@ impl Parts {
     ghost use Rattle.smt_script.specs.Internal.PartsView.{behind_first, parts_view};
     ghost use Rattle.smt_script.specs.Parts.{is_none};
 
-    /// The trees behind the first.
+    /// The trees after the first.
     pub(crate) fn behind_first(trees: Trees) -> Self
         ensures { parts_view result ≡ behind_first trees }
     {
@@ -30,7 +30,7 @@ impl Parts {
         }
     }
 
-    /// Takes the next tree.
+    /// Takes the next tree; `None` where none is left.
     pub(crate) fn next(&mut self) -> Option<Tree>
         ensures { MatchOption result ((parts_view self.old ≡ Nil) × (parts_view self.new ≡ Nil))
             (λ tree. parts_view self.old ≡ Cons (sexp_of tree) (parts_view self.new)) }
@@ -38,7 +38,7 @@ impl Parts {
         self.left.next()
     }
 
-    /// Whether there is none.
+    /// Whether no tree is left.
     pub(crate) fn is_empty(mut self) -> bool
         ensures { result ≡ is_none (parts_view self) }
     {

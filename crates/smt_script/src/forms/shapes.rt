@@ -1,5 +1,4 @@
-//! The shapes of what stands behind the words of commands: one symbol, a name and a sort, and so on. This
-//! file knows no command.
+//! The shapes of the parts of commands: one symbol, a name and a sort, and so on. This file knows no command.
 
 ghost use Rattle.std.specs.Prelude.{◌≡◌, Some, None, option_map, if◌then◌else◌};
 ghost use Rattle.std.specs.Str.Parse.{digits_value};
@@ -23,7 +22,7 @@ pub(crate) fn one_symbol(mut parts: Parts) -> Option<Bytes>
     only(name, parts)
 }
 
-// This, where nothing follows.
+// These bytes, where no part follows.
 fn only(bytes: Bytes, parts: Parts) -> Option<Bytes>
     ensures { result ≡ (if shapes.is_none (parts_view parts) then Some bytes else None) }
 {
@@ -40,7 +39,7 @@ pub(crate) fn one_numeral(mut parts: Parts) -> Option<Bytes>
     only(digits, parts)
 }
 
-/// The digits of one numeral, or none where nothing stands there.
+/// The digits of one numeral, or `Some(None)` where there is no part.
 pub(crate) fn numeral_or_none(mut parts: Parts) -> Option<Option<Bytes>>
     ensures { option_map levels_in result ≡ shapes.numeral_or_one (parts_view parts) }
 {
@@ -76,7 +75,7 @@ pub(crate) fn one_tree(mut parts: Parts) -> Option<Tree>
     if parts.is_empty() { Some(tree) } else { None }
 }
 
-/// The trees of one list with one tree or more.
+/// The trees of one list, which has at least one.
 pub(crate) fn one_list(mut parts: Parts) -> Option<Trees>
     ensures { result ≡ shapes.one_list (parts_view parts) }
 {
@@ -89,7 +88,7 @@ pub(crate) fn one_list(mut parts: Parts) -> Option<Trees>
     Some(trees)
 }
 
-/// The literals of one list, which may have none: each a symbol, or a list of the symbol `not` and a symbol.
+/// The literals of one list, which may be empty: each a symbol, or a list of the symbol `not` and a symbol.
 pub(crate) fn one_list_of_literals(mut parts: Parts) -> Option<Trees>
     ensures { result ≡ shapes.one_list_of_literals (parts_view parts) }
 {
@@ -102,7 +101,7 @@ pub(crate) fn one_list_of_literals(mut parts: Parts) -> Option<Trees>
     Some(trees)
 }
 
-/// The trees of one list, which may have none.
+/// The trees of one list, which may be empty.
 pub(crate) fn any_list(mut parts: Parts) -> Option<Trees>
     ensures { result ≡ shapes.any_list (parts_view parts) }
 {
@@ -135,7 +134,7 @@ fn is_literal(tree: &Tree) -> bool
     }
 }
 
-// Whether these are the symbol `not` and a symbol.
+// Whether the trees are the symbol `not` and a symbol.
 fn is_negation(parts: &[Tree]) -> bool
     ensures { result ≡ shapes.is_negation (sexps_of parts.now) }
 {
@@ -148,7 +147,7 @@ fn is_negation(parts: &[Tree]) -> bool
     }
 }
 
-/// A tree, or none; `None` where there are more.
+/// One tree, or none: `None` where there are more.
 fn tree_or_none(mut parts: Parts) -> Option<Option<Tree>>
     ensures { option_map (option_map sexp_of) result ≡ shapes.tree_or_none (parts_view parts) }
 {
@@ -208,7 +207,7 @@ fn two_trees(mut parts: Parts) -> Option<(Tree, Tree)>
     Some((first, second))
 }
 
-/// A name, and two more trees.
+/// A name and two more trees.
 pub(crate) fn name_and_two(mut parts: Parts) -> Option<(Bytes, Tree, Tree)>
     ensures { option_map (λ p. (p.0, (sexp_of p.1, sexp_of p.2))) result
         ≡ shapes.name_and_two (parts_view parts) }
@@ -269,7 +268,7 @@ pub(crate) fn name_and_abbreviated(mut parts: Parts) -> Option<(Bytes, Tree)>
     Some((name, sort))
 }
 
-/// The truth value that the value of an option is.
+/// The truth value that the value of an option is; `None` where it is no truth value.
 pub(crate) fn truth_of_value(value: &Option<Tree>) -> Option<bool>
     ensures { result ≡ shapes.truth_of_value (option_map sexp_of value.now) }
 {
@@ -280,7 +279,7 @@ pub(crate) fn truth_of_value(value: &Option<Tree>) -> Option<bool>
     }
 }
 
-/// Whether these parts of a `define-sort` are in form, its parameters being any trees.
+/// Whether these parts of a `define-sort` are in form, whatever trees its parameters are.
 pub(crate) fn is_abbreviation(parts: &[Tree]) -> bool
     ensures { result ≡ commands.is_abbreviation (sexps_of parts.now) }
 {

@@ -15,7 +15,7 @@ ghost use Rattle.smt_script.specs.Command.{command_of, is_check};
 ghost use Rattle.smt_script.specs.Parts.{are_literals};
 ghost use Rattle.smt_script.specs.Stack.{literals_of};
 
-/// The literals of a `check-sat-assuming` are those of its list, one by one, and no other command assumes any
+/// The literals of a `check-sat-assuming` are those of its list, one by one; no other command assumes any
 /// (SMT-LIB 2.6, section 4.2.5).
 pub fn literals_are_those_of_the_list()
     ensures none { literals_of (CheckSatAssuming Nil) ≡ [] }
@@ -25,8 +25,8 @@ pub fn literals_are_those_of_the_list()
         → (ts : Sexps) × (command ≡ CheckSatAssuming ts) }
 {}
 
-/// Which commands ask whether the assertions are satisfiable, and which change what is in force, so that they
-/// end the models of the check before them: all commands, by what they are.
+/// Which commands ask whether the assertions are satisfiable, and which change what is in force and so end
+/// the models of the check before them. Every command is listed.
 pub fn commands_are_checks_or_changes()
     ensures checks { (ts : Sexps) → All (λ c. (is_check c ≡ true) × (closes_window c ≡ false))
         (CheckSat ∷ CheckSatAssuming ts ∷ []) }
@@ -40,9 +40,8 @@ pub fn commands_are_checks_or_changes()
         ∷ GetModel ∷ Echo x ∷ Get query ∷ []) }
 {}
 
-/// Of the two faults of a list that is no command, which is told: that it is not supported, of a command of
-/// datatypes, of sorts or of recursive functions whatever stands behind its word, and of a `define-sort` with
-/// parameters.
+/// These lists are reported as unsupported, and not as ill formed: a command of datatypes, of sorts or of
+/// recursive functions, whatever follows its word, and a `define-sort` with parameters.
 pub fn unsupported_commands_are_told_by_their_words()
     ensures words { (profile : Profile) (parts : Sexps)
         → All (λ w. command_of profile (Items (Cons (Reserved w) parts)) ≡ Err Unsupported)
@@ -53,14 +52,14 @@ pub fn unsupported_commands_are_told_by_their_words()
         (Cons (Atom Symbol x) (Cons (Items (Cons p ps)) (Cons sort Nil))))) ≡ Err Unsupported }
 {}
 
-/// Whatever is a command in the profile Base is the same command in the profile Wide.
+/// Each command of the profile Base is the same command in the profile Wide.
 pub fn wide_reads_what_base_reads()
     ensures { (tree : Sexp) (command : Command) → command_of Base tree ≡ Ok command
         → command_of Wide tree ≡ Ok command }
 {}
 
-/// What is a command in Wide alone: `(push)` and `(pop)` without a numeral mean one level, a constant may be
-/// defined, and any terms may be assumed (SMT-LIB 2.7).
+/// Forms that are commands in the profile Wide: `(push)` and `(pop)` without a numeral, for one level; the
+/// definition of a constant; and any terms as assumptions (SMT-LIB 2.7).
 pub fn wide_has_more_forms()
     ensures levels { (command_of Wide (Items (Cons (Reserved words.Push) Nil)) ≡ Ok (Push 1))
         × (command_of Wide (Items (Cons (Reserved words.Pop) Nil)) ≡ Ok (Pop 1)) }
@@ -72,8 +71,8 @@ pub fn wide_has_more_forms()
         ≡ Ok (CheckSatAssuming terms) }
 {}
 
-/// In Base these are refused for their form: `(push)` and `(pop)`, whatever defines a constant, and assumptions
-/// of which one is no literal (SMT-LIB 2.6, sections 4.2.2 and 4.2.5).
+/// The profile Base refuses these for their form: `(push)` and `(pop)`, each definition of a constant, and
+/// assumptions of which one is no literal (SMT-LIB 2.6, sections 4.2.2 and 4.2.5).
 pub fn base_has_none_of_them()
     ensures levels { All (λ w. command_of Base (Items (Cons (Reserved w) Nil)) ≡ Err Form)
         (words.Push ∷ words.Pop ∷ []) }

@@ -1,5 +1,5 @@
-//! What each command does to what is in force, and the fault of its effect. What levels do stands in
-//! `levels`; this file is handed a command's parts, and does not know how it was written.
+//! What each command does to what is in force, and the fault of its effect. What levels do is in `levels`.
+//! This file gets the parts of a command, and does not know how the command was written.
 
 ghost use Rattle.std.specs.Prelude.{◌≡◌, ◌∷◌, ◌||◌, ℕ, List, [], None, IfErr, MatchResult, OnOk, OnErr};
 ghost use Rattle.std.specs.Str.Parse.{digits_value};
@@ -33,7 +33,7 @@ use smt_theory::{Sort, theories_of};
 use smt_trees::{Bytes, Tree, split_first};
 use std::alloc::Global;
 
-// What a mark counts, and each term, is the same in longer contents.
+// What a mark counts, and what each term is, stays the same when the contents grow.
 fn contents_are_kept()
     ensures { ContentsAreKept }
 {
@@ -42,7 +42,7 @@ fn contents_are_kept()
 }
 
 impl Stack {
-    // What a command does, but for what is noted of it; or nothing.
+    // Makes the effect of a command, except for its notes; where the command is refused, nothing changes.
     pub(super) fn try_effect(&mut self, number: u64, command: &Command) -> Result<(), CommandFault>
         ensures effect { OnOk result (HasEffect self.old self.new number (command_view command.now)) }
         ensures refused { IfErr result (λ fault. IsRefused self.old number (command_view command.now) fault) }
@@ -63,7 +63,8 @@ impl Stack {
         }
     }
 
-    // What a command does, but for what is noted of it. Where it is refused, the library may hold more.
+    // Makes the effect of a command, except for its notes. Where the command is refused, the library may hold
+    // more.
     fn take_effect(&mut self, number: u64, command: &Command) -> Result<(), CommandFault>
         ensures effect { OnOk result (HasEffect self.old self.new number (command_view command.now)) }
         ensures refused { IfErr result (λ fault. IsRefused self.old number (command_view command.now) fault) }
@@ -112,8 +113,8 @@ impl Stack {
         }
     }
 
-    // Notes of a command that took effect whether a logic may be set, whether declarations are global, whether
-    // `success` is printed, and whether it was `exit`.
+    // Notes, of a command that took effect, whether a logic may be set, whether declarations are global,
+    // whether `success` is printed, and whether it was `exit`.
     pub(super) fn note(&mut self, command: &Command)
         ensures { self.new ≡ with_notes (command_view command.now) self.old }
     {
@@ -131,7 +132,7 @@ impl Stack {
         self.exited |= matches!(kind, Kind::Exit);
     }
 
-    // What changes what is in force ends the assumptions, and so does a check that assumes nothing.
+    // Ends the assumptions where the command changes what is in force, or is a check that assumes nothing.
     pub(super) fn end_assumptions(&mut self, command: &Command)
         ensures { IsEnded (command_view command.now) self.old self.new }
     {
@@ -144,7 +145,7 @@ impl Stack {
         }
     }
 
-    // Leaves no assumptions, and none of their nodes.
+    // Removes the assumptions and their nodes.
     fn drop_assumptions(&mut self)
         ensures assumptions { self.new.assumptions.items ≡ [] }
         ensures transient { transient_of self.new.library ≡ [] }
@@ -157,7 +158,7 @@ impl Stack {
         self.assumptions.truncate(0);
     }
 
-    // A logic is set while nothing is in force and there are no levels.
+    // Sets the logic. Nothing is in force then, and there are no levels.
     fn set_logic(&mut self, name: &[u8]) -> Result<(), CommandFault>
         ensures effect { OnOk result ((number : ℕ) → HasEffect self.old self.new number (SetLogic name.now)) }
         ensures refused { IfErr result
@@ -175,7 +176,8 @@ impl Stack {
         Ok(())
     }
 
-    // Whether declarations are global changes while nothing is in force and there are no levels.
+    // Refuses another value for global declarations once it is too late. Until then nothing is in force, and
+    // there are no levels.
     fn set_global(&mut self, on: bool) -> Result<(), CommandFault>
         ensures effect { OnOk result ((number : ℕ) → HasEffect self.old self.new number (SetGlobalDeclarations on)) }
         ensures refused { IfErr result
@@ -260,7 +262,7 @@ impl Stack {
         Ok(self.library.abbreviate(name, sort)?)
     }
 
-    // Takes literals as the assumptions, in place of those that there are.
+    // Makes literals the assumptions, in place of the earlier ones.
     fn assume(&mut self, literals: &[Tree]) -> Result<(), CommandFault>
         ensures effect { OnOk result ((number : ℕ) → HasEffect self.old self.new number
             (CheckSatAssuming (sexps_of literals.now))) }
@@ -302,7 +304,7 @@ impl Stack {
     }
 }
 
-// The digits of a number of levels, where none stand for one.
+// The digits of a number of levels; where there are none, those of one.
 fn digits_of(levels: &Option<Bytes>) -> &[u8]
     ensures { digits_value 10 result.now ≡ levels_in levels.now }
 {
@@ -312,7 +314,7 @@ fn digits_of(levels: &Option<Bytes>) -> &[u8]
     }
 }
 
-// The terms of literals, each of which is a formula, or the first fault. They are transient.
+// The terms of literals, each of which is a formula, or the first fault. Their nodes are transient.
 fn check_literals(
     alloc: Global,
     library: &mut Library,
@@ -335,7 +337,7 @@ fn check_literals(
     Ok(terms)
 }
 
-// The term of a literal, which is a formula.
+// The term of a literal that is a formula, or its fault.
 fn check_literal(library: &mut Library, literal: &Tree) -> Result<TermId, CommandFault>
     ensures term { (s : Signature) → libraries.StandsFor library.old s
         → MatchResult result (λ term. (flaw_of_formula (sort_in (names_of s) [] (sexp_of literal.now)) ≡ None)
@@ -364,7 +366,7 @@ fn is_ended_by(kind: Kind) -> bool
     }
 }
 
-// Whether declarations are global after a command, by whether they were before.
+// Whether declarations are global after a command, given whether they were before it.
 fn global_after(global: bool, command: &Command) -> bool
     ensures { result ≡ stack.global_after global (command_view command.now) }
 {
@@ -375,7 +377,7 @@ fn global_after(global: bool, command: &Command) -> bool
     }
 }
 
-// Whether a logic is set after a command of a kind, by whether one was before.
+// Whether a logic is set after a command of a kind, given whether one was before it.
 fn is_set_after(set: bool, kind: Kind) -> bool
     ensures { result ≡ stack.is_set_by set kind }
 {
@@ -387,7 +389,7 @@ fn is_set_after(set: bool, kind: Kind) -> bool
     }
 }
 
-// Whether it is too late to set a logic after a command of a kind, by whether it was before.
+// Whether it is too late to set a logic after a command of a kind, given whether it was before it.
 fn is_late_after(late: bool, kind: Kind) -> bool
     ensures { result ≡ stack.is_late_by late kind }
 {
@@ -399,7 +401,8 @@ fn is_late_after(late: bool, kind: Kind) -> bool
     }
 }
 
-// Whether `success` is printed after a command of a kind, by whether it was at the start and before.
+// Whether `success` is printed after a command of a kind, given whether it was at the start and before the
+// command.
 fn print_success_after(initial: bool, before: bool, kind: Kind) -> bool
     ensures { result ≡ stack.print_success_by initial before kind }
 {

@@ -1,5 +1,5 @@
-//! Assertion levels, those that were pushed at once as one run. This file knows nothing of what stands outside a
-//! level.
+//! Assertion levels; those that were pushed at once are kept as one run. This file does not look into what
+//! was there before a level.
 
 ghost use Rattle.std.specs.Prelude.{◌≡◌, ◌++◌, ◌<◌, ◌+◌, ◌^◌, List, [], OnErr, OnOk, Some, length, slice_get, take};
 ghost use Rattle.smt_script.specs.Internal.Runs.{copies, levels_in};
@@ -10,14 +10,14 @@ use smt_faults::Memory;
 use std::alloc::Global;
 use std::marker::Model;
 
-/// So many levels, one in another, with the same outside.
+/// A number of levels, each within the one before it, that began at the same point.
 #[derive(Clone, Copy)]
 pub struct Run {
     pub(crate) level: Level,
     pub(crate) count: usize,
 }
 
-/// Levels, the outermost first. What a push costs does not grow with the number of levels that it adds.
+/// Levels, the outermost first. The cost of a push does not grow with the number of levels that it adds.
 #[derive(Drop)]
 pub struct Levels {
     runs: Vec<Run>,
@@ -33,7 +33,7 @@ impl Model for Levels {
 }
 
 impl Levels {
-    /// None.
+    /// No levels.
     pub(crate) fn new(alloc: Global) -> Levels
         ensures { result ≡ [] }
     {
@@ -43,14 +43,14 @@ impl Levels {
         }
     }
 
-    /// How many there are.
+    /// The number of levels.
     pub(crate) fn len(&self) -> usize
         ensures { result ≡ length self.now }
     {
         self.depth
     }
 
-    /// Leaves none.
+    /// Removes all levels.
     pub(crate) fn clear(&mut self)
         ensures { self.new ≡ [] }
     {
@@ -58,7 +58,7 @@ impl Levels {
         self.depth = 0;
     }
 
-    /// Adds so many inside the others, each with this outside.
+    /// Adds this many levels within the others, all of which begin at the same point.
     pub(crate) fn push(&mut self, level: Level, count: usize) -> Result<(), Memory>
         requires { length self.old + count < 2 ^ 64 }
         ensures added { OnOk result (self.new ≡ self.old ++ copies count level) }
@@ -72,7 +72,7 @@ impl Levels {
         Ok(())
     }
 
-    /// Leaves so many, the outermost; and what stood outside the outermost of those that go.
+    /// Keeps this many levels, the outermost, and returns the outermost of the levels that it removes.
     pub(crate) fn cut(&mut self, depth: usize) -> Level
         requires { depth < length self.old }
         ensures level { slice_get self.old depth ≡ Some result }
@@ -85,7 +85,7 @@ impl Levels {
                 let count = depth - outside;
                 self.depth = depth;
                 if count > 0 {
-                    // (there is room for it: a run was just taken off)
+                    // (there is room for it: the loop has just removed a run)
                     self.runs.push_reserved(Run { level, count });
                 }
                 return level;

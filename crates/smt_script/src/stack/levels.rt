@@ -1,5 +1,5 @@
 //! Assertion levels (SMT-LIB 2.6, sections 4.1.4 and 4.2.2), and what goes with them. This file knows no
-//! names: the library is cut to what it held.
+//! names: it cuts the library back to what it held.
 
 ghost use Rattle.std.specs.Prelude.{◌≡◌, ◌≤◌, IfErr, MatchOption, OnErr, OnOk};
 ghost use Rattle.std.specs.Str.Parse.{digits_value};
@@ -10,7 +10,7 @@ use smt_terms::laws::{earlier_marks_are_kept, needed_nodes_are_enough, terms_hav
 use smt_terms::{Library, Mark};
 use smt_theory::{all_theories, number};
 
-/// What came outside a level: how much of the library, and how many assertions.
+/// What was there before a level: how much of the library, and how many assertions.
 #[derive(Clone, Copy)]
 pub struct Level {
     pub(crate) mark: Mark,
@@ -29,7 +29,7 @@ impl Stack {
     ghost use Rattle.smt_script.specs.Internal.Effect.{NamesAreDropped, NeedsLeft, NotesAll};
     ghost use Rattle.smt_script.specs.StackView.{HoldsAfter};
 
-    // Adds levels. What is in force came outside each of them.
+    // Adds levels. What is in force was there before each of them.
     pub(super) fn push(&mut self, digits: &[u8]) -> Result<(), CommandFault>
         ensures effect { OnOk result
             ((n : ℕ) → HasEffect self.old self.new n (Push (digits_value 10 digits.now))) }
@@ -82,8 +82,8 @@ impl Stack {
         Ok(())
     }
 
-    // Leaves so many levels, and what came outside the others; of names all, if declarations are global.
-    // The level is the outermost of those that go.
+    // Keeps this many levels, and removes what came in the others; no name is removed if declarations are
+    // global. The result is the outermost of the removed levels.
     fn cut_to(&mut self, depth: usize) -> Level
         requires { depth < length self.old.levels }
         ensures level { slice_get self.old.levels depth ≡ Some result }
@@ -98,7 +98,7 @@ impl Stack {
         level
     }
 
-    // Leaves as many nodes as a mark counts and those that definitions need, if declarations are global.
+    // If declarations are global, keeps as many nodes as a mark counts, and those that definitions need.
     fn drop_unneeded(&mut self, mark: Mark)
         ensures { NeedsLeft self.old self.new mark.nodes }
     {
@@ -107,7 +107,7 @@ impl Stack {
         }
     }
 
-    // Removes all, the logic too.
+    // Removes everything, the logic too.
     pub(super) fn reset(&mut self) -> Result<(), CommandFault>
         ensures effect { OnOk result ((n : ℕ) → HasEffect self.old self.new n commands.Reset) }
         ensures held { (contents_of self.new.library).rows ≡ [] }
@@ -120,7 +120,7 @@ impl Stack {
         Ok(())
     }
 
-    // Removes all but the logic and the options; of names none, if declarations are global.
+    // Removes everything but the logic and the options; if declarations are global, it removes no name.
     pub(super) fn reset_assertions(&mut self) -> Result<(), CommandFault>
         ensures effect { OnOk result ((n : ℕ) → HasEffect self.old self.new n commands.ResetAssertions) }
         ensures held { HoldsAfter self.old (Removing AllButOptions) (contents_of self.new.library) }
@@ -134,7 +134,7 @@ impl Stack {
         Ok(())
     }
 
-    // Drops names and terms, or the nodes that no definition needs, if declarations are global.
+    // Removes the names and the terms; if declarations are global, only the nodes that no definition needs.
     fn drop_names(&mut self)
         ensures dropped { NamesAreDropped self.old self.new }
         ensures held { HoldsAfter self.old (Removing AllButOptions) (contents_of self.new.library) }
@@ -148,7 +148,7 @@ impl Stack {
     }
 }
 
-// The number that digits are, where it is no more than this.
+// The number that digits spell; `None` where it is more than `most`.
 fn count_to(most: usize, digits: &[u8]) -> Option<usize>
     ensures { MatchOption result (digits_value 10 digits.now ≤ most → ⊥)
         (λ n. (n ≡ digits_value 10 digits.now) × (n ≤ most)) }

@@ -1,16 +1,17 @@
 -- What the sort checker answers of a term, and what a call applies.
-use Rattle.std.specs.Prelude.{◌≡◌, ℕ, List, [], ◌∷◌, Bool, true, false, Result, Ok, MatchResult, None, OnOk}
+use Rattle.std.specs.Prelude.{◌≡◌, ℕ, List, [], ◌∷◌, ◌++◌, Bool, true, false, Result, Ok, MatchResult, None, OnOk}
 use Rattle.std.specs.Prelude.{is_some}
 use Rattle.smt_trees.specs.Sexp.{Sexp}
 use Rattle.smt_theory.specs.Words.{look_up}
 use Rattle.smt_theory.specs.declared.sort.Sort.{Sort}
-use Rattle.smt_faults.specs.Outcome.{IsOutcome, TellsSome}
+use Rattle.smt_faults.specs.Outcome.{IsOutcome, Tells, TellsSome}
 use Rattle.smt_faults.specs.declared.term_fault.TermFault.{TermFault}
+use Rattle.smt_faults.specs.declared.term_flaw.TermFlaw.{TermFlaw}
 use Rattle.smt_forms.specs.Identifier.{Identifier, Plain, Indexed}
 use Rattle.smt_forms.specs.Labels.{labels_in}
 use Rattle.smt_forms.specs.Variables.{uses_variable}
 use Rattle.smt_terms.specs.Checking.{flaw_of_label, flaw_of_labels, sort_in}
-use Rattle.smt_terms.specs.Internal.DraftView.{seen_by, sorts_seen}
+use Rattle.smt_terms.specs.Internal.DraftView.{argument_sorts, argument_terms, seen_by, sorts_seen}
 use Rattle.smt_terms.specs.Internal.LabelsView.{AreGiven, labels_view}
 use Rattle.smt_terms.specs.Internal.LibraryView.{names_for, names_of_library}
 use Rattle.smt_terms.specs.Labels.{Labels}
@@ -34,6 +35,24 @@ GivesLabels library old new term result =
 pub record SeesTheSame (old new : Draft) : Type 0 where
   pub variables : seen_by new ≡ seen_by old
   pub base : new.base ≡ old.base
+
+-- the same arguments wait for their term
+pub record HasTheSame (old new : Draft) : Type 0 where
+  pub sorts : argument_sorts new.arguments ≡ argument_sorts old.arguments
+  pub terms : argument_terms new.arguments ≡ argument_terms old.arguments
+
+-- more arguments wait, after those of before
+abbrev pub HasMoreSorts : (old new : Draft) → Type 0
+HasMoreSorts old new =
+    (sorts : List Sort) × (argument_sorts new.arguments ≡ argument_sorts old.arguments ++ sorts)
+
+-- these sorts were found of arguments, which wait after those of before; or a flaw
+abbrev pub HasSorts : (old new : Draft) → Result (List Sort) TermFlaw → Result Bool TermFault → Type 0
+HasSorts old new found result =
+    MatchResult result
+    (λ _. (sorts : List Sort) × (found ≡ Ok sorts)
+    × (argument_sorts new.arguments ≡ argument_sorts old.arguments ++ sorts))
+    (Tells found)
 
 -- whether an identifier is the plain name of a variable
 abbrev pub names_variable : List (List ℕ × Sort) → Identifier → Bool

@@ -4,6 +4,7 @@ use Rattle.smt_trees.specs.Sexp.{Sexp, Sexps}
 use Rattle.smt_theory.specs.declared.sort.Sort.{Sort}
 use Rattle.smt_forms.specs.ScopeOf.{scope_of}
 use Rattle.smt_forms.specs.Variables.{any_uses_outer, bindings_use_outer, uses_outer}
+use Rattle.smt_terms.specs.declared.library.arguments.Arguments.{Arguments}
 use Rattle.smt_terms.specs.declared.library.draft.Bound.{Bound}
 use Rattle.smt_terms.specs.declared.library.draft.Draft.{Draft}
 
@@ -64,3 +65,18 @@ pub record IsPlaced (variables : Variables) (base : ℕ) : Type 0 where
   pub all : AreBelow (length variables) variables
   pub inner : AreFrom base (inside base variables)
   pub outer : AreBelow base (outside base variables)
+
+-- ---- arguments that were checked of terms that are not yet
+
+abbrev pub argument_sorts : Arguments → List Sort
+argument_sorts arguments = arguments.sorts.items
+
+abbrev pub argument_terms : Arguments → List ℕ
+argument_terms arguments = arguments.terms.items
+
+-- those from this one on
+abbrev pub sorts_from : ℕ → Arguments → List Sort
+sorts_from start arguments = drop start (argument_sorts arguments)
+
+abbrev pub terms_from : ℕ → Arguments → List ℕ
+terms_from start arguments = drop start (argument_terms arguments)

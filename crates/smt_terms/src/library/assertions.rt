@@ -31,8 +31,7 @@ impl Library {
     /// Refused is a term with a fault, with the first; for a label that is a term that uses a variable bound
     /// outside it (`Label`), and then a name that is in use, a plain operator's, or that of an earlier label
     /// of the assertion (`NotFresh`). Then a term that is no formula (`IllSorted`). Then, and where memory is
-    /// refused (`Memory`), no name is added; a term that nothing names may be.
-    #[tactic(auto, using(crate::proofs::ContentsLemmas::extends_itself))]
+    /// refused (`Memory`), nothing changes.
     pub fn assert(&mut self, term: &Tree) -> Result<TermId, TermFault>
         ensures asserted { OnOk result
             ((s : Signature) → StandsFor self.old s → (labels : List signature.Entry)
@@ -43,21 +42,40 @@ impl Library {
         ensures refused { IfErr result (λ fault. (s : Signature) → StandsFor self.old s
             → Tells (asserted_in (names_of s) (sexp_of term.now)) fault) }
         ensures unchanged { OnErr result (IsUnchanged self.old self.new) }
+        ensures restored { OnErr result (contents_of self.new ≡ contents_of self.old) }
         ensures grown { Extends (contents_of self.old) (contents_of self.new) }
         ensures transient { transient_of self.new ≡ transient_of self.old }
+    {
+        let mark = self.mark();
+        match self.assert_checked(term) {
+            Ok(term) => Ok(term),
+            Err(fault) => {
+                self.cut(mark);
+                Err(fault)
+            }
+        }
+    }
+
+    // The same, but a refusal may leave nodes, and for want of memory some of the labels.
+    #[tactic(auto, using(crate::proofs::ContentsLemmas::extends_itself))]
+    fn assert_checked(&mut self, term: &Tree) -> Result<TermId, TermFault>
+        ensures asserted { OnOk result
+            ((s : Signature) → StandsFor self.old s → (labels : List signature.Entry)
+            × (asserted_in (names_of s) (sexp_of term.now) ≡ Ok labels)
+            × StandsFor self.new (with_entries s labels)) }
+        ensures term { IfOk result (λ i. (s : Signature) → StandsFor self.old s
+            → IsTermOf (contents_of self.new) i (sexp_of term.now)) }
+        ensures refused { IfErr result (λ fault. (s : Signature) → StandsFor self.old s
+            → Tells (asserted_in (names_of s) (sexp_of term.now)) fault) }
+        ensures grown { Extends (contents_of self.old) (contents_of self.new) }
+        ensures transient { self.new.transient ≡ self.old.transient }
     {
         let (checked, given) = self.check_whole(&[], Labels::new(self.alloc), term)?;
         if !are_equal(checked.sort, Sort::Bool) {
             return Err(TermFault::IllSorted);
         }
-        let mark = self.mark();
-        match self.add_labels(given.as_slice()) {
-            Ok(()) => Ok(checked.node),
-            Err(Memory) => {
-                self.cut(mark);
-                Err(TermFault::Memory)
-            }
-        }
+        self.add_labels(given.as_slice())?;
+        Ok(checked.node)
     }
 
     // Adds labels, each as a constant that its term defines. Where memory is refused, some of them may have

@@ -10,9 +10,10 @@ ghost use Rattle.smt_forms.specs.Bindings.{are_named_trees};
 ghost use Rattle.smt_forms.specs.Labels.{label_of_tree, labels_among, labels_in_bindings};
 ghost use Rattle.smt_forms.specs.ScopeView.{scope_view};
 ghost use Rattle.smt_terms.specs.Checking.{bound_in};
-ghost use Rattle.smt_terms.specs.Internal.Calls.{GivesLabels, HasSort, IsSortedUnlessOpen, SeesTheSame};
-ghost use Rattle.smt_terms.specs.Internal.Calls.{TellsOfLabel, TellsOfLabels, has_labels};
-ghost use Rattle.smt_terms.specs.Internal.DraftView.{IsPlaced, are_open_bindings, is_open, seen_by, sorts_seen};
+ghost use Rattle.smt_terms.specs.Internal.Calls.{GivesLabels, HasMoreSorts, HasSort, HasTheSame, IsSortedUnlessOpen};
+ghost use Rattle.smt_terms.specs.Internal.Calls.{SeesTheSame, TellsOfLabel, TellsOfLabels, has_labels};
+ghost use Rattle.smt_terms.specs.Internal.DraftView.{IsPlaced, are_open_bindings, argument_terms, is_open, seen_by};
+ghost use Rattle.smt_terms.specs.Internal.DraftView.{sorts_seen};
 ghost use Rattle.smt_terms.specs.Internal.LabelsView.{AreGiven, labels_view};
 ghost use Rattle.smt_terms.specs.Internal.LibraryView.{names_for, names_of_library};
 ghost use Rattle.smt_terms.specs.Denotes.{Denotes, Table};
@@ -22,10 +23,8 @@ ghost use Rattle.smt_faults.specs.Outcome.{IsOutcome};
 
 use crate::labels::Labels;
 use crate::library::Library;
-use crate::library::checker::FEW;
 use crate::library::draft::{CheckedTerm, Draft};
 use crate::library::scope::push_variable;
-use smallvec::SmallVec;
 use smt_faults::TermFault;
 use smt_forms::{NameSet, Variable, are_attributes, are_named, label_at, split_let, split_named};
 use smt_nodes::{Node, TermId};
@@ -46,6 +45,7 @@ impl Library {
         ensures labels { GivesLabels self.now draft.old draft.new
             (Items (Cons (Reserved Let) (sexps_of args.now))) result }
         ensures kept { OnOk result (SeesTheSame draft.old draft.new) }
+        ensures waiting { OnOk result (HasTheSame draft.old draft.new) }
         ensures open { IfOk result (λ c. c.is_open
             ≡ is_open draft.old (Items (Cons (Reserved Let) (sexps_of args.now)))) }
         ensures node { IfOk result (Stands self.now draft.old draft.new
@@ -59,25 +59,24 @@ impl Library {
             return Err(TermFault::Form);
         }
         let outer = draft.scope.len();
-        let (bound, is_open, values) = self.bound_by(draft, bindings)?;
+        let start = draft.arguments.len();
+        let (bound, is_open) = self.bound_by(draft, bindings)?;
         draft.bind(bound.as_slice())?;
-        let checked = self.sort_of(draft, body)?;
+        let inner = self.sort_of(draft, body)?;
         draft.scope.cut(outer);
-        let node = Node::Let {
-            values: values.as_slice(),
-            body: checked.node,
-        };
-        Ok(draft.push(&self.nodes, &node, &checked.sort, is_open | checked.is_open)?)
+        let checked = draft.push_let(&self.nodes, start, inner, is_open)?;
+        draft.arguments.truncate(start);
+        Ok(checked)
     }
 
-    // The variables that bindings bring, with the sorts of their terms, which do not see these variables;
-    // whether one of the terms uses a variable that stands outside; and the nodes of the terms.
+    // The variables that bindings bring, with the sorts of their terms, which do not see these variables; and
+    // whether one of the terms uses a variable from outside. The terms then wait as arguments.
     #[cycle(check)]
     fn bound_by<'a>(
         &self,
         draft: &mut Draft<'a>,
         bindings: &'a [Tree],
-    ) -> Result<(Vec<Variable<'a, Sort>>, bool, SmallVec<TermId, FEW>), TermFault>
+    ) -> Result<(Vec<Variable<'a, Sort>>, bool), TermFault>
         requires placed { IsPlaced (seen_by draft.old) draft.old.base }
         requires named { are_named_trees (sexps_of bindings.now) ≡ true }
         ensures bound { IsOutcome (λ found. scope_view found.0.items)
@@ -87,15 +86,15 @@ impl Library {
             (AreGiven (names_of_library self.now) draft.old.labels draft.new.labels
             (labels_in_bindings (sexps_of bindings.now))) }
         ensures kept { OnOk result (SeesTheSame draft.old draft.new) }
+        ensures sorts { OnOk result (HasMoreSorts draft.old draft.new) }
         ensures open { IfOk result (λ found. found.1 ≡ are_open_bindings draft.old (sexps_of bindings.now)) }
-        ensures nodes { IfOk result (λ found. BindingsStand self.now draft.old draft.new
-            (sexps_of bindings.now) found.2.items found.1) }
+        ensures nodes { IfOk result (λ found. (nodes : List ℕ)
+            × (argument_terms draft.new.arguments ≡ argument_terms draft.old.arguments ++ nodes)
+            × BindingsStand self.now draft.old draft.new (sexps_of bindings.now) nodes found.1) }
         ensures longer { GrowsTo draft.old draft.new }
     {
         let mut names = NameSet::new(self.alloc);
         let mut bound = Vec::new(self.alloc);
-        let mut nodes = SmallVec::new(self.alloc);
-        nodes.reserve(bindings.len())?;
         let mut is_open = false;
         let mut left = bindings;
         while let Some((name, term, rest)) = split_named(left) {
@@ -105,11 +104,11 @@ impl Library {
             let checked = self.sort_of(draft, term)?;
             names.insert(name)?;
             push_variable(&mut bound, name, checked.sort)?;
-            nodes.push_reserved(checked.node);
+            draft.arguments.push(checked.sort, checked.node)?;
             is_open |= checked.is_open;
             left = rest;
         }
-        Ok((bound, is_open, nodes))
+        Ok((bound, is_open))
     }
 
     // The sort and the node of an annotated term (SMT-LIB 2.6, section 3.6.5), by what stands behind the `!`:
@@ -125,6 +124,7 @@ impl Library {
         ensures labels { GivesLabels self.now draft.old draft.new
             (Items (Cons (Reserved Bang) (sexps_of args.now))) result }
         ensures kept { OnOk result (SeesTheSame draft.old draft.new) }
+        ensures waiting { OnOk result (HasTheSame draft.old draft.new) }
         ensures open { IfOk result (λ c. c.is_open
             ≡ is_open draft.old (Items (Cons (Reserved Bang) (sexps_of args.now)))) }
         ensures node { IfOk result (Stands self.now draft.old draft.new
@@ -162,6 +162,7 @@ impl Library {
         ensures labels { GivesLabels self.now draft.old draft.new
             (Items (Cons (Reserved Bang) (Cons (sexp_of term.now) (sexps_of attributes.now)))) result }
         ensures kept { OnOk result (SeesTheSame draft.old draft.new) }
+        ensures waiting { OnOk result (HasTheSame draft.old draft.new) }
         ensures open { IfOk result (λ c. c.is_open ≡ is_open draft.old
             (Items (Cons (Reserved Bang) (Cons (sexp_of term.now) (sexps_of attributes.now))))) }
         ensures node { IfOk result (Stands self.now draft.old draft.new

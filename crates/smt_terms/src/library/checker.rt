@@ -1,7 +1,7 @@
 //! The sort checker: the sort and the node of a term, or its first flaw. This file adds no name to a library,
 //! and knows no values.
 
-ghost use Rattle.std.specs.Prelude.{◌≡◌, ◌*◌, [], false, length, IfOk, OnOk};
+ghost use Rattle.std.specs.Prelude.{◌≡◌, ◌≤◌, ◌*◌, ◌++◌, ℕ, List, [], false, length, IfOk, OnOk};
 ghost use Rattle.smt_nodes.specs.NodeView.{node_view};
 ghost use Rattle.smt_trees.specs.Sexp.{Atom, Binary, Hexadecimal, Items, Numeral, Symbol};
 ghost use Rattle.smt_trees.specs.Tree.{sexp_of, sexps_of};
@@ -11,9 +11,10 @@ ghost use Rattle.smt_theory.specs.Width.{width_of};
 ghost use Rattle.smt_theory.specs.Words.{look_up};
 ghost use Rattle.smt_terms.specs.Checking as checking;
 ghost use Rattle.smt_terms.specs.Checking.{sorts_in};
-ghost use Rattle.smt_terms.specs.Denotes as denotes;
-ghost use Rattle.smt_terms.specs.Internal.Calls.{GivesLabels, HasSort, SeesTheSame, names_variable};
-ghost use Rattle.smt_terms.specs.Internal.DraftView.{IsPlaced, are_open, is_open, seen_by, sorts_of, sorts_seen};
+ghost use Rattle.smt_terms.specs.Internal.Calls.{GivesLabels, HasSort, HasSorts, HasTheSame, SeesTheSame};
+ghost use Rattle.smt_terms.specs.Internal.Calls.{names_variable};
+ghost use Rattle.smt_terms.specs.Internal.DraftView.{IsPlaced, are_open, argument_sorts, argument_terms, is_open};
+ghost use Rattle.smt_terms.specs.Internal.DraftView.{seen_by, sorts_from, sorts_of, sorts_seen, terms_from};
 ghost use Rattle.smt_forms.specs.ScopeOf.{scope_of};
 ghost use Rattle.smt_forms.specs.Identifier.{Plain};
 ghost use Rattle.smt_forms.specs.IdentifierView.{identifier_view};
@@ -25,10 +26,9 @@ ghost use Rattle.smt_terms.specs.Internal.NodesView.{Stands, TermsStand};
 ghost use Rattle.smt_terms.specs.SortTrees.{bit_vectors, integers};
 ghost use Rattle.smt_faults.specs.Outcome.{IsOutcome};
 
+use crate::library::Library;
 use crate::library::draft::{Bound, CheckedTerm, Draft};
-use crate::library::{Found, Library};
 use crate::sorts;
-use smallvec::SmallVec;
 use smt_faults::{TermFault, TermFlaw};
 use smt_forms::{
     Identifier, Scope, applied_identifier, indexed_identifier, is_bang, is_let, is_underscore,
@@ -36,9 +36,6 @@ use smt_forms::{
 use smt_nodes::{Node, Nodes, TermId};
 use smt_theory::{Op, OpFault, Sort, Width, op_of, plain_op_of, plain_rank, rank};
 use smt_trees::{Tree, Trees, split_first};
-
-// How many arguments' sorts and nodes are kept without memory of their own.
-pub(super) const FEW: usize = 4;
 
 impl Library {
     /// The sort and the node of a term over these names and the variables that it sees, or its first fault. The
@@ -54,6 +51,7 @@ impl Library {
         ensures sort { HasSort self.now draft.old (sexp_of term.now) result }
         ensures labels { GivesLabels self.now draft.old draft.new (sexp_of term.now) result }
         ensures kept { OnOk result (SeesTheSame draft.old draft.new) }
+        ensures waiting { OnOk result (HasTheSame draft.old draft.new) }
         ensures open { IfOk result (λ c. c.is_open ≡ is_open draft.old (sexp_of term.now)) }
         ensures node { IfOk result (Stands self.now draft.old draft.new (sexp_of term.now)) }
         ensures longer { GrowsTo draft.old draft.new }
@@ -75,6 +73,7 @@ impl Library {
         ensures sort { HasSort self.now draft.old (sexp_of term.now) result }
         ensures labels { GivesLabels self.now draft.old draft.new (sexp_of term.now) result }
         ensures kept { OnOk result (SeesTheSame draft.old draft.new) }
+        ensures waiting { OnOk result (HasTheSame draft.old draft.new) }
         ensures open { IfOk result (λ c. c.is_open ≡ is_open draft.old (sexp_of term.now)) }
         ensures node { IfOk result (Stands self.now draft.old draft.new (sexp_of term.now)) }
         ensures longer { GrowsTo draft.old draft.new }
@@ -100,6 +99,7 @@ impl Library {
         ensures scope { draft.new.scope ≡ draft.old.scope }
         ensures base { draft.new.base ≡ draft.old.base }
         ensures labels { draft.new.labels ≡ draft.old.labels }
+        ensures arguments { draft.new.arguments ≡ draft.old.arguments }
     {
         let _: &[TermId] = &[];
         push_literal(
@@ -120,6 +120,7 @@ impl Library {
         ensures scope { draft.new.scope ≡ draft.old.scope }
         ensures base { draft.new.base ≡ draft.old.base }
         ensures labels { draft.new.labels ≡ draft.old.labels }
+        ensures arguments { draft.new.arguments ≡ draft.old.arguments }
     {
         let _: &[TermId] = &[];
         push_literal(
@@ -140,6 +141,7 @@ impl Library {
         ensures scope { draft.new.scope ≡ draft.old.scope }
         ensures base { draft.new.base ≡ draft.old.base }
         ensures labels { draft.new.labels ≡ draft.old.labels }
+        ensures arguments { draft.new.arguments ≡ draft.old.arguments }
     {
         let _: &[TermId] = &[];
         push_literal(
@@ -179,6 +181,7 @@ impl Library {
         ensures sort { HasSort self.now draft.old (Items parts.now) result }
         ensures labels { GivesLabels self.now draft.old draft.new (Items parts.now) result }
         ensures kept { OnOk result (SeesTheSame draft.old draft.new) }
+        ensures waiting { OnOk result (HasTheSame draft.old draft.new) }
         ensures open { IfOk result (λ c. c.is_open ≡ is_open draft.old (Items parts.now)) }
         ensures node { IfOk result (Stands self.now draft.old draft.new (Items parts.now)) }
         ensures longer { GrowsTo draft.old draft.new }
@@ -188,7 +191,8 @@ impl Library {
         };
         if is_underscore(head) {
             let identifier = indexed_identifier(self.alloc, args)?;
-            return self.sort_applied(draft, &identifier, &[], &[], false);
+            let start = draft.arguments.len();
+            return self.sort_applied(draft, &identifier, start, false);
         }
         if is_let(head) {
             return self.sort_of_let(draft, args);
@@ -197,51 +201,40 @@ impl Library {
             return self.sort_of_annotated(draft, args);
         }
         let identifier = applied_identifier(self.alloc, head, args)?;
-        let (sorts, is_open, nodes) = self.sorts_of(draft, args)?;
-        self.sort_of_call(
-            draft,
-            &identifier,
-            sorts.as_slice(),
-            nodes.as_slice(),
-            is_open,
-        )
+        let start = draft.arguments.len();
+        let is_open = self.sorts_of(draft, args)?;
+        let checked = self.sort_of_call(draft, &identifier, start, is_open)?;
+        draft.arguments.truncate(start);
+        Ok(checked)
     }
 
-    // The sorts of terms, in order, whether one of them uses a variable that stands outside, and their nodes.
+    // Finds the sorts of terms, in order, and their nodes, which then wait as arguments; and whether one of the
+    // terms uses a variable from outside.
     #[cycle(check)]
-    fn sorts_of<'a>(
-        &self,
-        draft: &mut Draft<'a>,
-        terms: &'a [Tree],
-    ) -> Result<(SmallVec<Sort, FEW>, bool, SmallVec<TermId, FEW>), TermFault>
+    fn sorts_of<'a>(&self, draft: &mut Draft<'a>, terms: &'a [Tree]) -> Result<bool, TermFault>
         requires { IsPlaced (seen_by draft.old) draft.old.base }
-        ensures sorts { IsOutcome (λ found. found.0.items)
+        ensures sorts { HasSorts draft.old draft.new
             (sorts_in (names_for self.now (labels_view draft.old.labels)) (sorts_seen draft.old)
             (sexps_of terms.now)) result }
         ensures labels { OnOk result
             (AreGiven (names_of_library self.now) draft.old.labels draft.new.labels
             (labels_in_all (sexps_of terms.now))) }
         ensures kept { OnOk result (SeesTheSame draft.old draft.new) }
-        ensures open { IfOk result (λ found. found.1 ≡ are_open draft.old (sexps_of terms.now)) }
-        ensures nodes { IfOk result (λ found. TermsStand self.now draft.old draft.new (sexps_of terms.now)
-            found.2.items found.1) }
-        ensures counted { IfOk result (λ found. length found.2.items ≡ length found.0.items) }
+        ensures open { IfOk result (λ is_open. is_open ≡ are_open draft.old (sexps_of terms.now)) }
+        ensures nodes { IfOk result (λ is_open. (nodes : List ℕ)
+            × (argument_terms draft.new.arguments ≡ argument_terms draft.old.arguments ++ nodes)
+            × TermsStand self.now draft.old draft.new (sexps_of terms.now) nodes is_open) }
         ensures longer { GrowsTo draft.old draft.new }
     {
-        let mut sorts = SmallVec::new(self.alloc);
-        sorts.reserve(terms.len())?;
-        let mut nodes = SmallVec::new(self.alloc);
-        nodes.reserve(terms.len())?;
         let mut is_open = false;
         let mut left = terms;
         while let Some((term, rest)) = split_first(left) {
             let checked = self.sort_of(draft, term)?;
-            sorts.push_reserved(checked.sort);
-            nodes.push_reserved(checked.node);
+            draft.arguments.push(checked.sort, checked.node)?;
             is_open |= checked.is_open;
             left = rest;
         }
-        Ok((sorts, is_open, nodes))
+        Ok(is_open)
     }
 
     // The sort and the node of a symbol alone: those of a variable, or else of a name or an operator without
@@ -255,6 +248,7 @@ impl Library {
         ensures scope { draft.new.scope ≡ draft.old.scope }
         ensures base { draft.new.base ≡ draft.old.base }
         ensures labels { draft.new.labels ≡ draft.old.labels }
+        ensures arguments { draft.new.arguments ≡ draft.old.arguments }
         ensures node { IfOk result (Stands self.now draft.old draft.new (Atom Symbol name.now)) }
         ensures longer { GrowsTo draft.old draft.new }
     {
@@ -264,35 +258,40 @@ impl Library {
                 let is_open = variable.place < draft.base;
                 Ok(draft.push(&self.nodes, &node, &variable.sort, is_open)?)
             }
-            None => self.sort_of_plain(draft, name, &[], &[], false),
+            None => {
+                let start = draft.arguments.len();
+                self.sort_of_plain(draft, name, start, false)
+            }
         }
     }
 
-    // The sort and the node of an identifier applied to arguments of these sorts and with these nodes, where
-    // it may be a variable, which takes none.
+    // The sort and the node of an identifier applied to the arguments from this one on, where it may be a
+    // variable, which takes none.
     #[inline(always)]
     fn sort_of_call(
         &self,
         draft: &mut Draft<'_>,
         identifier: &Identifier<'_>,
-        sorts: &[Sort],
-        args: &[TermId],
+        start: usize,
         is_open: bool,
     ) -> Result<CheckedTerm, TermFault>
+        requires { start ≤ length (argument_sorts draft.old.arguments) }
         ensures sort { IsOutcome (λ c. c.sort) (checking.sort_of_call (names_of_library self.now)
-            (sorts_seen draft.old) (identifier_view identifier.now) sorts.now) result }
+            (sorts_seen draft.old) (identifier_view identifier.now)
+            (sorts_from start draft.old.arguments)) result }
         ensures open { IfOk result (λ c. c.is_open ≡ is_open) }
         ensures added { IfOk result (AddsApplied self.now draft.old draft.new (identifier_view identifier.now)
-            sorts.now args.now) }
+            (sorts_from start draft.old.arguments) (terms_from start draft.old.arguments)) }
         ensures longer { GrowsTo draft.old draft.new }
         ensures scope { draft.new.scope ≡ draft.old.scope }
         ensures base { draft.new.base ≡ draft.old.base }
         ensures labels { draft.new.labels ≡ draft.old.labels }
+        ensures arguments { draft.new.arguments ≡ draft.old.arguments }
     {
         if is_variable(&draft.scope, identifier) {
             return Err(TermFault::IllSorted);
         }
-        self.sort_applied(draft, identifier, sorts, args, is_open)
+        self.sort_applied(draft, identifier, start, is_open)
     }
 
     // The sort and the node of an identifier that is no variable, applied to such arguments.
@@ -301,25 +300,26 @@ impl Library {
         &self,
         draft: &mut Draft<'_>,
         identifier: &Identifier<'_>,
-        sorts: &[Sort],
-        args: &[TermId],
+        start: usize,
         is_open: bool,
     ) -> Result<CheckedTerm, TermFault>
+        requires { start ≤ length (argument_sorts draft.old.arguments) }
         ensures sort { IsOutcome (λ c. c.sort) (checking.sort_applied (names_of_library self.now)
-            (identifier_view identifier.now) sorts.now) result }
+            (identifier_view identifier.now) (sorts_from start draft.old.arguments)) result }
         ensures open { IfOk result (λ c. c.is_open ≡ is_open) }
         ensures added { IfOk result (AddsApplied self.now draft.old draft.new (identifier_view identifier.now)
-            sorts.now args.now) }
+            (sorts_from start draft.old.arguments) (terms_from start draft.old.arguments)) }
         ensures longer { GrowsTo draft.old draft.new }
         ensures scope { draft.new.scope ≡ draft.old.scope }
         ensures base { draft.new.base ≡ draft.old.base }
         ensures labels { draft.new.labels ≡ draft.old.labels }
+        ensures arguments { draft.new.arguments ≡ draft.old.arguments }
     {
         match identifier {
-            Identifier::Plain(name) => self.sort_of_plain(draft, *name, sorts, args, is_open),
+            Identifier::Plain(name) => self.sort_of_plain(draft, *name, start, is_open),
             Identifier::Indexed { name, indexes } => {
                 let op = op_of(self.sorts.theories, *name, indexes.as_slice());
-                self.sort_of_indexed(draft, op, sorts, args, is_open)
+                self.sort_of_indexed(draft, op, start, is_open)
             }
         }
     }
@@ -330,29 +330,29 @@ impl Library {
         &self,
         draft: &mut Draft<'_>,
         name: &[u8],
-        sorts: &[Sort],
-        args: &[TermId],
+        start: usize,
         is_open: bool,
     ) -> Result<CheckedTerm, TermFault>
+        requires { start ≤ length (argument_sorts draft.old.arguments) }
         ensures sort { IsOutcome (λ c. c.sort) (checking.sort_applied (names_of_library self.now)
-            (Plain name.now) sorts.now) result }
+            (Plain name.now) (sorts_from start draft.old.arguments)) result }
         ensures open { IfOk result (λ c. c.is_open ≡ is_open) }
         ensures added { IfOk result (AddsApplied self.now draft.old draft.new (Plain name.now)
-            sorts.now args.now) }
+            (sorts_from start draft.old.arguments) (terms_from start draft.old.arguments)) }
         ensures longer { GrowsTo draft.old draft.new }
         ensures scope { draft.new.scope ≡ draft.old.scope }
         ensures base { draft.new.base ≡ draft.old.base }
         ensures labels { draft.new.labels ≡ draft.old.labels }
+        ensures arguments { draft.new.arguments ≡ draft.old.arguments }
     {
         match self.get(name) {
             Some(entry) => {
-                if !are_same(entry.parameters.as_slice(), sorts) {
+                if !are_same(entry.parameters.as_slice(), draft.arguments.sorts(start)) {
                     return Err(TermFault::IllSorted);
                 }
-                let node = node_at(entry.place, args);
-                Ok(draft.push(&self.nodes, &node, &entry.sort, is_open)?)
+                Ok(draft.push_named(&self.nodes, entry.place, start, entry.sort, is_open)?)
             }
-            None => self.sort_of_operator(draft, name, sorts, args, is_open),
+            None => self.sort_of_operator(draft, name, start, is_open),
         }
     }
 
@@ -362,27 +362,30 @@ impl Library {
         &self,
         draft: &mut Draft<'_>,
         name: &[u8],
-        sorts: &[Sort],
-        args: &[TermId],
+        start: usize,
         is_open: bool,
     ) -> Result<CheckedTerm, TermFault>
+        requires { start ≤ length (argument_sorts draft.old.arguments) }
         ensures sort { IsOutcome (λ c. c.sort) (checking.sort_of_operator
-            (op_by (names_of_library self.now).theories name.now []) sorts.now) result }
+            (op_by (names_of_library self.now).theories name.now [])
+            (sorts_from start draft.old.arguments)) result }
         ensures open { IfOk result (λ c. c.is_open ≡ is_open) }
         ensures added { IfOk result (AddsOperator self.now draft.old draft.new
-            (op_by (names_of_library self.now).theories name.now []) args.now) }
+            (op_by (names_of_library self.now).theories name.now [])
+            (terms_from start draft.old.arguments)) }
         ensures longer { GrowsTo draft.old draft.new }
         ensures scope { draft.new.scope ≡ draft.old.scope }
         ensures base { draft.new.base ≡ draft.old.base }
         ensures labels { draft.new.labels ≡ draft.old.labels }
+        ensures arguments { draft.new.arguments ≡ draft.old.arguments }
     {
         let Some(op) = plain_op_of(self.sorts.theories, name) else {
             return Err(TermFault::Unknown);
         };
-        let Some(sort) = plain_rank(op, sorts) else {
+        let Some(sort) = plain_rank(op, draft.arguments.sorts(start)) else {
             return Err(TermFault::IllSorted);
         };
-        Ok(draft.push_plain(&self.nodes, op, args, sort, is_open)?)
+        Ok(draft.push_plain(&self.nodes, op, start, sort, is_open)?)
     }
 
     // The same of what an identifier with indexes is.
@@ -390,39 +393,31 @@ impl Library {
         &self,
         draft: &mut Draft<'_>,
         op: Result<Op, OpFault>,
-        sorts: &[Sort],
-        args: &[TermId],
+        start: usize,
         is_open: bool,
     ) -> Result<CheckedTerm, TermFault>
-        ensures sort { IsOutcome (λ c. c.sort) (checking.sort_of_operator op sorts.now) result }
+        requires { start ≤ length (argument_sorts draft.old.arguments) }
+        ensures sort { IsOutcome (λ c. c.sort) (checking.sort_of_operator op
+            (sorts_from start draft.old.arguments)) result }
         ensures open { IfOk result (λ c. c.is_open ≡ is_open) }
-        ensures added { IfOk result (AddsOperator self.now draft.old draft.new op args.now) }
+        ensures added { IfOk result (AddsOperator self.now draft.old draft.new op
+            (terms_from start draft.old.arguments)) }
         ensures longer { GrowsTo draft.old draft.new }
         ensures scope { draft.new.scope ≡ draft.old.scope }
         ensures base { draft.new.base ≡ draft.old.base }
         ensures labels { draft.new.labels ≡ draft.old.labels }
+        ensures arguments { draft.new.arguments ≡ draft.old.arguments }
     {
         match op {
             Ok(op) => {
-                let Some(sort) = rank(op, sorts) else {
+                let Some(sort) = rank(op, draft.arguments.sorts(start)) else {
                     return Err(TermFault::IllSorted);
                 };
-                Ok(draft.push(&self.nodes, &Node::Apply { op, args }, &sort, is_open)?)
+                Ok(draft.push_numbered(&self.nodes, &op, start, sort, is_open)?)
             }
             Err(OpFault::Unknown) => Err(TermFault::Unknown),
             Err(OpFault::Index) => Err(TermFault::Index),
         }
-    }
-}
-
-// The node of the name that stands at this place, with arguments.
-#[inline(always)]
-fn node_at<'b>(place: Found, args: &'b [TermId]) -> Node<'b>
-    ensures { node_view result ≡ denotes.node_at place args.now }
-{
-    match place {
-        Found::Declared(place) => Node::Declared { place, args },
-        Found::Defined(place) => Node::Defined { place, args },
     }
 }
 
@@ -458,6 +453,7 @@ fn push_literal(
     ensures scope { draft.new.scope ≡ draft.old.scope }
     ensures base { draft.new.base ≡ draft.old.base }
     ensures labels { draft.new.labels ≡ draft.old.labels }
+    ensures arguments { draft.new.arguments ≡ draft.old.arguments }
 {
     let sort = sort?;
     Ok(draft.push(before, node, &sort, false)?)

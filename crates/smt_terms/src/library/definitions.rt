@@ -35,8 +35,8 @@ impl Library {
     /// Refused are, in this order: a name that is in use or is a plain operator's (`NotFresh`); of each
     /// parameter a tree that names no sort, with its fault, and then a name that an earlier parameter has
     /// (`BoundTwice`); for the result a tree that names no sort, with its fault; a body with a fault, with
-    /// the first; a body of another sort (`IllSorted`). Then, and where memory is refused (`Memory`), no name
-    /// is added; a term that nothing names may be.
+    /// the first; a body of another sort (`IllSorted`). Then, and where memory is refused (`Memory`), nothing
+    /// changes.
     #[tactic(auto, using(crate::proofs::ContentsLemmas::extends_itself))]
     pub fn define(
         &mut self,
@@ -52,6 +52,7 @@ impl Library {
             → Tells (defined_in s name.now (map param_view params.now) (sexp_of sort.now) (sexp_of body.now))
             fault) }
         ensures unchanged { OnErr result (IsUnchanged self.old self.new) }
+        ensures restored { OnErr result (contents_of self.new ≡ contents_of self.old) }
         ensures grown { Extends (contents_of self.old) (contents_of self.new) }
         ensures transient { transient_of self.new ≡ transient_of self.old }
     {
@@ -64,8 +65,7 @@ impl Library {
     }
 
     // Adds the definition of a new name with these parameters, where its body has this sort over the names
-    // and the parameters, or changes no name.
-    #[tactic(auto, using(crate::proofs::ContentsLemmas::extends_itself))]
+    // and the parameters, or changes nothing.
     pub(super) fn add_definition(
         &mut self,
         name: &[u8],
@@ -80,7 +80,37 @@ impl Library {
         ensures refused { IfErr result (λ fault. (s : Signature) → StandsFor self.old s
             → Tells (definition_in (names_of s) name.now (scope_view parameters.now) sort (sexp_of body.now))
             fault) }
-        ensures unchanged { OnErr result (IsUnchanged self.old self.new) }
+        ensures restored { OnErr result (contents_of self.new ≡ contents_of self.old) }
+        ensures grown { Extends (contents_of self.old) (contents_of self.new) }
+        ensures theories { self.new.sorts.theories ≡ self.old.sorts.theories }
+        ensures transient { transient_of self.new ≡ transient_of self.old }
+    {
+        let mark = self.mark();
+        match self.add_checked(name, parameters, sort, body) {
+            Ok(()) => Ok(()),
+            Err(fault) => {
+                self.cut(mark);
+                Err(fault)
+            }
+        }
+    }
+
+    // The same, but a refusal may leave nodes.
+    #[tactic(auto, using(crate::proofs::ContentsLemmas::extends_itself))]
+    fn add_checked(
+        &mut self,
+        name: &[u8],
+        parameters: &[Variable<'_, Sort>],
+        sort: Sort,
+        body: &Tree,
+    ) -> Result<(), TermFault>
+        requires { look_up (names_of_library self.old).ranks name.now ≡ None }
+        ensures added { OnOk result ((s : Signature) → StandsFor self.old s → (e : signature.Entry)
+            × (definition_in (names_of s) name.now (scope_view parameters.now) sort (sexp_of body.now) ≡ Ok e)
+            × (is_plain_operator s.theories name.now ≡ false → StandsFor self.new (with_entry s e))) }
+        ensures refused { IfErr result (λ fault. (s : Signature) → StandsFor self.old s
+            → Tells (definition_in (names_of s) name.now (scope_view parameters.now) sort (sexp_of body.now))
+            fault) }
         ensures grown { Extends (contents_of self.old) (contents_of self.new) }
         ensures sorts { self.new.sorts ≡ self.old.sorts }
         ensures transient { self.new.transient ≡ self.old.transient }

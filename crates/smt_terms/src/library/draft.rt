@@ -1,9 +1,12 @@
 //! What is kept of a term while it is checked: the variables that its parts see, and the labels that they
 //! gave. This file knows no trees.
 
-ghost use Rattle.std.specs.Prelude.{◌≡◌, ◌<◌, ◌≤◌, ◌+◌, ◌++◌, ◌∷◌, [], length, slice_get, Some, IfOk, OnOk, OnErr};
-ghost use Rattle.smt_nodes.specs.Node.{Apply, Row};
+ghost use Rattle.std.specs.Prelude.{◌≡◌, ◌||◌, ◌<◌, ◌≤◌, ◌+◌, ◌++◌, ◌∷◌, [], length, slice_get, Some, IfOk, OnOk};
+ghost use Rattle.std.specs.Prelude.{OnErr};
+ghost use Rattle.smt_nodes.specs.Node.{Apply, Let, Row};
 ghost use Rattle.smt_theory.specs.PlainOp.{op_of_plain};
+ghost use Rattle.smt_terms.specs.Denotes as denotes;
+ghost use Rattle.smt_terms.specs.Internal.DraftView.{argument_sorts, terms_from};
 ghost use Rattle.smt_nodes.specs.NodeView.{node_view};
 ghost use Rattle.smt_nodes.specs.Nodes.{rows_of};
 ghost use Rattle.smt_forms.specs.ScopeView.{scope_view};
@@ -12,10 +15,12 @@ ghost use Rattle.smt_terms.specs.Internal.NodesView.{AddsAround, AddsNode, Grows
 ghost use Rattle.smt_terms.specs.Internal.TableView.{rows_behind};
 
 use crate::labels::Labels;
+use crate::library::Found;
+use crate::library::arguments::Arguments;
 use smt_faults::Memory;
 use smt_forms::{Scope, Variable};
 use smt_nodes::{Node, Nodes, TermId};
-use smt_theory::{PlainOp, Sort};
+use smt_theory::{Op, PlainOp, Sort};
 use std::alloc::Global;
 
 /// A variable's sort, and its place among those that are seen, the outermost at 0.
@@ -25,15 +30,16 @@ pub(crate) struct Bound {
     pub(crate) place: usize,
 }
 
-/// The variables that are seen, of which the outermost `base` stand outside the innermost term with a label;
-/// the labels so far; and the nodes of terms, of this draft and perhaps of those before it. All of them stand
-/// behind the nodes of a table that stays as it is.
+/// The variables that are seen, of which the outermost `base` are outside the innermost term with a label; the
+/// labels so far; the nodes of terms, of this draft and perhaps of those before it, which come after the nodes of
+/// a table that stays as it is; and the arguments that were checked of terms that are not yet.
 #[derive(Drop)]
 pub(crate) struct Draft<'a> {
     pub(crate) scope: Scope<'a, Bound>,
     pub(crate) base: usize,
     pub(crate) labels: Labels<'a>,
     pub(crate) nodes: Nodes,
+    pub(crate) arguments: Arguments,
 }
 
 /// What was found of a term: its sort, its node, and whether it uses a variable that stands outside; then the
@@ -46,8 +52,8 @@ pub(crate) struct CheckedTerm {
 }
 
 impl<'a> Draft<'a> {
-    /// No variables, with these labels and nodes.
-    pub(crate) fn new(alloc: Global, labels: Labels<'a>, nodes: Nodes) -> Self
+    /// No variables, with these labels, nodes and arguments.
+    pub(crate) fn new(alloc: Global, labels: Labels<'a>, nodes: Nodes, arguments: Arguments) -> Self
         ensures variables { seen_by result ≡ [] }
         ensures base { result.base ≡ 0 }
         ensures labels { result.labels ≡ labels.entry }
@@ -58,6 +64,7 @@ impl<'a> Draft<'a> {
             base: 0,
             labels,
             nodes,
+            arguments,
         }
     }
 
@@ -68,6 +75,7 @@ impl<'a> Draft<'a> {
         ensures base { self.new.base ≡ self.old.base }
         ensures labels { self.new.labels ≡ self.old.labels }
         ensures nodes { self.new.nodes ≡ self.old.nodes }
+        ensures arguments { self.new.arguments ≡ self.old.arguments }
     {
         let first = self.scope.len();
         let mut left = variables.len();
@@ -89,6 +97,7 @@ impl<'a> Draft<'a> {
         ensures base { self.new.base ≡ self.old.base }
         ensures labels { self.new.labels ≡ self.old.labels }
         ensures nodes { self.new.nodes ≡ self.old.nodes }
+        ensures arguments { self.new.arguments ≡ self.old.arguments }
     {
         self.scope.push(name, Bound { sort, place })
     }
@@ -110,6 +119,7 @@ impl<'a> Draft<'a> {
         ensures scope { self.new.scope ≡ self.old.scope }
         ensures base { self.new.base ≡ self.old.base }
         ensures labels { self.new.labels ≡ self.old.labels }
+        ensures arguments { self.new.arguments ≡ self.old.arguments }
     {
         let own = self.nodes.push(node)?;
         let node = own.behind(before.len())?;
@@ -120,26 +130,121 @@ impl<'a> Draft<'a> {
         })
     }
 
-    /// The same of an operator that holds no number, with its arguments.
+    /// The same of an operator that holds no number, with the arguments from this one on.
     #[inline(always)]
     pub(crate) fn push_plain(
         &mut self,
         before: &Nodes,
         op: PlainOp,
-        args: &[TermId],
+        start: usize,
         sort: Sort,
         is_open: bool,
     ) -> Result<CheckedTerm, Memory>
+        requires { start ≤ length (argument_sorts self.old.arguments) }
         ensures sort { IfOk result (λ c. c.sort ≡ sort) }
         ensures open { IfOk result (λ c. c.is_open ≡ is_open) }
         ensures added { IfOk result (λ c. AddsNode before.now self.old self.new
-            (Apply (op_of_plain op) args.now) c) }
+            (Apply (op_of_plain op) (terms_from start self.old.arguments)) c) }
         ensures longer { GrowsTo self.old self.new }
         ensures scope { self.new.scope ≡ self.old.scope }
         ensures base { self.new.base ≡ self.old.base }
         ensures labels { self.new.labels ≡ self.old.labels }
+        ensures arguments { self.new.arguments ≡ self.old.arguments }
     {
-        let own = self.nodes.push_plain(op, args)?;
+        let own = self.nodes.push_plain(op, self.arguments.terms(start))?;
+        let node = own.behind(before.len())?;
+        Ok(CheckedTerm {
+            sort,
+            node,
+            is_open,
+        })
+    }
+
+    /// The same of an operator that holds a number.
+    pub(crate) fn push_numbered(
+        &mut self,
+        before: &Nodes,
+        op: &Op,
+        start: usize,
+        sort: Sort,
+        is_open: bool,
+    ) -> Result<CheckedTerm, Memory>
+        requires { start ≤ length (argument_sorts self.old.arguments) }
+        ensures sort { IfOk result (λ c. c.sort ≡ sort) }
+        ensures open { IfOk result (λ c. c.is_open ≡ is_open) }
+        ensures added { IfOk result (λ c. AddsNode before.now self.old self.new
+            (Apply op.now (terms_from start self.old.arguments)) c) }
+        ensures longer { GrowsTo self.old self.new }
+        ensures scope { self.new.scope ≡ self.old.scope }
+        ensures base { self.new.base ≡ self.old.base }
+        ensures labels { self.new.labels ≡ self.old.labels }
+        ensures arguments { self.new.arguments ≡ self.old.arguments }
+    {
+        let args = self.arguments.terms(start);
+        let own = self.nodes.push(&Node::Apply { op: *op, args })?;
+        let node = own.behind(before.len())?;
+        Ok(CheckedTerm {
+            sort,
+            node,
+            is_open,
+        })
+    }
+
+    /// The same of a `let` with this body, whose terms are the arguments from this one on.
+    pub(crate) fn push_let(
+        &mut self,
+        before: &Nodes,
+        start: usize,
+        body: CheckedTerm,
+        is_open: bool,
+    ) -> Result<CheckedTerm, Memory>
+        requires { start ≤ length (argument_sorts self.old.arguments) }
+        ensures sort { IfOk result (λ c. c.sort ≡ body.sort) }
+        ensures open { IfOk result (λ c. c.is_open ≡ (is_open || body.is_open)) }
+        ensures added { IfOk result (λ c. AddsNode before.now self.old self.new
+            (Let (terms_from start self.old.arguments) body.node) c) }
+        ensures longer { GrowsTo self.old self.new }
+        ensures scope { self.new.scope ≡ self.old.scope }
+        ensures base { self.new.base ≡ self.old.base }
+        ensures labels { self.new.labels ≡ self.old.labels }
+        ensures arguments { self.new.arguments ≡ self.old.arguments }
+    {
+        let node = Node::Let {
+            values: self.arguments.terms(start),
+            body: body.node,
+        };
+        let own = self.nodes.push(&node)?;
+        let node = own.behind(before.len())?;
+        Ok(CheckedTerm {
+            sort: body.sort,
+            node,
+            is_open: is_open | body.is_open,
+        })
+    }
+
+    /// The same of a name in force, by its place.
+    #[inline(always)]
+    pub(crate) fn push_named(
+        &mut self,
+        before: &Nodes,
+        place: Found,
+        start: usize,
+        sort: Sort,
+        is_open: bool,
+    ) -> Result<CheckedTerm, Memory>
+        requires { start ≤ length (argument_sorts self.old.arguments) }
+        ensures sort { IfOk result (λ c. c.sort ≡ sort) }
+        ensures open { IfOk result (λ c. c.is_open ≡ is_open) }
+        ensures added { IfOk result (λ c. AddsNode before.now self.old self.new
+            (denotes.node_at place (terms_from start self.old.arguments)) c) }
+        ensures longer { GrowsTo self.old self.new }
+        ensures scope { self.new.scope ≡ self.old.scope }
+        ensures base { self.new.base ≡ self.old.base }
+        ensures labels { self.new.labels ≡ self.old.labels }
+        ensures arguments { self.new.arguments ≡ self.old.arguments }
+    {
+        let node = node_at(place, self.arguments.terms(start));
+        let own = self.nodes.push(&node)?;
         let node = own.behind(before.len())?;
         Ok(CheckedTerm {
             sort,
@@ -163,6 +268,7 @@ impl<'a> Draft<'a> {
         ensures scope { self.new.scope ≡ self.old.scope }
         ensures base { self.new.base ≡ self.old.base }
         ensures labels { self.new.labels ≡ self.old.labels }
+        ensures arguments { self.new.arguments ≡ self.old.arguments }
     {
         let count = before.len();
         let own = self.nodes.annotate(term.node.after(count))?;
@@ -172,5 +278,15 @@ impl<'a> Draft<'a> {
             node,
             is_open: term.is_open,
         })
+    }
+}
+
+// The node of the name that stands at this place, with arguments.
+fn node_at<'b>(place: Found, args: &'b [TermId]) -> Node<'b>
+    ensures { node_view result ≡ denotes.node_at place args.now }
+{
+    match place {
+        Found::Declared(place) => Node::Declared { place, args },
+        Found::Defined(place) => Node::Defined { place, args },
     }
 }

@@ -1,5 +1,5 @@
-//! Which new names are fresh: of declarations and definitions, of labels, and of the items of models. What a
-//! name will stand for is not known here, nor which names abbreviate sorts or are bound within a term.
+//! Which new names are fresh: of declarations and definitions, of labels, and of the items of models. This file
+//! does not know the meaning of a new name, nor which names abbreviate sorts or are bound within a term.
 
 ghost use Rattle.std.specs.Prelude.{◌≡◌, ◌||◌, is_some, None, Some, Ok, Err, MatchResult, OnOk};
 ghost use Rattle.smt_theory.specs.Operators.{is_plain_operator};
@@ -16,28 +16,29 @@ use smt_faults::TermFlaw;
 use smt_theory::{Theories, plain_op_of};
 
 impl Library {
-    // Whether a name stands for something, or is a plain operator's.
+    // Whether a name is in the library or is that of a plain operator.
     pub(super) fn is_taken(&self, name: &[u8]) -> bool
         ensures { result ≡ is_taken (names_of_library self.now) name.now }
     {
         self.has_entry(name) || is_operator(self.sorts.theories, name)
     }
 
-    // Whether a name stands for something.
+    // Whether a name is in the library.
     pub(super) fn has_entry(&self, name: &[u8]) -> bool
         ensures { result ≡ is_some (look_up (names_of_library self.now).ranks name.now) }
     {
         self.get(name).is_some()
     }
 
-    // Whether a name is taken, or that of a label that was given.
+    // Whether a name is taken, or is that of a label given so far.
     pub(super) fn is_in_use(&self, labels: &Labels, name: &[u8]) -> bool
         ensures { result ≡ is_label_taken (names_of_library self.now) (given_names labels.now) name.now }
     {
         self.is_taken(name) || labels.is_given(name)
     }
 
-    // Refuses a name that an earlier item has, and one that the script does not declare and that is taken.
+    // Refuses a name of an earlier item (`BoundTwice`), and a taken name that the script does not declare
+    // (`NotFresh`).
     pub(super) fn check_name(&self, script: &Library, name: &[u8]) -> Result<(), TermFlaw>
         ensures flaw { (s m : Signature) → StandsFor script.now s → StandsFor self.now m
             → MatchResult result (λ _. name_flaw s m.entries name.now ≡ None)
@@ -53,7 +54,7 @@ impl Library {
         Ok(())
     }
 
-    // Whether no item may have this name: it is taken, and not declared.
+    // Whether no item may have this name: it is taken, and no command declared it.
     fn is_unfit(&self, name: &[u8]) -> bool
         ensures { (s : Signature) → StandsFor self.now s → result ≡ is_taken_undeclared s name.now }
     {
@@ -69,7 +70,7 @@ impl Library {
     }
 }
 
-// Whether a name is a plain operator's of the theories.
+// Whether a name is that of a plain operator of the theories.
 fn is_operator(theories: Theories, name: &[u8]) -> bool
     ensures { result ≡ is_plain_operator theories name.now }
 {

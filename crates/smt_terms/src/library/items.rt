@@ -47,7 +47,7 @@ impl Library {
     /// name that an earlier parameter has (`BoundTwice`); for the result a tree that names no sort, with its
     /// fault; another rank than the declared one (`IllSorted`); a body with a fault over the earlier items
     /// and the parameters, with the first (any label is one); a body of another sort (`IllSorted`). Then, and
-    /// where memory is refused (`Memory`), no name is added; a term that nothing names may be.
+    /// where memory is refused (`Memory`), nothing changes.
     ///
     /// In the wide profile an item of a name that the script defines, by a definition or a label, is set aside:
     /// nothing is added, and its body is not looked at. It is refused for its form, its parameters and its sort
@@ -62,6 +62,7 @@ impl Library {
             (λ fault. (s m : Signature) → StandsFor script.now s → StandsFor self.old m
             → Tells (item_in s m.entries (sexp_of item.now)) fault) }
         ensures unchanged { OnErr result (IsUnchanged self.old self.new) }
+        ensures restored { OnErr result (contents_of self.new ≡ contents_of self.old) }
         ensures grown { Extends (contents_of self.old) (contents_of self.new) }
         ensures theories { HasTheoriesOf self.new script.now }
     {
@@ -73,7 +74,7 @@ impl Library {
         }
     }
 
-    // Adds what an item of these parts defines, or changes no name.
+    // Adds what an item of these parts defines, or changes nothing.
     #[tactic(auto, using(crate::proofs::ContentsLemmas::extends_itself))]
     fn add_item(&mut self, script: &Library, form: ItemForm<'_>) -> Result<(), TermFault>
         requires { HasTheoriesOf self.old script.now }
@@ -84,6 +85,7 @@ impl Library {
             (λ fault. (s m : Signature) → StandsFor script.now s → StandsFor self.old m
             → Tells (form_in s m.entries (item_view form.entry)) fault) }
         ensures unchanged { OnErr result (IsUnchanged self.old self.new) }
+        ensures restored { OnErr result (contents_of self.new ≡ contents_of self.old) }
         ensures grown { Extends (contents_of self.old) (contents_of self.new) }
         ensures theories { HasTheoriesOf self.new script.now }
     {

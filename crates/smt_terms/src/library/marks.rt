@@ -1,5 +1,5 @@
-//! Marks, which say how much a library held, and to which it can be cut again. This file adds nothing, and reads no
-//! tree.
+//! Marks: each counts what a library held, so that the library can be cut to it again. This file adds nothing, and
+//! reads no tree.
 
 ghost use Rattle.std.specs.Prelude.{◌≡◌};
 ghost use Rattle.smt_terms.specs.declared.library.marks.Mark as declared;
@@ -9,8 +9,7 @@ ghost use Rattle.smt_terms.specs.Library.{transient_of};
 
 use crate::library::Library;
 
-/// How many names, declarations, definitions (labels are definitions), abbreviations and nodes a library
-/// held.
+/// The number of names, declarations, definitions (with labels), abbreviations and nodes that a library held.
 #[derive(Clone, Copy, Debug, PartialEq, Eq)]
 pub struct Mark {
     pub(crate) names: usize,
@@ -21,7 +20,7 @@ pub struct Mark {
 }
 
 impl Library {
-    /// How much the library holds now.
+    /// A mark of all that the library holds now.
     pub fn mark(&self) -> Mark
         ensures all { first_of result (contents_of self.now) ≡ contents_of self.now }
         ensures within { IsWithin result (contents_of self.now) }
@@ -36,8 +35,8 @@ impl Library {
         }
     }
 
-    /// Leaves as many nodes as a mark counts, and those that the bodies of definitions need, at the cost of what
-    /// goes.
+    /// Keeps the first nodes, as many as a mark counts, and those that the bodies of definitions need. The cost is
+    /// that of the nodes dropped.
     pub fn cut_nodes(&mut self, mark: Mark)
         ensures left { contents_of self.new ≡ needed_of mark.nodes (contents_of self.old) }
         ensures transient { transient_of self.new ≡ transient_of self.old }
@@ -45,7 +44,7 @@ impl Library {
         self.leave_nodes(mark.nodes);
     }
 
-    /// Leaves the nodes that the bodies of definitions need, at the cost of what goes.
+    /// Keeps only the nodes that the bodies of definitions need. The cost is that of the nodes dropped.
     pub fn drop_unneeded(&mut self)
         ensures left { contents_of self.new ≡ needed_of 0 (contents_of self.old) }
         ensures transient { transient_of self.new ≡ transient_of self.old }
@@ -53,7 +52,7 @@ impl Library {
         self.leave_nodes(0);
     }
 
-    // Leaves the first so many nodes, and those that the bodies of definitions need.
+    // Keeps the first `count` nodes, and those that the bodies of definitions need.
     fn leave_nodes(&mut self, count: usize)
         ensures left { contents_of self.new ≡ needed_of count (contents_of self.old) }
         ensures transient { transient_of self.new ≡ transient_of self.old }
@@ -62,7 +61,7 @@ impl Library {
         self.nodes.cut(needed);
     }
 
-    /// How many nodes the bodies of the definitions need: each has a lower number.
+    /// The number of nodes that the bodies of the definitions need: each of these has a lower number.
     pub(super) fn end(&self) -> usize
         ensures { result ≡ end_of self.now.bodies.items }
     {
@@ -72,8 +71,8 @@ impl Library {
         }
     }
 
-    /// Leaves the first so many names, declarations, definitions, abbreviations and nodes as a mark counts,
-    /// at the cost of what goes.
+    /// Keeps the first names, declarations, definitions, abbreviations and nodes, as many of each as a mark counts.
+    /// The cost is that of what is dropped.
     pub fn cut(&mut self, mark: Mark)
         ensures left { contents_of self.new ≡ first_of mark (contents_of self.old) }
         ensures transient { transient_of self.new ≡ transient_of self.old }

@@ -17,8 +17,8 @@ use smt_theory::Sort;
 use smt_trees::Tree;
 use std::alloc::Global;
 
-// The variables that parameters are, with their sorts; or the first fault: of each parameter that of its
-// sort, and then whether its name has come before.
+// The parameters as variables with their sorts, or the first fault. Of each parameter the sort is checked first,
+// and then whether an earlier one has its name.
 pub(super) fn sorted_params<'a>(
     alloc: Global,
     sorts: &SortNames,
@@ -32,7 +32,7 @@ pub(super) fn sorted_params<'a>(
     Ok(variables)
 }
 
-// Puts the variables that parameters are into a vector that has none.
+// Adds the parameters, as variables with their sorts, to an empty vector.
 fn push_sorted<'a>(
     alloc: Global,
     variables: &mut Vec<Variable<'a, Sort>>,
@@ -55,7 +55,8 @@ fn push_sorted<'a>(
     Ok(())
 }
 
-// The same of the parameters that trees are, up to the first that is none.
+// The parameters in a list of trees, as variables with their sorts, or the first fault. The first tree that is no
+// parameter ends them.
 pub(super) fn sorted_params_of<'a>(
     alloc: Global,
     sorts: &SortNames,
@@ -68,7 +69,7 @@ pub(super) fn sorted_params_of<'a>(
     sorted_params(alloc, sorts, params.as_slice())
 }
 
-// The parameters of a definition that variables are, under names of their own.
+// Variables as the parameters of a definition, with copies of their names.
 pub(super) fn named_parameters(
     alloc: Global,
     variables: &[Variable<'_, Sort>],

@@ -16,7 +16,7 @@ use smt_forms::{ItemForm, Variable};
 use smt_theory::Sort;
 
 impl Library {
-    // Whether items of this name are no part of a model of these names.
+    // Whether items of this name are set aside: the profile is wide, and a definition or a label has the name.
     pub(super) fn sets_aside(&self, name: &[u8]) -> bool
         ensures { (s : Signature) → StandsFor self.now s → result ≡ is_set_aside s name.now }
     {
@@ -30,14 +30,14 @@ impl Library {
         self.theories().wide
     }
 
-    // Whether the name is a definition's or a label's.
+    // Whether the name is that of a definition or a label.
     fn is_defined(&self, name: &[u8]) -> bool
         ensures { (s : Signature) → StandsFor self.now s → result ≡ is_defined_in s name.now }
     {
         self.has_entry(name) && !self.is_declared(name)
     }
 
-    // Checks an item of these parts against the definition that it repeats.
+    // Checks an item with these parts against the definition that it repeats.
     pub(super) fn check_repeated(&self, form: ItemForm<'_>) -> Result<(), TermFault>
         ensures repeated { OnOk result ((s : Signature) → StandsFor self.now s
             → repeated_in s (item_view form.entry) ≡ Ok None) }
@@ -52,7 +52,7 @@ impl Library {
         Ok(())
     }
 
-    // Whether the name has the rank that these parameters and this sort make, if it stands for something.
+    // Whether the name has the rank of these parameters and this sort; true of a name that is not in the library.
     fn repeats_rank(
         &self,
         name: &[u8],
@@ -67,7 +67,7 @@ impl Library {
         Ok(self.has_this_rank(name, sorts.as_slice(), sort))
     }
 
-    // Whether the name has this rank, if it stands for something.
+    // Whether the name has this rank; true of a name that is not in the library.
     fn has_this_rank(&self, name: &[u8], parameters: &[Sort], sort: Sort) -> bool
         ensures { (s : Signature) → StandsFor self.now s
             → result ≡ has_rank_of (entry_named s.entries name.now) parameters.now sort }

@@ -7,7 +7,7 @@ use smt_faults::Memory;
 use smt_forms::Variable;
 use smt_theory::Sort;
 
-// Puts a variable with its sort behind others.
+// Adds a variable with its sort after the others.
 pub(super) fn push_variable<'a>(
     variables: &mut Vec<Variable<'a, Sort>>,
     name: &'a [u8],

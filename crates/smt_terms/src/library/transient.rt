@@ -14,6 +14,7 @@ ghost use Rattle.smt_terms.specs.Signature.{Signature, names_of};
 
 use crate::labels::Labels;
 use crate::library::Library;
+use crate::library::arguments::Arguments;
 use crate::library::draft::Draft;
 use smt_faults::TermFault;
 use smt_nodes::{Nodes, TermId};
@@ -37,9 +38,13 @@ impl Library {
     {
         let count = self.transient.len();
         let nodes = mem::replace(&mut self.transient, Nodes::new(self.alloc));
-        let mut draft = Draft::new(self.alloc, Labels::refused(self.alloc), nodes);
+        let arguments = mem::replace(&mut self.arguments, Arguments::new(self.alloc));
+        let labels = Labels::refused(self.alloc);
+        let mut draft = Draft::new(self.alloc, labels, nodes, arguments);
         let result = self.check_over(&mut draft, &[], term);
         self.transient = mem::replace(&mut draft.nodes, Nodes::new(self.alloc));
+        self.arguments = mem::replace(&mut draft.arguments, Arguments::new(self.alloc));
+        self.arguments.clear(self.alloc);
         match result {
             Ok(checked) => Ok((checked.node, checked.sort)),
             Err(fault) => {

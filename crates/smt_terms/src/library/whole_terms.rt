@@ -17,6 +17,7 @@ ghost use Rattle.smt_terms.specs.Internal.TableView.{AreNamed, IsReady, table_in
 
 use crate::labels::{Label, Labels};
 use crate::library::Library;
+use crate::library::arguments::Arguments;
 use crate::library::draft::{CheckedTerm, Draft};
 use smt_faults::TermFault;
 use smt_forms::Variable;
@@ -58,10 +59,13 @@ impl Library {
     {
         let count = self.nodes.len();
         let nodes = mem::replace(&mut self.nodes, Nodes::new(self.alloc));
-        let mut draft = Draft::new(self.alloc, labels, nodes);
+        let arguments = mem::replace(&mut self.arguments, Arguments::new(self.alloc));
+        let mut draft = Draft::new(self.alloc, labels, nodes, arguments);
         let result = self.check_over(&mut draft, variables, term);
         let given = draft.labels.take_given(self.alloc);
         self.nodes = mem::replace(&mut draft.nodes, Nodes::new(self.alloc));
+        self.arguments = mem::replace(&mut draft.arguments, Arguments::new(self.alloc));
+        self.arguments.clear(self.alloc);
         match result {
             Ok(checked) => Ok((checked, given)),
             Err(fault) => {

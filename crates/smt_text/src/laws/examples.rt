@@ -1,4 +1,4 @@
-//! Examples of texts, with their trees and faults, as theorems on the definitions. Each is a clause of a
+//! Examples of texts with their trees and faults, as theorems about the definitions. Each is a clause of a
 //! function that does nothing.
 
 ghost use Rattle.std.specs.Prelude.{◌≡◌, ◌<◌, ◌+◌, ℕ, List, [], ◌∷◌, ◌++◌, codes, true, false, Some, None};
@@ -62,7 +62,7 @@ pub fn comments()
     ensures ends_an_atom { Reads max_depth false (codes "a;") (Cons (Atom Symbol (codes "a")) Nil) None }
 {}
 
-/// Texts and their faults, once they have ended, and what is read before the fault.
+/// Texts and their faults, with what is read before the fault. All texts but two have ended.
 pub fn faults()
     ensures closed { Reads max_depth true (codes "sat)") Nil (Some (Byte 3)) }
     ensures closed_later { Reads max_depth true (codes "sat )") (Cons (Atom Symbol (codes "sat")) Nil)
@@ -89,7 +89,7 @@ pub fn faults()
     ensures told_at_once { Reads max_depth false (codes "01") Nil (Some (Byte 1)) }
 {}
 
-/// Lists that nest as deep as they may, and deeper: open parentheses alone.
+/// Lists that nest as deep as they may, and deeper: texts of open parentheses.
 pub fn nesting()
     ensures at_the_limit { Reads max_depth true (replicate 1000 40) Nil (Some (End 1000)) }
     ensures past_the_limit { Reads max_depth true (replicate 1001 40) Nil (Some (Deep 1000)) }

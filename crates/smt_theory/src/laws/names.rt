@@ -1,5 +1,5 @@
-//! The table of names once more, from the name to the operator and from the theories to the logics. Nothing
-//! here does anything.
+//! The tables of names, stated a second time: from the name to the operator, and from the theories to the
+//! logics. Nothing here does anything.
 
 ghost use Rattle.std.specs.Prelude.{◌≡◌, ◌↔◌, ℕ, List, [], ◌∷◌, Bool, true, false, Ok, Some, All};
 ghost use Rattle.std.specs.Prelude.{◌⊎◌, codes};
@@ -22,7 +22,7 @@ ghost use Rattle.smt_theory.specs.declared.op.Op.TheVariants.{Core, Ints, Bits};
 ghost use Rattle.smt_theory.specs.declared.profile.Profile.TheVariants.{Base, Wide};
 ghost use Rattle.smt_theory.specs.declared.theories.Theories.{Theories};
 
-/// What a symbol without indexes is, of the theories Core and Ints (SMT-LIB 2.6).
+/// Which operator of the theories Core and Ints each symbol without indexes names (SMT-LIB 2.6).
 pub fn plain_names_are_the_standards()
     ensures core { All (λ (row : List ℕ × CoreOp). op_by (all_theories Base) row.0 []
         ≡ Ok (Core row.1))
@@ -40,8 +40,8 @@ pub fn plain_names_are_the_standards()
         ∷ (codes ">=", ints.Comparison comparison.AtLeast) ∷ []) }
 {}
 
-/// What a symbol without indexes is, of the operators on bit vectors (SMT-LIB 2.6, theory
-/// FixedSizeBitVectors and logic QF_BV).
+/// Which operator on bit vectors each symbol without indexes names (SMT-LIB 2.6, theory FixedSizeBitVectors
+/// and logic QF_BV).
 pub fn plain_names_of_vectors_are_the_standards()
     ensures arithmetic { All (λ (row : List ℕ × BitsOp). op_by (all_theories Base) row.0 []
         ≡ Ok (Bits row.1))
@@ -72,7 +72,7 @@ pub fn plain_names_of_vectors_are_the_standards()
         ∷ (codes "bvsge", bits.Comparison compare.SignedAtLeast) ∷ (codes "bvcomp", bits.Comp) ∷ []) }
 {}
 
-/// What a symbol with indexes is (SMT-LIB 2.6, theory Ints and logic QF_BV).
+/// Which operator a symbol with indexes names (SMT-LIB 2.6, theory Ints and logic QF_BV).
 pub fn indexed_names_are_the_standards()
     ensures divisible { op_by (all_theories Base) (codes "divisible") (Number 3 ∷ [])
         ≡ Ok (Ints (ints.Divisible 3)) }
@@ -87,8 +87,8 @@ pub fn indexed_names_are_the_standards()
         ∷ (codes "rotate_right", bits.RotateRight 3) ∷ []) }
 {}
 
-/// Which logics of the profile Base have these theories, and no others: which are supported is this project's
-/// own choice.
+/// The logics of the profile Base by their theories: these have them, and no others. Which logics are
+/// supported is this project's own choice.
 pub fn logics_are_those_of_their_theories()
     ensures core { (logic : List ℕ) → (theories_named Base logic
         ≡ Some record { ints = false; bits = false; reals = false; arrays = false; wide = false })
@@ -105,7 +105,7 @@ pub fn logics_are_those_of_their_theories()
         ↔ (logic ≡ codes "ALL") }
 {}
 
-/// Which logics of the profile Wide have these theories, and no others, where there are no arrays.
+/// The logics of the profile Wide without arrays, by their theories: these have them, and no others.
 pub fn wide_logics_are_those_of_their_theories()
     ensures core { AreWideLogicsOf
         (record { ints = false; bits = false; reals = false; arrays = false; wide = true })
@@ -130,7 +130,7 @@ pub fn wide_logics_are_those_of_their_theories()
         (codes "BVLIA" ∷ codes "BVNIA" ∷ codes "UFBVLIA" ∷ codes "UFBVNIA" ∷ []) }
 {}
 
-/// Which logics of the profile Wide have these theories, and no others, where there are arrays.
+/// The logics of the profile Wide with arrays, by their theories: these have them, and no others.
 pub fn wide_logics_of_arrays_are_those_of_their_theories()
     ensures arrays { AreWideLogicsOf
         (record { ints = false; bits = false; reals = false; arrays = true; wide = true })
@@ -158,7 +158,7 @@ pub fn wide_logics_of_arrays_are_those_of_their_theories()
         (codes "ALL" ∷ codes "ALL_SUPPORTED" ∷ codes "AUFBVDTNIRA" ∷ []) }
 {}
 
-/// In the profile Base there are neither reals nor arrays, and nothing is wide; in the profile Wide all is.
+/// The profile Base has neither reals nor arrays and is never wide; the profile Wide always is.
 pub fn base_has_no_wide_names()
     ensures logics { (logic : List ℕ) (theories : Theories) → theories_named Base logic ≡ Some theories
         → (theories.reals ≡ false) × (theories.arrays ≡ false) × (theories.wide ≡ false) }
@@ -169,7 +169,7 @@ pub fn base_has_no_wide_names()
     ensures all_wide { (all_theories Wide).wide ≡ true }
 {}
 
-/// A logic that the profile Base takes the profile Wide takes too, with the same integers and bit vectors.
+/// The profile Wide accepts each logic that the profile Base accepts, with the same integers and bit vectors.
 pub fn wide_takes_the_logics_of_base()
     ensures { (logic : List ℕ) (theories : Theories) → theories_named Base logic ≡ Some theories
         → (more : Theories) × (theories_named Wide logic ≡ Some more)

@@ -20,8 +20,8 @@ use crate::op::{BitsBinary, BitsComparison, BitsFolded, BitsOp, BitsUnary, OpFau
 use crate::symbols::{byte_at, is_named};
 use crate::width::Width;
 
-/// The plain operator of this name. There are many, so the length and three bytes tell the one that it can be,
-/// with whose name it is then compared.
+/// The plain operator of this name. There are many names: the length and three bytes single out the one
+/// operator that it can be, whose name is then compared.
 #[inline(always)]
 pub(crate) fn bits_op(symbol: &[u8]) -> Option<PlainOp>
     ensures { option_map op_of_plain result ≡ option_map Bits (bits_named symbol.now) }
@@ -32,7 +32,7 @@ pub(crate) fn bits_op(symbol: &[u8]) -> Option<PlainOp>
     if_named(symbol, bits_like(symbol.len(), third, fourth, fifth))
 }
 
-// The plain operator that a name of so many bytes with these in it can be.
+// The one plain operator that a name of this length with these bytes can be.
 #[inline(always)]
 fn bits_like(length: usize, third: u8, fourth: u8, fifth: u8) -> Option<PlainOp>
     ensures { option_map op_of_plain result ≡ option_map Bits (like.bits_like length third fourth fifth) }
@@ -153,7 +153,7 @@ pub(crate) fn comparison_name(op: BitsComparison) -> &'static [u8]
     }
 }
 
-/// The operator of this name with these indexes, of which there is one or more.
+/// The operator of this name with these indexes, of which there is at least one.
 pub(crate) fn indexed_bits_op(symbol: &[u8], indexes: &[Index]) -> Result<BitsOp, OpFault>
     ensures { result ≡ indexed_bits symbol.now (map index_view indexes.now) }
 {
@@ -201,7 +201,7 @@ fn constant(digits: &[u8], indexes: &[Index]) -> Option<BitsOp>
     width.holds(value).then_some(BitsOp::Constant(value, width))
 }
 
-// The numeral in a constant's name.
+// The digits X of a constant's name `bvX`.
 fn constant_digits(symbol: &[u8]) -> Option<&[u8]>
     ensures { option_copied result ≡ names.constant_digits symbol.now }
 {

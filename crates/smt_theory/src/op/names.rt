@@ -20,10 +20,10 @@ use crate::op::{Arithmetic, Comparison, CoreOp, IntsOp, Op, OpFault};
 use crate::symbols::{byte_at, is_named};
 use crate::theories::Theories;
 
-/// The operator that these theories have under this symbol (without bars) with these indexes.
+/// The operator that these theories have for this symbol (without bars) with these indexes.
 ///
-/// `Unknown` where they have none of that name in that form; `Index` where the indexes are wrong in number,
-/// kind or range.
+/// `Unknown` where they have no operator of that name in that form; `Index` where the indexes are wrong in
+/// number, kind or range.
 #[tactic(auto, using(crate::proofs::OperatorLemmas::op_by_indexed))]
 pub fn op_of(theories: Theories, symbol: &[u8], indexes: &[Index]) -> Result<Op, OpFault>
     ensures { result ≡ op_by theories symbol.now (map index_view indexes.now) }
@@ -38,7 +38,8 @@ pub fn op_of(theories: Theories, symbol: &[u8], indexes: &[Index]) -> Result<Op,
     }
 }
 
-/// The operator without indexes that these theories have under this symbol (without bars).
+/// The operator without indexes that these theories have for this symbol (without bars); `None` where there
+/// is none.
 #[inline(always)]
 pub fn plain_op_of(theories: Theories, symbol: &[u8]) -> Option<PlainOp>
     ensures { option_map op_of_plain result ≡ plain_op theories symbol.now }
@@ -75,7 +76,7 @@ fn divisible(indexes: &[Index]) -> Option<Op>
     }
 }
 
-// The operator of Core of this name. Its length and first byte tell the one that it can be.
+// The operator of Core of this name. The length and the first byte single out the one that it can be.
 #[inline(always)]
 fn core_op(symbol: &[u8]) -> Option<PlainOp>
     ensures { option_map op_of_plain result ≡ option_map ops.Core (core_named symbol.now) }
@@ -102,7 +103,7 @@ fn core_like(length: usize, first: u8) -> Option<PlainOp>
     }
 }
 
-// The same of Ints.
+// The operator of Ints of this name, found as those of Core are.
 #[inline(always)]
 fn ints_op(symbol: &[u8]) -> Option<PlainOp>
     ensures { option_map op_of_plain result ≡ option_map ops.Ints (ints_named symbol.now) }
@@ -129,7 +130,7 @@ fn ints_like(length: usize, first: u8) -> Option<PlainOp>
     }
 }
 
-/// The operator that a name can be, if that is its name.
+/// The operator that a name can be, where it has that name.
 #[inline(always)]
 pub(crate) fn if_named(symbol: &[u8], like: Option<PlainOp>) -> Option<PlainOp>
     ensures { result ≡ if_named (λ op. name_of (op_of_plain op)) symbol.now like }

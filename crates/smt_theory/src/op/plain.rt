@@ -25,7 +25,7 @@ pub enum PlainOp {
 }
 
 impl PlainOp {
-    /// The operator that it is.
+    /// This operator as an `Op`.
     pub fn op(self) -> Op
         ensures { result ≡ op_of_plain self }
     {
@@ -44,7 +44,7 @@ impl PlainOp {
         }
     }
 
-    /// The plain form of an operator, unless it holds a number.
+    /// The plain form of an operator; `None` where it holds a number.
     #[inline(always)]
     pub fn from_op(op: Op) -> Option<PlainOp>
         ensures same { IfSome result (λ plain. op_of_plain plain ≡ op) }

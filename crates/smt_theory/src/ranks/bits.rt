@@ -9,7 +9,7 @@ use crate::ranks::{are, are_two_or_more};
 use crate::sort::Sort;
 use crate::width::Width;
 
-/// The sort of the operator's result for arguments of these sorts.
+/// The sort of the operator's result for arguments of these sorts; `None` where it has no rank for them.
 #[inline(always)]
 pub(crate) fn rank_in_bits(op: BitsOp, args: &[Sort]) -> Option<Sort>
     ensures { result ≡ bits_rank op args.now }
@@ -39,7 +39,7 @@ pub(crate) fn one_width(args: &[Sort]) -> Option<Width>
     }
 }
 
-// The width of two bit vectors that have the same.
+// The common width of two bit vectors; `None` where the sorts are others.
 #[inline(always)]
 pub(crate) fn two_width(args: &[Sort]) -> Option<Width>
     ensures { result ≡ ranks.two_width args.now }
@@ -50,7 +50,7 @@ pub(crate) fn two_width(args: &[Sort]) -> Option<Width>
     }
 }
 
-// The width of two or more bit vectors that have the same.
+// The common width of two or more bit vectors; `None` where the sorts are others.
 #[inline(always)]
 pub(crate) fn several_width(args: &[Sort]) -> Option<Width>
     ensures { result ≡ ranks.several_width args.now }
@@ -76,8 +76,8 @@ pub(crate) fn concat_width(args: &[Sort]) -> Option<Width>
     }
 }
 
-// The width of these bit vectors behind so many bits. It stops at the limit, so no sum of many widths is too
-// large.
+// The width of these bit vectors together with so many bits before them. It stops at the limit, so no sum of
+// many widths is too large.
 fn width_behind(before: Width, args: &[Sort]) -> Option<Width>
     ensures { result ≡ ranks.width_behind before args.now }
 {
@@ -90,7 +90,7 @@ fn width_behind(before: Width, args: &[Sort]) -> Option<Width>
     left.is_empty().then_some(width)
 }
 
-// Bits i down to j of a bit vector of this width.
+// The width of bits i down to j of a bit vector of this width.
 fn extract_width(i: u64, j: u64, width: Width) -> Option<Width>
     ensures { result ≡ ranks.extract_width i j width }
 {

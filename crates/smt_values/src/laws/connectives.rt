@@ -1,4 +1,4 @@
-//! Laws of the theory Core: truth tables, and what the operators make of more than two. Nothing here does
+//! Laws of the theory Core: truth tables, and the operators on more than two arguments. Nothing here does
 //! anything.
 
 ghost use Rattle.std.specs.Prelude.{◌≡◌, ◌↔◌, List, [], ◌∷◌, Bool, true, false, All};
@@ -31,8 +31,8 @@ pub fn connectives_have_their_truth_tables()
         × (operate z (Core Ite) (Truth false ∷ a ∷ b ∷ []) ≡ b) }
 {}
 
-/// Three truth values or more are taken two by two (SMT-LIB 2.6, theory Core): from the left, and of `=>`
-/// from the right.
+/// Operators combine three truth values or more two by two: from the left, and `=>` from the right (SMT-LIB
+/// 2.6, theory Core).
 pub fn connectives_associate()
     ensures and { (z : DivisionByZero) (a b c : Bool) (rest : List Element)
         → operate z (Core And) (Truth a ∷ Truth b ∷ Truth c ∷ rest)
@@ -48,8 +48,8 @@ pub fn connectives_associate()
         ≡ operate z (Core Implies) (Truth a ∷ operate z (Core Implies) (Truth b ∷ Truth c ∷ rest) ∷ []) }
 {}
 
-/// `=` says that two are the same, and of more that each is the same as the one after it; `distinct` says of
-/// two that they are not the same, and of more that no pair of them is (SMT-LIB 2.6, theory Core).
+/// `=` says that two arguments are the same, and of more, that each is the same as the next. `distinct` says
+/// that two arguments are not the same, and of more, that no two are (SMT-LIB 2.6, theory Core).
 pub fn equals_and_distinct_are_by_pairs()
     ensures equal { (z : DivisionByZero) (a b : Element)
         → (operate z (Core Equal) (a ∷ b ∷ []) ≡ Truth true) ↔ (a ≡ b) }

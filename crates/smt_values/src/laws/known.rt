@@ -1,5 +1,5 @@
-//! Laws of what is known although something is open, and of how far integers are known: no definition that
-//! leaves more open meets them. Nothing here does anything.
+//! Laws of what is known although some arguments are open, and of the range of known integers. A definition
+//! that leaves more open does not meet them. Nothing here does anything.
 
 ghost use Rattle.std.specs.Prelude.{◌≡◌, ◌≢◌, ◌↔◌, ◌⊎◌, ℕ, ◌^◌, ◌<◌, ◌≤◌, ℤ, pos, neg_ℤ, ◌≤ℤ◌, ◌<ℤ◌, List};
 ghost use Rattle.std.specs.Prelude.{[], ◌∷◌, ◌++◌, Bool, true, false, Option, Some, None};
@@ -15,8 +15,11 @@ ghost use Rattle.smt_values.specs.KnownOperations.{is_within, known_step};
 ghost use Rattle.smt_values.specs.Literals.{numeral_element};
 ghost use Rattle.smt_values.specs.Operations.{DivisionByZero, operate};
 
-/// One argument decides, whatever the others are: a false one of `and`, a true one of `or`, of `=>` a false
-/// one before the last and the last if it is true, and the chosen branch of `ite`.
+/// One argument may decide, whatever the others are:
+///
+/// - of `and` a false one, and of `or` a true one;
+/// - of `=>` a false one before the last, and the last if it is true;
+/// - of `ite` the chosen branch.
 pub fn one_argument_decides()
     ensures and { (before after : List (Option Element))
         → known_step (Core And) (before ++ Some (Truth false) ∷ after) ≡ Some (Truth false) }
@@ -31,7 +34,7 @@ pub fn one_argument_decides()
         × (known_step (Core Ite) (Some (Truth false) ∷ a ∷ b ∷ []) ≡ b) }
 {}
 
-/// An integer is known exactly from -2^127 up to 2^127 - 1, and so is the one of a numeral.
+/// An integer is known exactly from -2^127 to 2^127 - 1, and so is the integer of a numeral.
 pub fn integers_within_bounds_are_known()
     ensures bounds { (a : ℤ) → (is_within a ≡ true)
         ↔ ((neg_ℤ (pos (2 ^ 127)) ≤ℤ a) × (a <ℤ pos (2 ^ 127))) }
@@ -40,9 +43,8 @@ pub fn integers_within_bounds_are_known()
     ensures larger { (digits : List ℕ) → 2 ^ 127 ≤ digits_value 10 digits → numeral_element digits ≡ None }
 {}
 
-/// An operator of Ints that has an integer for known arguments has it known, where it is within the bounds
-/// and no divisor is 0; of more than two arguments where the result of the first two is known, and so on from
-/// the left.
+/// Where an operator of Ints gives an integer for one or two known arguments, it is known if it is within the
+/// bounds and no divisor is 0. More than two arguments are combined from the left.
 pub fn results_within_bounds_are_known()
     ensures one { (z : DivisionByZero) (op : IntsOp) (a r : ℤ) → operate z (Ints op) (Integer a ∷ []) ≡ Integer r
         → is_within r ≡ true → known_step (Ints op) (Some (Integer a) ∷ []) ≡ Some (Integer r) }

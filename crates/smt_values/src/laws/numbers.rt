@@ -17,8 +17,8 @@ ghost use Rattle.smt_values.specs.Operations.{DivisionByZero, compares, operate}
 
 use smt_bits::laws::signed;
 
-/// Of integers `<=` is `<` or equal, and `>` and `>=` are these the other way round; a chain holds where each
-/// holds with the one after it (SMT-LIB 2.6, theory Ints).
+/// Between integers `<=` is `<` or equality, and `>` and `>=` are `<` and `<=` with the arguments exchanged.
+/// A chain holds where each argument is so related to the next (SMT-LIB 2.6, theory Ints).
 pub fn integers_are_compared()
     ensures less { (a b : ℤ) → (compares Less a b ≡ true) ↔ (a <ℤ b) }
     ensures at_most { (a b : ℤ) → (compares AtMost a b ≡ true) ↔ ((compares Less a b ≡ true) ⊎ (a ≡ b)) }
@@ -29,8 +29,8 @@ pub fn integers_are_compared()
         ≡ Truth (compares op a b && compares op b c) }
 {}
 
-/// Of bit vectors of one width 'at most' is less or equal, as numbers and read as signed, and the others are
-/// these the other way round (SMT-LIB 2.6, logic QF_BV).
+/// Between bit vectors of one width 'at most' is less or equal, both as numbers and read as signed. The other
+/// relations exchange the arguments (SMT-LIB 2.6, logic QF_BV).
 pub fn vectors_are_compared()
     ensures less { (m s t : ℕ) → (compares_bits UnsignedLess m s t ≡ true) ↔ (s < t) }
     ensures at_most { (m s t : ℕ) → (compares_bits UnsignedAtMost m s t ≡ true)
@@ -51,8 +51,8 @@ pub fn vectors_are_compared()
     signed::the_signed_reading_is_one_to_one();
 }
 
-/// A number n divides an integer where the remainder by n is 0; the absolute value is the one of the integer
-/// and its opposite that is not below 0 (SMT-LIB 2.6, theory Ints).
+/// A number n divides an integer exactly where the remainder by n is 0. The absolute value is whichever of
+/// the integer and its opposite is not below 0 (SMT-LIB 2.6, theory Ints).
 pub fn divisors_leave_nothing_and_absolutes_no_sign()
     ensures divisible { (z : DivisionByZero) (n : ℕ) (x : ℤ) → 0 < n
         → (operate z (Ints (Divisible n)) (Integer x ∷ []) ≡ Truth true)

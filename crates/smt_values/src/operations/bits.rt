@@ -56,7 +56,7 @@ fn constant(number: u128, width: Width, args: &[Option<Value>]) -> Option<Bits>
     }
 }
 
-// What the parts are together, the first the highest.
+// The concatenation of the arguments, the first one highest.
 fn concatenated(args: &[Option<Value>]) -> Option<Bits>
     ensures { result ≡ option_and_then (known_from_left concatenation)
         (known_vectors (known_elements args.now)) }

@@ -1,5 +1,5 @@
-//! `distinct` of many arguments. They are sorted, so that each has to be compared with the next alone. This
-//! file knows no other operator.
+//! `distinct` of many arguments. It sorts them, so that it has to compare each with the next alone. This file
+//! knows no other operator.
 
 ghost use Rattle.std.specs.Prelude.{◌≡◌, not};
 ghost use Rattle.smt_values.specs.Element.{known_element, known_elements};
@@ -12,7 +12,7 @@ ghost use Rattle.smt_theory.specs.declared.op.CoreOp.TheVariants.{Distinct};
 use super::bools::{all_are_known, are_both, distinctness};
 use crate::value::Value;
 
-// Of up to so many arguments each is compared with each later one, which is quicker than a sort.
+// Up to this many arguments, each is compared with each later one, which is quicker than a sort.
 const FEW: usize = 8;
 
 /// The value of `distinct`. Its arguments may change places.
@@ -42,7 +42,7 @@ fn are_neighbours_distinct(args: &[Option<Value>]) -> bool
     true
 }
 
-// What no other argument has: of which kind it is, and which of that kind.
+// A key that no other argument has: the kind of the argument, and which it is of that kind.
 fn key(arg: &Option<Value>) -> (u8, i128, u128)
     ensures { result ≡ key_of (known_element arg.now) }
 {

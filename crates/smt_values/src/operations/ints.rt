@@ -25,7 +25,7 @@ pub(crate) fn apply_ints(op: IntsOp, args: &[Option<Value>]) -> Option<Value>
     }
 }
 
-// What an operator gives that is applied from the left; of one argument `-` gives the negation.
+// What an operator gives that is applied from the left; `-` of one argument gives the negation.
 fn from_left(op: Arithmetic, args: &[Option<Value>]) -> Option<i128>
     ensures { result ≡ option_and_then (known_from_left op) (known_integers (known_elements args.now)) }
 {
@@ -62,7 +62,7 @@ fn combined(op: Arithmetic, a: i128, b: i128) -> Option<i128>
     }
 }
 
-// Whether the relation holds of each argument and the next.
+// Whether the relation holds between each argument and the next.
 fn chain(op: Comparison, args: &[Option<Value>]) -> Option<bool>
     ensures { result ≡ option_map (are_chained (compares op)) (known_integers (known_elements args.now)) }
 {

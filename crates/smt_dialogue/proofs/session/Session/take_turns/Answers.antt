@@ -1,5 +1,5 @@
 use Rattle.std.proofs.Common.{refl, subst}
-use Rattle.smt_dialogue.proofs.SessionTurnLemmas.{cut_stands, open_fed, pause_less, paused_going, rests_stands}
+use Rattle.smt_dialogue.proofs.SessionTurnLemmas.{cut_stands, none_added, open_fed, pause_less, paused_going, rests_stands}
 use Rattle.smt_dialogue.specs.Internal.PairingView.{HasAdvanced, IsCut}
 use Rattle.smt_dialogue.specs.Internal.SessionView.{texts_of}
 use Rattle.smt_dialogue.proofs.session.Session.take_turns.Goals as goal
@@ -41,3 +41,12 @@ returns-in-Err-clause-turned c = λ h k.
     (record { script = on.script_ended; answers = on.answers_ended })
     (subst (λ b. IsCut b c.advance.new.self.dialogue.decided.lines.items (texts_of h o.script o.answers)) o.start
     (c.in-Err.ensures.cut (texts_of h o.script o.answers) o.pairs o.later o.rest o.way))
+
+pub returns-in-Err-clause-no_verdict : goal.returns-in-Err-clause-no_verdict
+returns-in-Err-clause-no_verdict c =
+    let s = c.args.self.now in
+    let h = c.requires.fed.0 in
+    let o = (open_fed s h c.in_default.is c.if-is_some.ensures c.requires.fed.1).open' in
+    none_added h.taken s.exchange.dialogue.decided.lines.items c.advance.new.self.dialogue.decided.lines.items
+    c.advance.ensures.kept
+    (c.in-Err.ensures.cut (texts_of h o.script o.answers) o.pairs o.later o.rest o.way).3

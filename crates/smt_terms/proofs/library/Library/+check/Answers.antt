@@ -1,20 +1,26 @@
-use Rattle.std.proofs.Common.{◌≡◌, ℕ, List, Result, ◌++◌, [], Ok, ◌∷◌, length, map, refl, ap, sym, subst}
+use Rattle.std.proofs.Common.{◌||◌, ℕ, List, Result, ◌++◌, [], Ok, ◌∷◌, length, map, take, refl, ap, sym, subst}
 use Rattle.std.proofs.Common.{◌∙◌, arith, inr, append-nil}
-use Rattle.std.proofs.lemmas.List.{length-append, map-append}
+use Rattle.std.proofs.lemmas.List.{map-append}
 use Rattle.std.proofs.lemmas.Result.{err_from_is_err_and}
-use Rattle.smt_trees.specs.Sexp.{Cons, Items, Reserved, count, weight_all}
+use Rattle.smt_trees.specs.Sexp.{Cons, Items, Reserved, weight_all}
 use Rattle.smt_trees.specs.Tree.{sexp_of, sexps_of}
-use Rattle.smt_trees.specs.declared.reserved.Word.TheVariants.{Bang}
+use Rattle.smt_trees.specs.declared.reserved.Word.TheVariants.{Bang, Let}
 use Rattle.smt_forms.specs.Bindings.{are_named_trees}
 use Rattle.smt_forms.specs.IdentifierView.{identifier_view}
 use Rattle.smt_forms.specs.Labels.{labels_among, labels_in, labels_in_all, labels_in_bindings}
+use Rattle.smt_forms.specs.ScopeOf.{scope_of}
 use Rattle.smt_forms.specs.ScopeView.{scope_view}
 use Rattle.smt_forms.specs.Variables.{is_among}
 use Rattle.smt_theory.specs.declared.sort.Sort.{Sort}
+use Rattle.smt_faults.specs.declared.term_fault.TermFault.{TermFault}
 use Rattle.smt_faults.specs.declared.term_flaw.TermFlaw.{TermFlaw}
-use Rattle.smt_terms.specs.Checking.{bound_in, sort_in, sort_of_call}
+use Rattle.smt_terms.specs.Checking.{bound_in, sort_applied, sort_in, sort_of_call}
 use Rattle.smt_terms.specs.Internal.Calls.{HasSort}
-use Rattle.smt_terms.specs.Internal.DraftView.{IsPlaced, are_open, are_open_bindings, is_open, seen_by, sorts_seen}
+use Rattle.smt_terms.specs.Internal.DraftView.{IsPlaced, are_open, are_open_bindings, argument_sorts}
+use Rattle.smt_terms.specs.Internal.DraftView.{argument_terms, is_open, seen_by, sorts_from, sorts_seen, terms_from}
+use Rattle.smt_terms.proofs.ArgumentLemmas.{applied_alone, no_sorts, sees_with, since_more, since_none, since_within}
+use Rattle.smt_terms.proofs.ArgumentLemmas.{so_far_with, sorts_since, sorts_start, stands_with, start_counted}
+use Rattle.smt_terms.proofs.ArgumentLemmas.{taken_away, terms_since, terms_start}
 use Rattle.smt_terms.specs.Internal.LabelsView.{AreGiven, labels_view}
 use Rattle.smt_terms.specs.Internal.LibraryView.{names_for, names_of_library}
 use Rattle.smt_terms.specs.Signature.{unlabelled}
@@ -23,8 +29,8 @@ use Rattle.smt_terms.specs.Denotes.{AreBound, AreDenoted}
 use Rattle.smt_terms.specs.Internal.NodesView.{AddsApplied, AddsNode, Stands, TermsStand}
 use Rattle.smt_terms.proofs.BinderLemmas.{annotated, bang_in, bound_in-fault, bound_in-next, bound_in-twice}
 use Rattle.smt_terms.proofs.BinderLemmas.{fault_of_annotated, fault_of_annotation, fault_of_bindings, let_in, let_of_body}
-use Rattle.smt_terms.proofs.CheckerLemmas.{bang_head, fault_of_args, let_head}
-use Rattle.smt_terms.proofs.CheckerLemmas.{count-trees, sorts_behind-next, sorts_behind-start}
+use Rattle.smt_terms.proofs.CheckerLemmas.{bang_head, fault_of_args, indexed_ok, let_head}
+use Rattle.smt_terms.proofs.CheckerLemmas.{sorts_behind-end, sorts_behind-next, sorts_behind-start}
 use Rattle.smt_terms.proofs.ClosedLemmas.{bound-names, closed}
 use Rattle.smt_terms.proofs.DraftLemmas.{among, annotated_alone, bound_sorts, carried_open, carried_sort}
 use Rattle.smt_terms.proofs.DraftLemmas.{closed_by_labels, closed_within, kept_on, no_labels, open_args}
@@ -32,9 +38,9 @@ use Rattle.smt_terms.proofs.DraftLemmas.{open_kept, open_let, open_whole, opened
 use Rattle.smt_terms.proofs.DraftLemmas.{placed_more, sorts_kept, tells_same}
 use Rattle.smt_terms.proofs.KeptLemmas.{Keeps-unlabelled, kept-sort}
 use Rattle.smt_terms.proofs.LabelLemmas.{AreGivenOf-next, AreGivenOf-none, given_by_args, given_by_indexed}
-use Rattle.smt_terms.proofs.LabelLemmas.{called, names_behind}
+use Rattle.smt_terms.proofs.LabelLemmas.{applied_without_labels, called, names_behind}
 use Rattle.smt_terms.proofs.BinderNodeLemmas.{annotated_stands, labelled_stands, let_stands}
-use Rattle.smt_terms.proofs.NodeLemmas.{call_stands, if_answered, if_both, indexed_stands}
+use Rattle.smt_terms.proofs.NodeLemmas.{call_stands, if_answered, indexed_stands}
 use Rattle.smt_terms.proofs.PartNodeLemmas.{binding_first, no_binding, no_term, none_left, so_far-all, so_far-next}
 use Rattle.smt_terms.proofs.PartNodeLemmas.{so_far-none, term_first}
 use Rattle.smt_terms.proofs.TableLemmas.{grows_given, grows_on, grows_same}
@@ -54,7 +60,7 @@ bound_by-returns-then-contains-clause-bound t c =
 pub bound_by-returns-in_err-checked-clause-bound : goal.bound_by-returns-in_err-checked-clause-bound
 bound_by-returns-in_err-checked-clause-bound t c =
     let p =
-    err_from_is_err_and c.from_residual-in_err-checked.result c.from_residual-in_err-checked.ensures.1 in
+    err_from_is_err_and c.from_residual.result c.from_residual.ensures.1 in
     let x = c.in-Some.name.now in
     let names = names_for c.args.self.now (labels_view c.loop-name.draft.labels) in
     rw (p.1, p.2)
@@ -75,6 +81,13 @@ bound_by-loop-name-preserved t c =
     let term = sexp_of c.in-Some.term.now in
     let x = c.in-Some.name.now in
     let here = names_for c.args.self.now (labels_view c.loop-name.draft.labels) in
+    let d = c.args.draft.now in
+    let last = c.sort_of.new.draft in
+    let arguments = c.push.new.self in
+    let new = record last { arguments = arguments } in
+    let more = since_more d c.loop-name.draft last new c.in_ok-checked.checked.sort c.in_ok-checked.checked.node
+    c.loop-name.invariant.waiting c.in_ok-checked.ensures.waiting c.in_ok-push.ensures.sorts
+    c.in_ok-push.ensures.terms in
     record {
       answer = c.loop-name.invariant.answer
           ∙ bound_in-next here
@@ -95,8 +108,9 @@ bound_by-loop-name-preserved t c =
           (labels_in_bindings (sexps_of c.loop-name.left.now)) (labels_in term)
           (labels_in_bindings (sexps_of c.in-Some.rest.now)) c.loop-name.invariant.given
           (ap labels_in_bindings c.in-Some.ensures) c.in_ok-checked.ensures.labels;
-      kept = kept_on c.args.draft.now c.loop-name.draft c.sort_of.new.draft c.loop-name.invariant.kept
-          c.in_ok-checked.ensures.kept;
+      kept = sees_with d last arguments
+          (kept_on d c.loop-name.draft last c.loop-name.invariant.kept c.in_ok-checked.ensures.kept);
+      waiting = more.2;
       opened = opened_next (are_open_bindings c.args.draft.now (sexps_of c.args.bindings.now))
           c.loop-name.is_open c.in_ok-checked.checked.is_open (is_open c.args.draft.now term)
           (are_open_bindings c.args.draft.now (sexps_of c.in-Some.rest.now))
@@ -110,45 +124,34 @@ bound_by-loop-name-preserved t c =
           ∙ ap (λ vs. map (λ v. v.0) vs) (sym c.in_ok-push_variable.ensures);
       named = sym (ap are_named_trees c.in-Some.ensures) ∙ c.loop-name.invariant.named;
       lighter = omega (arith, ap weight_all c.in-Some.ensures, c.loop-name.invariant.lighter);
-      room = omega (
-        arith,
-        ap count c.in-Some.ensures,
-        c.loop-name.invariant.room,
-        ap length
-            c.push_reserved.ensures.items,
-        c.push_reserved.ensures.capacity,
-        length-append
-            c.loop-name.nodes.items (c.in_ok-checked.checked.node ∷ []),
-      );
-      stand = so_far-next AreBound c.args.self.now c.args.draft.now c.loop-name.draft c.sort_of.new.draft
+      stand = so_far_with AreBound c.args.self.now d last arguments (sexps_of c.args.bindings.now)
+          (sexps_of c.in-Some.rest.now) (terms_since d new) (c.loop-name.is_open || c.in_ok-checked.checked.is_open)
+          (so_far-next AreBound c.args.self.now d c.loop-name.draft last
           (sexps_of c.args.bindings.now) (sexps_of c.loop-name.left.now) (sexps_of c.in-Some.rest.now)
-          c.loop-name.nodes.items c.push_reserved.new.self.items c.loop-name.is_open term c.in_ok-checked.checked
+          (terms_since d c.loop-name.draft) (terms_since d new) c.loop-name.is_open term c.in_ok-checked.checked
           c.loop-name.invariant.stand c.loop-name.invariant.kept
           (binding_first x term (sexps_of c.loop-name.left.now) (sexps_of c.in-Some.rest.now) c.in-Some.ensures)
-          c.sort_of.ensures.longer c.in_ok-checked.ensures.node c.push_reserved.ensures.items;
+          c.sort_of.ensures.longer c.in_ok-checked.ensures.node more.1);
     }
 
 pub bound_by-loop-name-init : goal.bound_by-loop-name-init
 bound_by-loop-name-init t c =
     let bindings = sexps_of c.args.bindings.now in
-    let none = c.in_ok-reserve.ensures.items ∙ c.new-nodes.ensures.items in
+    let none = since_none c.args.draft.now in
     record {
       answer = ap (λ vs. bound_in (names_for c.args.self.now (labels_view c.args.draft.now.labels))
           (sorts_seen c.args.draft.now) (scope_view vs) bindings) (sym c.new-bound.ensures.items);
       given = AreGivenOf-none (names_of_library c.args.self.now) c.args.draft.now.labels
           (labels_in_bindings bindings);
       kept = record { variables = refl; base = refl };
+      waiting = none.2;
       opened = refl;
       names = c.new-names.ensures ∙ ap (λ vs. map (λ v. v.0) (scope_view vs)) (sym c.new-bound.ensures.items);
       named = c.requires.named;
       lighter = omega arith;
-      room = omega (arith, c.in_ok-reserve.ensures.ok, count-trees c.args.bindings.now);
-      stand = so_far-none AreBound c.args.self.now c.args.draft.now bindings c.reserve.new.self.items none;
+      stand = so_far-none AreBound c.args.self.now c.args.draft.now bindings
+          (terms_since c.args.draft.now c.args.draft.now) none.1;
     }
-
-pub bound_by-push_reserved-requires : goal.bound_by-push_reserved-requires
-bound_by-push_reserved-requires t c =
-    (omega arith, omega (arith, ap count c.in-Some.ensures, c.loop-name.invariant.room))
 
 pub bound_by-returns-in_err-checked-clause-longer : goal.bound_by-returns-in_err-checked-clause-longer
 bound_by-returns-in_err-checked-clause-longer t c =
@@ -166,12 +169,27 @@ bound_by-returns-in_err-push_variable-clause-longer t c =
     grows_on c.args.draft.now c.loop-name.draft c.sort_of.new.draft c.loop-name.invariant.stand.longer
     c.sort_of.ensures.longer
 
+pub bound_by-returns-in_err-push-clause-longer : goal.bound_by-returns-in_err-push-clause-longer
+bound_by-returns-in_err-push-clause-longer t c =
+    grows_on c.args.draft.now c.loop-name.draft c.sort_of.new.draft c.loop-name.invariant.stand.longer
+    c.sort_of.ensures.longer
+
+pub bound_by-returns-clause-sorts : goal.bound_by-returns-clause-sorts
+bound_by-returns-clause-sorts t c =
+    (sorts_since c.args.draft.now c.loop-name.draft, c.loop-name.invariant.waiting.sorts)
+
 pub bound_by-returns-clause-nodes : goal.bound_by-returns-clause-nodes
 bound_by-returns-clause-nodes t c =
-    so_far-all AreBound c.args.self.now c.args.draft.now c.loop-name.draft (sexps_of c.args.bindings.now)
-    (sexps_of c.loop-name.left.now) c.loop-name.nodes.items c.loop-name.is_open
-    (no_binding (sexps_of c.loop-name.left.now)
-    (none_left (sexps_of c.loop-name.left.now) c.loop-name.invariant.named c.in_default.ensures)) c.loop-name.invariant.stand
+    let d = c.args.draft.now in
+    let mid = c.loop-name.draft in (
+      terms_since d mid,
+      c.loop-name.invariant.waiting.terms,
+      so_far-all AreBound c.args.self.now d mid (sexps_of c.args.bindings.now)
+          (sexps_of c.loop-name.left.now) (terms_since d mid) c.loop-name.is_open
+          (no_binding (sexps_of c.loop-name.left.now)
+          (none_left (sexps_of c.loop-name.left.now) c.loop-name.invariant.named c.in_default.ensures))
+          c.loop-name.invariant.stand,
+    )
 
 pub sort_of_annotated-returns-then-has_label-clause-sort :
     goal.sort_of_annotated-returns-then-has_label-clause-sort
@@ -367,10 +385,10 @@ sort_of_let-sort_of-requires t c =
           (placed_kept c.args.draft.now mid c.in_ok-bound.ensures.kept c.requires) c.in_ok-bind.ensures.bound),
     )
 
-pub sort_of_let-returns-in_err-checked-clause-sort : goal.sort_of_let-returns-in_err-checked-clause-sort
-sort_of_let-returns-in_err-checked-clause-sort t c =
+pub sort_of_let-returns-in_err-inner-clause-sort : goal.sort_of_let-returns-in_err-inner-clause-sort
+sort_of_let-returns-in_err-inner-clause-sort t c =
     let p =
-    err_from_is_err_and c.from_residual-in_err-checked.result c.from_residual-in_err-checked.ensures.1 in
+    err_from_is_err_and c.from_residual-in_err-inner.result c.from_residual-in_err-inner.ensures.1 in
     let names = names_for c.args.self.now (labels_view c.args.draft.now.labels) in
     let mid = c.bound_by.new.draft in
     let inner = c.bind.new.self in
@@ -387,7 +405,7 @@ sort_of_let-returns-in_err-checked-clause-sort t c =
     (c.in_ok-bound.ensures.bound ∙ ap (λ vs. Ok (scope_view vs)) (sym c.as_slice.ensures.value))
     (bound_sorts (length (seen_by mid)) bound (sorts_seen c.args.draft.now) (seen_by mid) (seen_by inner)
     c.in_ok-bind.ensures.bound (sorts_kept c.args.draft.now mid c.in_ok-bound.ensures.kept)))
-    c.in_err-checked.ensures.sort)
+    c.in_err-inner.ensures.sort)
 
 pub sort_of_let-returns-clause-sort : goal.sort_of_let-returns-clause-sort
 sort_of_let-returns-clause-sort t c =
@@ -405,20 +423,38 @@ sort_of_let-returns-clause-sort t c =
     (c.in_ok-bound.ensures.bound ∙ ap (λ vs. Ok (scope_view vs)) (sym c.as_slice.ensures.value))
     (bound_sorts (length (seen_by mid)) bound (sorts_seen c.args.draft.now) (seen_by mid) (seen_by inner)
     c.in_ok-bind.ensures.bound (sorts_kept c.args.draft.now mid c.in_ok-bound.ensures.kept))
-    ∙ c.in_ok-checked.ensures.sort ∙ ap (λ s. Ok s) (sym c.in_ok-push.ensures.sort)
+    ∙ c.in_ok-inner.ensures.sort ∙ ap (λ s. Ok s) (sym c.in_ok-checked.ensures.sort)
 
 pub sort_of_let-returns-clause-open : goal.sort_of_let-returns-clause-open
 sort_of_let-returns-clause-open t c =
     let names = names_for c.args.self.now (labels_view c.args.draft.now.labels) in
     let bindings = sexps_of c.in-Some.bindings.now in
     let bound = scope_view c.as_slice.result.now in
-    c.in_ok-push.ensures.open
+    c.in_ok-checked.ensures.open
     ∙ open_let c.args.draft.now c.bound_by.new.draft c.bind.new.self bindings (sexps_of c.args.args.now)
-    (sexp_of c.in-Some.body.now) bound c.in_ok-bound.is_open c.in_ok-checked.checked.is_open
+    (sexp_of c.in-Some.body.now) bound c.in_ok-bound.is_open c.in_ok-inner.inner.is_open
     c.in_ok-bound.ensures.kept c.requires.within c.in_ok-bind.ensures.bound c.bind.ensures.base
     (bound-names names (sorts_seen c.args.draft.now) [] bindings bound
     (c.in_ok-bound.ensures.bound ∙ ap (λ vs. Ok (scope_view vs)) (sym c.as_slice.ensures.value)))
-    c.in-Some.ensures c.in_ok-bound.ensures.open c.in_ok-checked.ensures.open
+    c.in-Some.ensures c.in_ok-bound.ensures.open c.in_ok-inner.ensures.open
+
+pub sort_of_let-push_let-requires : goal.sort_of_let-push_let-requires
+sort_of_let-push_let-requires t c =
+    let d = c.args.draft.now in
+    let last = c.sort_of.new.draft in
+    since_within d last c.len-start.result c.in_ok-bound.ensures.sorts.0 c.len-start.ensures
+    (c.in_ok-inner.ensures.waiting.sorts ∙ ap argument_sorts c.bind.ensures.arguments ∙ c.in_ok-bound.ensures.sorts.1)
+
+pub sort_of_let-returns-clause-waiting : goal.sort_of_let-returns-clause-waiting
+sort_of_let-returns-clause-waiting t c =
+    let same = c.in_ok-checked.ensures.arguments in
+    let start = c.len-start.result in
+    taken_away c.args.draft.now c.sort_of.new.draft (record c.push_let.new.self { arguments = c.truncate.new.self })
+    start c.in_ok-bound.ensures.sorts.0 c.in_ok-bound.ensures.nodes.0 c.len-start.ensures
+    (c.in_ok-inner.ensures.waiting.sorts ∙ ap argument_sorts c.bind.ensures.arguments ∙ c.in_ok-bound.ensures.sorts.1)
+    (c.in_ok-inner.ensures.waiting.terms ∙ ap argument_terms c.bind.ensures.arguments ∙ c.in_ok-bound.ensures.nodes.1)
+    (c.truncate.ensures.sorts ∙ ap (λ a. take start (argument_sorts a)) same)
+    (c.truncate.ensures.terms ∙ ap (λ a. take start (argument_terms a)) same)
 
 pub sort_of_let-returns-clause-node : goal.sort_of_let-returns-clause-node
 sort_of_let-returns-clause-node t c =
@@ -428,17 +464,23 @@ sort_of_let-returns-clause-node t c =
     let cut = record last { scope = c.cut.new.self } in
     let bindings = sexps_of c.in-Some.bindings.now in
     let bound = scope_view c.as_slice.result.now in
-    let_stands c.args.self.now d c.bound_by.new.draft c.bind.new.self last cut c.push.new.self
-    (sexps_of c.args.args.now) bindings (sexp_of c.in-Some.body.now) bound c.in_ok-bound.values.items
-    c.in_ok-bound.is_open c.in_ok-checked.checked _ c.in-Some.ensures c.in_ok-bound.ensures.kept
+    let nodes = c.in_ok-bound.ensures.nodes in
+    stands_with c.args.self.now d c.push_let.new.self c.truncate.new.self
+    (Items (Cons (Reserved Let) (sexps_of c.args.args.now))) c.in_ok-checked.checked
+    (let_stands c.args.self.now d c.bound_by.new.draft c.bind.new.self last cut c.push_let.new.self
+    (sexps_of c.args.args.now) bindings (sexp_of c.in-Some.body.now) bound nodes.0
+    c.in_ok-bound.is_open c.in_ok-inner.inner _ c.in-Some.ensures c.in_ok-bound.ensures.kept
     c.requires.within c.in_ok-bind.ensures.bound c.bind.ensures.base c.bind.ensures.labels c.bind.ensures.nodes
     (bound-names names (sorts_seen d) [] bindings bound
     (c.in_ok-bound.ensures.bound ∙ ap (λ vs. Ok (scope_view vs)) (sym c.as_slice.ensures.value)))
-    c.bound_by.ensures.longer c.in_ok-bound.ensures.nodes c.sort_of.ensures.longer c.in_ok-checked.ensures.node
-    refl refl c.push.ensures.longer
-    (subst (λ js. AddsNode c.args.self.now.nodes cut c.push.new.self (node.Let js c.in_ok-checked.checked.node) c.in_ok-push.field-0)
-    c.as_slice-2.ensures c.in_ok-push.ensures.added)
-    c.in_ok-push.ensures.open
+    c.bound_by.ensures.longer nodes.2 c.sort_of.ensures.longer c.in_ok-inner.ensures.node
+    refl refl c.push_let.ensures.longer
+    (subst (λ js. AddsNode c.args.self.now.nodes cut c.push_let.new.self (node.Let js c.in_ok-inner.inner.node)
+    c.in_ok-checked.checked)
+    (terms_start d last c.len-start.result nodes.0 c.len-start.ensures
+    (c.in_ok-inner.ensures.waiting.terms ∙ ap argument_terms c.bind.ensures.arguments ∙ nodes.1))
+    c.in_ok-checked.ensures.added)
+    c.in_ok-checked.ensures.open)
 
 pub sort_of_let-returns-in_err-bind-clause-longer : goal.sort_of_let-returns-in_err-bind-clause-longer
 sort_of_let-returns-in_err-bind-clause-longer t c =
@@ -447,35 +489,35 @@ sort_of_let-returns-in_err-bind-clause-longer t c =
     grows_on c.args.draft.now mid inner c.bound_by.ensures.longer
     (grows_same mid inner c.bind.ensures.labels c.bind.ensures.nodes)
 
-pub sort_of_let-returns-in_err-checked-clause-longer : goal.sort_of_let-returns-in_err-checked-clause-longer
-sort_of_let-returns-in_err-checked-clause-longer t c =
+pub sort_of_let-returns-in_err-inner-clause-longer : goal.sort_of_let-returns-in_err-inner-clause-longer
+sort_of_let-returns-in_err-inner-clause-longer t c =
     let mid = c.bound_by.new.draft in
     let inner = c.bind.new.self in
     grows_on c.args.draft.now inner c.sort_of.new.draft
     (grows_on c.args.draft.now mid inner c.bound_by.ensures.longer
     (grows_same mid inner c.bind.ensures.labels c.bind.ensures.nodes)) c.sort_of.ensures.longer
 
-pub sort_of_let-returns-in_err-push-clause-longer : goal.sort_of_let-returns-in_err-push-clause-longer
-sort_of_let-returns-in_err-push-clause-longer t c =
+pub sort_of_let-returns-in_err-checked-clause-longer : goal.sort_of_let-returns-in_err-checked-clause-longer
+sort_of_let-returns-in_err-checked-clause-longer t c =
     let mid = c.bound_by.new.draft in
     let inner = c.bind.new.self in
     let last = c.sort_of.new.draft in
-    grows_on c.args.draft.now last c.push.new.self
+    grows_on c.args.draft.now last c.push_let.new.self
     (grows_on c.args.draft.now inner last
     (grows_on c.args.draft.now mid inner c.bound_by.ensures.longer
     (grows_same mid inner c.bind.ensures.labels c.bind.ensures.nodes)) c.sort_of.ensures.longer)
-    c.push.ensures.longer
+    c.push_let.ensures.longer
 
 pub sort_of_let-returns-clause-longer : goal.sort_of_let-returns-clause-longer
 sort_of_let-returns-clause-longer t c =
     let mid = c.bound_by.new.draft in
     let inner = c.bind.new.self in
     let last = c.sort_of.new.draft in
-    grows_on c.args.draft.now last c.push.new.self
+    grows_on c.args.draft.now last c.push_let.new.self
     (grows_on c.args.draft.now inner last
     (grows_on c.args.draft.now mid inner c.bound_by.ensures.longer
     (grows_same mid inner c.bind.ensures.labels c.bind.ensures.nodes)) c.sort_of.ensures.longer)
-    c.push.ensures.longer
+    c.push_let.ensures.longer
 
 -- ---- lists
 
@@ -513,9 +555,9 @@ sort_of_list-returns-then-is_bang-clause-open t c =
     (sym c.as_slice.ensures ∙ c.in-Some.ensures ∙ ap (λ h. Cons h (sexps_of c.in-Some.args.now))
     (bang_head (sexp_of c.in-Some.head.now) (sym c.if-is_bang.ensures)))) c.sort_of_annotated.ensures.open
 
-pub sort_of_list-returns-in_err-sorts-clause-sort : goal.sort_of_list-returns-in_err-sorts-clause-sort
-sort_of_list-returns-in_err-sorts-clause-sort t c =
-    let p = err_from_is_err_and c.from_residual-in_err-sorts.result c.from_residual-in_err-sorts.ensures.1 in
+pub sort_of_list-returns-in_err-is_open-clause-sort : goal.sort_of_list-returns-in_err-is_open-clause-sort
+sort_of_list-returns-in_err-is_open-clause-sort t c =
+    let p = err_from_is_err_and c.from_residual-in_err-is_open.result c.from_residual-in_err-is_open.ensures.1 in
     rw (p.1, p.2)
     (fault_of_args (names_for c.args.self.now (labels_view c.args.draft.now.labels))
     (sorts_seen c.args.draft.now)
@@ -526,7 +568,24 @@ sort_of_list-returns-in_err-sorts-clause-sort t c =
       no_index = sym c.if-is_underscore.ensures;
       no_let = sym c.if-is_let.ensures;
       no_bang = sym c.if-is_bang.ensures;
-    }) c.in_ok-identifier-2.ensures c.in_err-sorts.ensures.sorts)
+    }) c.in_ok-identifier-2.ensures c.in_err-is_open.ensures.sorts)
+
+pub sort_of_list-returns-then-is_underscore-clause-sort :
+    goal.sort_of_list-returns-then-is_underscore-clause-sort
+sort_of_list-returns-then-is_underscore-clause-sort t c =
+    let d = c.args.draft.now in
+    let f = identifier_view c.in_ok-identifier.identifier in
+    let start = c.len-start.result in
+    let names = names_for c.args.self.now (labels_view d.labels) in
+    carried_sort c.sort_applied.result
+    (sort_applied (names_of_library c.args.self.now) f (sorts_from start d.arguments))
+    (sort_in names (sorts_seen d) (Items c.args.parts.now))
+    (indexed_ok names (sorts_seen d) (sexp_of c.in-Some.head.now) (sexps_of c.in-Some.args.now) c.args.parts.now f
+    (sym c.as_slice.ensures ∙ c.in-Some.ensures) (sym c.if-is_underscore.ensures) c.in_ok-identifier.ensures
+    ∙ applied_without_labels c.args.self.now (labels_view d.labels) f []
+    ∙ ap (λ ss. sort_applied (names_of_library c.args.self.now) f ss)
+    (sym (no_sorts d start c.len-start.ensures)))
+    c.sort_applied.ensures.sort
 
 pub sort_of_list-returns-then-is_underscore-clause-labels :
     goal.sort_of_list-returns-then-is_underscore-clause-labels
@@ -539,51 +598,86 @@ pub sort_of_list-returns-then-is_underscore-clause-node :
     goal.sort_of_list-returns-then-is_underscore-clause-node
 sort_of_list-returns-then-is_underscore-clause-node t c =
     let d = c.args.draft.now in
+    let new = c.sort_applied.new.draft in
     let f = identifier_view c.in_ok-identifier.identifier in
-    if_answered c.sort_applied.result (AddsApplied c.args.self.now d c.sort_applied.new.draft f [] [])
-    (Stands c.args.self.now d c.sort_applied.new.draft (Items c.args.parts.now))
-    (λ found. indexed_stands c.args.self.now d c.sort_applied.new.draft (sexp_of c.in-Some.head.now)
+    let start = c.len-start.result in
+    if_answered c.sort_applied.result
+    (AddsApplied c.args.self.now d new f (sorts_from start d.arguments) (terms_from start d.arguments))
+    (Stands c.args.self.now d new (Items c.args.parts.now))
+    (λ found adds. indexed_stands c.args.self.now d new (sexp_of c.in-Some.head.now)
     (sexps_of c.in-Some.args.now) c.args.parts.now f found (sym c.as_slice.ensures ∙ c.in-Some.ensures)
-    (sym c.if-is_underscore.ensures) c.in_ok-identifier.ensures c.sort_applied.ensures.longer)
+    (sym c.if-is_underscore.ensures) c.in_ok-identifier.ensures c.sort_applied.ensures.longer
+    (applied_alone c.args.self.now d new f start c.len-start.ensures found adds))
     c.sort_applied.ensures.added
 
-pub sort_of_list-returns-clause-sort : goal.sort_of_list-returns-clause-sort
-sort_of_list-returns-clause-sort t c =
+-- what a list applies, and where its arguments are
+pub sort_of_list-sort_of_call-requires : goal.sort_of_list-sort_of_call-requires
+sort_of_list-sort_of_call-requires t c =
+    since_within c.args.draft.now c.sorts_of.new.draft c.len-start-2.result c.in_ok-is_open.ensures.sorts.0
+    c.len-start-2.ensures c.in_ok-is_open.ensures.sorts.2
+
+pub sort_of_list-returns-in_err-checked-clause-sort : goal.sort_of_list-returns-in_err-checked-clause-sort
+sort_of_list-returns-in_err-checked-clause-sort t c =
+    let p = err_from_is_err_and c.from_residual-in_err-checked.result c.from_residual-in_err-checked.ensures.1 in
     let d = c.args.draft.now in
+    let mid = c.sorts_of.new.draft in
+    let start = c.len-start-2.result in
+    let found = c.in_ok-is_open.ensures.sorts in
     let call : List (List ℕ × Sort) → Result Sort TermFlaw = λ vs. sort_of_call (names_of_library c.args.self.now) vs
-    (identifier_view c.in_ok-identifier-2.identifier) c.as_slice-2.result.now in
-    carried_sort c.sort_of_call.result (call (sorts_seen c.sorts_of.new.draft)) _
-    (called c.args.self.now (labels_view d.labels) (sorts_seen d)
+    (identifier_view c.in_ok-identifier-2.identifier) (sorts_from start mid.arguments) in
+    rw (p.1, p.2)
+    (tells_same _ _ _ (called c.args.self.now (labels_view d.labels) (sorts_seen d)
     (sexp_of c.in-Some.head.now) (sexps_of c.in-Some.args.now) c.args.parts.now
-    (identifier_view c.in_ok-identifier-2.identifier) c.in_ok-sorts.sorts.items c.as_slice-2.result.now
-    (call (sorts_seen c.sorts_of.new.draft)) (sym c.as_slice.ensures ∙ c.in-Some.ensures)
+    (identifier_view c.in_ok-identifier-2.identifier) found.0 (sorts_from start mid.arguments)
+    (call (sorts_seen mid)) (sym c.as_slice.ensures ∙ c.in-Some.ensures)
     (record {
       no_index = sym c.if-is_underscore.ensures;
       no_let = sym c.if-is_let.ensures;
       no_bang = sym c.if-is_bang.ensures;
-    }) c.in_ok-identifier-2.ensures c.in_ok-sorts.ensures.sorts c.as_slice-2.ensures
-    (ap call (sorts_kept d c.sorts_of.new.draft c.in_ok-sorts.ensures.kept))) c.sort_of_call.ensures.sort
+    }) c.in_ok-identifier-2.ensures found.1 (sorts_start d mid start found.0 c.len-start-2.ensures found.2)
+    (ap call (sorts_kept d mid c.in_ok-is_open.ensures.kept))) c.in_err-checked.ensures.sort)
+
+pub sort_of_list-returns-clause-sort : goal.sort_of_list-returns-clause-sort
+sort_of_list-returns-clause-sort t c =
+    let d = c.args.draft.now in
+    let mid = c.sorts_of.new.draft in
+    let start = c.len-start-2.result in
+    let found = c.in_ok-is_open.ensures.sorts in
+    let call : List (List ℕ × Sort) → Result Sort TermFlaw = λ vs. sort_of_call (names_of_library c.args.self.now) vs
+    (identifier_view c.in_ok-identifier-2.identifier) (sorts_from start mid.arguments) in
+    called c.args.self.now (labels_view d.labels) (sorts_seen d)
+    (sexp_of c.in-Some.head.now) (sexps_of c.in-Some.args.now) c.args.parts.now
+    (identifier_view c.in_ok-identifier-2.identifier) found.0 (sorts_from start mid.arguments)
+    (call (sorts_seen mid)) (sym c.as_slice.ensures ∙ c.in-Some.ensures)
+    (record {
+      no_index = sym c.if-is_underscore.ensures;
+      no_let = sym c.if-is_let.ensures;
+      no_bang = sym c.if-is_bang.ensures;
+    }) c.in_ok-identifier-2.ensures found.1 (sorts_start d mid start found.0 c.len-start-2.ensures found.2)
+    (ap call (sorts_kept d mid c.in_ok-is_open.ensures.kept))
+    ∙ c.in_ok-checked.ensures.sort
 
 pub sort_of_list-returns-clause-labels : goal.sort_of_list-returns-clause-labels
 sort_of_list-returns-clause-labels t c =
-    given_by_args c.sort_of_call.result (names_of_library c.args.self.now) c.args.draft.now.labels
+    let names = names_of_library c.args.self.now in
+    let d = c.args.draft.now in
+    given_by_args {E = TermFault} (Ok c.in_ok-checked.checked) names d.labels
     c.sort_of_call.new.draft.labels (sexp_of c.in-Some.head.now) (sexps_of c.in-Some.args.now) c.args.parts.now
     (sym c.as_slice.ensures ∙ c.in-Some.ensures) (sym c.if-is_underscore.ensures) (sym c.if-is_let.ensures)
     (sym c.if-is_bang.ensures)
-    (subst (λ ls. AreGiven (names_of_library c.args.self.now) c.args.draft.now.labels ls
-    (labels_in_all (sexps_of c.in-Some.args.now))) (sym c.sort_of_call.ensures.labels)
-    c.in_ok-sorts.ensures.labels)
+    (subst (λ ls. AreGiven names d.labels ls (labels_in_all (sexps_of c.in-Some.args.now)))
+    (sym c.in_ok-checked.ensures.labels) c.in_ok-is_open.ensures.labels)
 
 pub sort_of_list-returns-clause-open : goal.sort_of_list-returns-clause-open
 sort_of_list-returns-clause-open t c =
-    carried_open c.sort_of_call.result c.in_ok-sorts.is_open (is_open c.args.draft.now (Items c.args.parts.now))
-    (open_args c.args.draft.now (sexp_of c.in-Some.head.now) (sexps_of c.in-Some.args.now)
+    c.in_ok-checked.ensures.open ∙ c.in_ok-is_open.ensures.open
+    ∙ sym (open_args c.args.draft.now (sexp_of c.in-Some.head.now) (sexps_of c.in-Some.args.now)
     c.args.parts.now (sym c.as_slice.ensures ∙ c.in-Some.ensures)
     (record {
       no_index = sym c.if-is_underscore.ensures;
       no_let = sym c.if-is_let.ensures;
       no_bang = sym c.if-is_bang.ensures;
-    }) ∙ sym c.in_ok-sorts.ensures.open) c.sort_of_call.ensures.open
+    }))
 
 pub sort_of_list-returns-clause-node : goal.sort_of_list-returns-clause-node
 sort_of_list-returns-clause-node t c =
@@ -592,26 +686,52 @@ sort_of_list-returns-clause-node t c =
     let new = c.sort_of_call.new.draft in
     let f = identifier_view c.in_ok-identifier-2.identifier in
     let args = sexps_of c.in-Some.args.now in
-    if_both c.sort_of_call.result (λ found. found.is_open ≡ c.in_ok-sorts.is_open)
-    (AddsApplied c.args.self.now mid new f c.as_slice-2.result.now c.as_slice-3.result.now)
-    (Stands c.args.self.now d new (Items c.args.parts.now))
-    (λ found opened adds. call_stands c.args.self.now d mid new (sexp_of c.in-Some.head.now) args
-    c.args.parts.now f c.as_slice-2.result.now c.as_slice-3.result.now c.in_ok-sorts.is_open found
+    let start = c.len-start-2.result in
+    let nodes = c.in_ok-is_open.ensures.nodes in
+    let sorts = c.in_ok-is_open.ensures.sorts in
+    let is_open = c.in_ok-is_open.is_open in
+    let checked = c.in_ok-checked.checked in
+    stands_with c.args.self.now d new c.truncate.new.self (Items c.args.parts.now) checked
+    (call_stands c.args.self.now d mid new (sexp_of c.in-Some.head.now) args
+    c.args.parts.now f (sorts_from start mid.arguments) (terms_from start mid.arguments) is_open checked
     (sym c.as_slice.ensures ∙ c.in-Some.ensures)
     (record {
       no_index = sym c.if-is_underscore.ensures;
       no_let = sym c.if-is_let.ensures;
       no_bang = sym c.if-is_bang.ensures;
-    }) c.in_ok-identifier-2.ensures opened c.sorts_of.ensures.longer
-    (subst (λ js. TermsStand c.args.self.now d mid args js c.in_ok-sorts.is_open) (sym c.as_slice-3.ensures)
-    c.in_ok-sorts.ensures.nodes)
-    (ap length c.as_slice-3.ensures ∙ c.in_ok-sorts.ensures.counted ∙ sym (ap length c.as_slice-2.ensures))
-    c.sort_of_call.ensures.longer adds) c.sort_of_call.ensures.open c.sort_of_call.ensures.added
+    }) c.in_ok-identifier-2.ensures c.in_ok-checked.ensures.open c.sorts_of.ensures.longer
+    (subst (λ js. TermsStand c.args.self.now d mid args js is_open)
+    (sym (terms_start d mid start nodes.0 c.len-start-2.ensures nodes.1)) nodes.2)
+    (start_counted mid start) c.sort_of_call.ensures.longer c.in_ok-checked.ensures.added)
+
+pub sort_of_list-returns-in_err-checked-clause-longer : goal.sort_of_list-returns-in_err-checked-clause-longer
+sort_of_list-returns-in_err-checked-clause-longer t c =
+    grows_on c.args.draft.now c.sorts_of.new.draft c.sort_of_call.new.draft c.sorts_of.ensures.longer
+    c.sort_of_call.ensures.longer
 
 pub sort_of_list-returns-clause-longer : goal.sort_of_list-returns-clause-longer
 sort_of_list-returns-clause-longer t c =
     grows_on c.args.draft.now c.sorts_of.new.draft c.sort_of_call.new.draft c.sorts_of.ensures.longer
     c.sort_of_call.ensures.longer
+
+pub sort_of_list-returns-clause-kept : goal.sort_of_list-returns-clause-kept
+sort_of_list-returns-clause-kept t c =
+    let mid = c.sorts_of.new.draft in
+    let new = c.sort_of_call.new.draft in
+    sees_with c.args.draft.now new c.truncate.new.self
+    (kept_on c.args.draft.now mid new c.in_ok-is_open.ensures.kept
+    (record { variables = ap scope_of c.in_ok-checked.ensures.scope; base = c.in_ok-checked.ensures.base }))
+
+pub sort_of_list-returns-clause-waiting : goal.sort_of_list-returns-clause-waiting
+sort_of_list-returns-clause-waiting t c =
+    let d = c.args.draft.now in
+    let mid = c.sorts_of.new.draft in
+    let same = c.in_ok-checked.ensures.arguments in
+    taken_away d mid (record c.sort_of_call.new.draft { arguments = c.truncate.new.self }) c.len-start-2.result
+    c.in_ok-is_open.ensures.sorts.0 c.in_ok-is_open.ensures.nodes.0
+    c.len-start-2.ensures c.in_ok-is_open.ensures.sorts.2 c.in_ok-is_open.ensures.nodes.1
+    (c.truncate.ensures.sorts ∙ ap (λ a. take c.len-start-2.result (argument_sorts a)) same)
+    (c.truncate.ensures.terms ∙ ap (λ a. take c.len-start-2.result (argument_terms a)) same)
 
 -- ---- arguments
 
@@ -625,96 +745,91 @@ pub sorts_of-loop-term-preserved : goal.sorts_of-loop-term-preserved
 sorts_of-loop-term-preserved t c =
     let names = names_of_library c.args.self.now in
     let d = c.args.draft.now in
-    let here = names_for c.args.self.now (labels_view c.loop-term.draft.labels) in
+    let mid = c.loop-term.draft in
+    let last = c.sort_of.new.draft in
+    let arguments = c.push.new.self in
+    let new = record last { arguments = arguments } in
+    let here = names_for c.args.self.now (labels_view mid.labels) in
     let term = sexp_of c.in-Some.term.now in
+    let checked = c.in_ok-checked.checked in
+    let more = since_more d mid last new checked.sort checked.node c.loop-term.invariant.waiting
+    c.in_ok-checked.ensures.waiting c.in_ok-push.ensures.sorts c.in_ok-push.ensures.terms in
     record {
       answer = c.loop-term.invariant.answer
-          ∙ sorts_behind-next here
-          (names_for c.args.self.now (labels_view c.sort_of.new.draft.labels))
-          (sorts_seen d) c.loop-term.sorts.items c.push_reserved.new.self.items term
-          (sexps_of c.in-Some.rest.now) (sexps_of c.loop-term.left.now) c.in_ok-checked.checked.sort
-          (names_behind c.args.self.now names c.loop-term.draft.labels c.sort_of.new.draft.labels
+          ∙ sorts_behind-next here (names_for c.args.self.now (labels_view last.labels))
+          (sorts_seen d) (sorts_since d mid) (sorts_since d new) term
+          (sexps_of c.in-Some.rest.now) (sexps_of c.loop-term.left.now) checked.sort
+          (names_behind c.args.self.now names mid.labels last.labels
           (labels_in term) c.in_ok-checked.ensures.labels) c.in-Some.ensures
-          (ap (λ vs. sort_in here vs term) (sym (sorts_kept d c.loop-term.draft c.loop-term.invariant.kept))
-          ∙ c.in_ok-checked.ensures.sort)
-          c.push_reserved.ensures.items;
-      given = AreGivenOf-next names d.labels c.loop-term.draft.labels c.sort_of.new.draft.labels
+          (ap (λ vs. sort_in here vs term) (sym (sorts_kept d mid c.loop-term.invariant.kept))
+          ∙ c.in_ok-checked.ensures.sort) more.0;
+      given = AreGivenOf-next names d.labels mid.labels last.labels
           (labels_in_all (sexps_of c.args.terms.now)) (labels_in_all (sexps_of c.loop-term.left.now))
           (labels_in term) (labels_in_all (sexps_of c.in-Some.rest.now))
           c.loop-term.invariant.given (ap labels_in_all c.in-Some.ensures) c.in_ok-checked.ensures.labels;
-      kept = kept_on d c.loop-term.draft c.sort_of.new.draft c.loop-term.invariant.kept
-          c.in_ok-checked.ensures.kept;
+      kept = sees_with d last arguments
+          (kept_on d mid last c.loop-term.invariant.kept c.in_ok-checked.ensures.kept);
       opened = opened_next (are_open d (sexps_of c.args.terms.now)) c.loop-term.is_open
-          c.in_ok-checked.checked.is_open (is_open d term) (are_open d (sexps_of c.in-Some.rest.now))
+          checked.is_open (is_open d term) (are_open d (sexps_of c.in-Some.rest.now))
           (are_open d (sexps_of c.loop-term.left.now)) c.loop-term.invariant.opened
           (ap (are_open d) c.in-Some.ensures)
-          (c.in_ok-checked.ensures.open ∙ open_kept d c.loop-term.draft c.loop-term.invariant.kept term);
+          (c.in_ok-checked.ensures.open ∙ open_kept d mid c.loop-term.invariant.kept term);
       lighter = omega (arith, ap weight_all c.in-Some.ensures, c.loop-term.invariant.lighter);
-      room = omega (
-        arith,
-        ap count c.in-Some.ensures,
-        c.loop-term.invariant.room,
-        ap length
-            c.push_reserved.ensures.items,
-        c.push_reserved.ensures.capacity,
-        length-append
-            c.loop-term.sorts.items (c.in_ok-checked.checked.sort ∷ []),
-      );
-      nodes_room = omega (
-        arith,
-        ap count c.in-Some.ensures,
-        c.loop-term.invariant.nodes_room,
-        ap length
-            c.push_reserved-in-Some.ensures.items,
-        c.push_reserved-in-Some.ensures.capacity,
-        length-append
-            c.loop-term.nodes.items (c.in_ok-checked.checked.node ∷ []),
-      );
-      counted = omega (
-        arith,
-        c.loop-term.invariant.counted,
-        ap length c.push_reserved.ensures.items,
-        ap length c.push_reserved-in-Some.ensures.items,
-        length-append c.loop-term.sorts.items (c.in_ok-checked.checked.sort ∷ []),
-        length-append c.loop-term.nodes.items (c.in_ok-checked.checked.node ∷ []),
-      );
-      stand = so_far-next AreDenoted c.args.self.now d c.loop-term.draft c.sort_of.new.draft
+      waiting = more.2;
+      stand = so_far_with AreDenoted c.args.self.now d last arguments (sexps_of c.args.terms.now)
+          (sexps_of c.in-Some.rest.now) (terms_since d new) (c.loop-term.is_open || checked.is_open)
+          (so_far-next AreDenoted c.args.self.now d mid last
           (sexps_of c.args.terms.now) (sexps_of c.loop-term.left.now) (sexps_of c.in-Some.rest.now)
-          c.loop-term.nodes.items c.push_reserved-in-Some.new.self.items c.loop-term.is_open term
-          c.in_ok-checked.checked c.loop-term.invariant.stand c.loop-term.invariant.kept
+          (terms_since d mid) (terms_since d new) c.loop-term.is_open term
+          checked c.loop-term.invariant.stand c.loop-term.invariant.kept
           (term_first term (sexps_of c.loop-term.left.now) (sexps_of c.in-Some.rest.now) c.in-Some.ensures)
-          c.sort_of.ensures.longer c.in_ok-checked.ensures.node c.push_reserved-in-Some.ensures.items;
+          c.sort_of.ensures.longer c.in_ok-checked.ensures.node more.1);
     }
 
 pub sorts_of-loop-term-init : goal.sorts_of-loop-term-init
 sorts_of-loop-term-init t c =
     let terms = sexps_of c.args.terms.now in
-    let none = c.in_ok-reserve.ensures.items ∙ c.new-sorts.ensures.items in
+    let d = c.args.draft.now in
+    let none = since_none d in
     record {
-      answer = sorts_behind-start (names_for c.args.self.now (labels_view c.args.draft.now.labels))
-          (sorts_seen c.args.draft.now) c.reserve.new.self.items terms none;
-      given = AreGivenOf-none (names_of_library c.args.self.now) c.args.draft.now.labels (labels_in_all terms);
+      answer = sorts_behind-start (names_for c.args.self.now (labels_view d.labels))
+          (sorts_seen d) (sorts_since d d) terms none.0;
+      given = AreGivenOf-none (names_of_library c.args.self.now) d.labels (labels_in_all terms);
       kept = record { variables = refl; base = refl };
       opened = refl;
       lighter = omega arith;
-      room = omega (arith, c.in_ok-reserve.ensures.ok, count-trees c.args.terms.now);
-      nodes_room = omega (arith, c.in_ok-reserve-2.ensures.ok, count-trees c.args.terms.now);
-      counted = ap length (c.in_ok-reserve-2.ensures.items ∙ c.new-nodes.ensures.items) ∙ sym (ap length none);
-      stand = so_far-none AreDenoted c.args.self.now c.args.draft.now terms c.reserve-2.new.self.items
-          (c.in_ok-reserve-2.ensures.items ∙ c.new-nodes.ensures.items);
+      waiting = none.2;
+      stand = so_far-none AreDenoted c.args.self.now d terms (terms_since d d) none.1;
     }
-
-pub sorts_of-push_reserved-requires : goal.sorts_of-push_reserved-requires
-sorts_of-push_reserved-requires t c =
-    (omega arith, omega (arith, ap count c.in-Some.ensures, c.loop-term.invariant.room))
 
 pub sorts_of-returns-in_err-checked-clause-longer : goal.sorts_of-returns-in_err-checked-clause-longer
 sorts_of-returns-in_err-checked-clause-longer t c =
     grows_on c.args.draft.now c.loop-term.draft c.sort_of.new.draft c.loop-term.invariant.stand.longer
     c.sort_of.ensures.longer
 
+pub sorts_of-returns-in_err-push-clause-longer : goal.sorts_of-returns-in_err-push-clause-longer
+sorts_of-returns-in_err-push-clause-longer t c =
+    grows_on c.args.draft.now c.loop-term.draft c.sort_of.new.draft c.loop-term.invariant.stand.longer
+    c.sort_of.ensures.longer
+
+pub sorts_of-returns-clause-sorts : goal.sorts_of-returns-clause-sorts
+sorts_of-returns-clause-sorts t c =
+    let d = c.args.draft.now in
+    let mid = c.loop-term.draft in (
+      sorts_since d mid,
+      c.loop-term.invariant.answer
+          ∙ sorts_behind-end (names_for c.args.self.now (labels_view mid.labels)) (sorts_seen d)
+          (sorts_since d mid) (sexps_of c.loop-term.left.now) c.in_default.ensures,
+      c.loop-term.invariant.waiting.sorts,
+    )
+
 pub sorts_of-returns-clause-nodes : goal.sorts_of-returns-clause-nodes
 sorts_of-returns-clause-nodes t c =
-    so_far-all AreDenoted c.args.self.now c.args.draft.now c.loop-term.draft (sexps_of c.args.terms.now)
-    (sexps_of c.loop-term.left.now) c.loop-term.nodes.items c.loop-term.is_open
-    (no_term (sexps_of c.loop-term.left.now) c.in_default.ensures) c.loop-term.invariant.stand
+    let d = c.args.draft.now in
+    let mid = c.loop-term.draft in (
+      terms_since d mid,
+      c.loop-term.invariant.waiting.terms,
+      so_far-all AreDenoted c.args.self.now d mid (sexps_of c.args.terms.now)
+          (sexps_of c.loop-term.left.now) (terms_since d mid) c.loop-term.is_open
+          (no_term (sexps_of c.loop-term.left.now) c.in_default.ensures) c.loop-term.invariant.stand,
+    )

@@ -1,6 +1,5 @@
-use Rattle.std.proofs.Common.{◌≡◌, ◌+◌, ◌*◌, ◌≤◌, ◌||◌, [], true, length, map}
-use Rattle.smallvec.specs.SmallVec.{HasRoomFor}
-use Rattle.smt_trees.specs.Sexp.{count, weight, weight_all}
+use Rattle.std.proofs.Common.{◌≡◌, ◌+◌, ◌*◌, ◌≤◌, ◌||◌, [], true, map}
+use Rattle.smt_trees.specs.Sexp.{weight, weight_all}
 use Rattle.smt_trees.specs.Tree.{sexp_of, sexps_of}
 use Rattle.smt_forms.specs.Bindings.{are_named_trees}
 use Rattle.smt_forms.specs.Labels.{labels_in_all, labels_in_bindings}
@@ -11,6 +10,7 @@ use Rattle.smt_terms.specs.Internal.Calls.{SeesTheSame}
 use Rattle.smt_terms.specs.Internal.DraftView.{are_open, are_open_bindings, sorts_seen}
 use Rattle.smt_terms.specs.Internal.LabelsView.{labels_view}
 use Rattle.smt_terms.specs.Internal.LibraryView.{names_for, names_of_library}
+use Rattle.smt_terms.proofs.ArgumentLemmas.{WaitSince, sorts_since, terms_since}
 use Rattle.smt_terms.proofs.CheckerLemmas.{sorts_behind}
 use Rattle.smt_terms.proofs.LabelLemmas.{AreGivenOf}
 use Rattle.smt_terms.proofs.PartNodeLemmas.{BindingsSoFar, TermsSoFar}
@@ -43,17 +43,16 @@ decreases-bound_by l = 4 * weight_all (sexps_of l.bindings.now) + 2
 abbrev pub invariant-sorts_of-loop-term : goal.invariant-sorts_of-loop-term
 invariant-sorts_of-loop-term l = record {
   answer : sorts_in (names_for l.self (labels_view l.fn.draft.labels)) (sorts_seen l.fn.draft) (sexps_of l.terms)
-      ≡ sorts_behind (names_for l.self (labels_view l.draft.labels)) (sorts_seen l.fn.draft) l.sorts.items
-      (sexps_of l.left);
+      ≡ sorts_behind (names_for l.self (labels_view l.draft.labels)) (sorts_seen l.fn.draft)
+      (sorts_since l.fn.draft l.draft) (sexps_of l.left);
   given : AreGivenOf (names_of_library l.self) l.fn.draft.labels l.draft.labels
       (labels_in_all (sexps_of l.terms)) (labels_in_all (sexps_of l.left));
   kept : SeesTheSame l.fn.draft l.draft;
   opened : are_open l.fn.draft (sexps_of l.terms) ≡ (l.is_open || are_open l.fn.draft (sexps_of l.left));
   lighter : weight_all (sexps_of l.left) ≤ weight_all (sexps_of l.terms);
-  room : HasRoomFor l.sorts (count (sexps_of l.left));
-  nodes_room : HasRoomFor l.nodes (count (sexps_of l.left));
-  counted : length l.nodes.items ≡ length l.sorts.items;
-  stand : TermsSoFar l.self l.fn.draft l.draft (sexps_of l.terms) (sexps_of l.left) l.nodes.items l.is_open;
+  waiting : WaitSince l.fn.draft l.draft;
+  stand : TermsSoFar l.self l.fn.draft l.draft (sexps_of l.terms) (sexps_of l.left)
+      (terms_since l.fn.draft l.draft) l.is_open;
 }
 
 abbrev pub decreases-sorts_of-loop-term : goal.decreases-sorts_of-loop-term
@@ -68,14 +67,14 @@ invariant-bound_by-loop-name l = record {
   given : AreGivenOf (names_of_library l.self) l.fn.draft.labels l.draft.labels
       (labels_in_bindings (sexps_of l.bindings)) (labels_in_bindings (sexps_of l.left));
   kept : SeesTheSame l.fn.draft l.draft;
+  waiting : WaitSince l.fn.draft l.draft;
   opened : are_open_bindings l.fn.draft (sexps_of l.bindings)
       ≡ (l.is_open || are_open_bindings l.fn.draft (sexps_of l.left));
   names : names_in l.names ≡ map (λ v. v.0) (scope_view l.bound.items);
   named : are_named_trees (sexps_of l.left) ≡ true;
   lighter : weight_all (sexps_of l.left) ≤ weight_all (sexps_of l.bindings);
-  room : HasRoomFor l.nodes (count (sexps_of l.left));
-  stand : BindingsSoFar l.self l.fn.draft l.draft (sexps_of l.bindings) (sexps_of l.left) l.nodes.items
-      l.is_open;
+  stand : BindingsSoFar l.self l.fn.draft l.draft (sexps_of l.bindings) (sexps_of l.left)
+      (terms_since l.fn.draft l.draft) l.is_open;
 }
 
 abbrev pub decreases-bound_by-loop-name : goal.decreases-bound_by-loop-name

@@ -9,6 +9,7 @@ use Rattle.smt_terms.proofs.ContentsLemmas.{more_abbreviations, nothing_more}
 use Rattle.smt_terms.proofs.DefinitionLemmas.{same_fault}
 use Rattle.smt_terms.proofs.ItemLemmas.{sorts_as}
 use Rattle.smt_terms.proofs.StandsLemmas.{on_err_weaker, stands_abbreviated, stands_still}
+use Rattle.smt_terms.proofs.ContentsLemmas.{same_contents}
 use Rattle.smt_terms.proofs.library.Library.abbreviate.Goals as goal
 
 pub returns-clause-abbreviated : goal.returns-clause-abbreviated
@@ -64,3 +65,9 @@ returns-clause-grown c = record {
   bodies = nothing_more _ _ refl;
   rows = nothing_more _ _ refl;
 }
+
+pub returns-clause-restored : goal.returns-clause-restored
+returns-clause-restored c =
+    on_err_weaker c.abbreviate.result
+    (λ same. same_contents _ (contents_of c.args.self.now) c.abbreviate.ensures.theories same refl refl refl refl refl
+    refl) c.abbreviate.ensures.unchanged

@@ -1,15 +1,16 @@
 -- The new name goes last, among the names and among the declarations.
-use Rattle.std.proofs.Common.{◌≡◌, ℕ, List, ◌++◌, ◌∷◌, [], map, refl, ap, ◌∙◌, arith, length, sym}
+use Rattle.std.proofs.Common.{◌≡◌, ℕ, List, ◌++◌, ◌∷◌, [], map, refl, ap, ◌∙◌, arith, length, subst, sym}
 use Rattle.std.proofs.lemmas.Grind.{common_steps}
 use Rattle.std.proofs.lemmas.List.{length-map, map-append}
 use Rattle.smt_nodes.specs.Nodes.{rows_of}
 use Rattle.smt_theory.specs.declared.sort.Sort.{Sort}
-use Rattle.smt_terms.specs.Contents.{contents_of, declaration_view}
+use Rattle.smt_terms.specs.Contents.{Extends, contents_of, declaration_view}
+use Rattle.smt_terms.specs.Library.{Holds}
 use Rattle.smt_terms.specs.Internal.LibraryView.{abbreviations_of, ranks_of_library}
 use Rattle.smt_terms.specs.Internal.TableView.{heads_of_library}
 use Rattle.smt_terms.specs.declared.library.Found.TheVariants as place
 use Rattle.smt_terms.specs.declared.sorts.SortNames.{SortNames}
-use Rattle.smt_terms.proofs.ContentsLemmas.{nothing_more}
+use Rattle.smt_terms.proofs.ContentsLemmas.{extends_itself, nothing_more, same_contents}
 use Rattle.smt_terms.proofs.StandsLemmas.{counted, on_err, stands_declared, stands_still}
 use Rattle.smt_terms.proofs.library.Library.add_declared.Goals as goal
 
@@ -27,6 +28,12 @@ returns-in_err-push-clause-unchanged c =
       rows = nothing_more _ _ refl;
     }) stands)
 
+pub returns-in_err-push-clause-restored : goal.returns-in_err-push-clause-restored
+returns-in_err-push-clause-restored c =
+    on_err c.from_residual-in_err-push.result
+    (same_contents _ (contents_of c.args.self.now) refl refl refl refl
+    (ap (map declaration_view) c.in_err-push.ensures.items) refl refl refl)
+
 pub returns-in_err-push-clause-grown : goal.returns-in_err-push-clause-grown
 returns-in_err-push-clause-grown c = record {
   theories = refl;
@@ -39,8 +46,8 @@ returns-in_err-push-clause-grown c = record {
   rows = nothing_more _ _ refl;
 }
 
-pub returns-in-Err-clause-unchanged : goal.returns-in-Err-clause-unchanged
-returns-in-Err-clause-unchanged c =
+pub returns-in-Err-clause-restored : goal.returns-in-Err-clause-restored
+returns-in-Err-clause-restored c =
     let same : c.pop.new.self.items ≡ c.args.self.now.declared.items =
     grind (
       arith,
@@ -50,39 +57,18 @@ returns-in-Err-clause-unchanged c =
       c.insert.ensures.declared,
       c.in_ok-push.ensures.items,
     ) in
-    λ s stands.
-    stands_still (contents_of c.args.self.now) _ s (record {
-      theories = ap (λ (z : SortNames). z.theories) c.insert.ensures.sorts;
-      abbreviations = ap abbreviations_of c.insert.ensures.sorts;
-      ranks = c.in-Err.ensures.unchanged.0;
-      heads = c.in-Err.ensures.unchanged.1;
-      declared = ap (map declaration_view) same;
-      definitions = c.insert.ensures.definitions;
-      bodies = c.insert.ensures.bodies;
-      rows = nothing_more _ _ (ap rows_of c.insert.ensures.nodes);
-    }) stands
+    same_contents _ (contents_of c.args.self.now)
+    (ap (λ (z : SortNames). z.theories) c.insert.ensures.sorts) (ap abbreviations_of c.insert.ensures.sorts)
+    c.in-Err.ensures.unchanged.0 c.in-Err.ensures.unchanged.1 (ap (map declaration_view) same)
+    c.insert.ensures.definitions c.insert.ensures.bodies (ap rows_of c.insert.ensures.nodes)
+
+pub returns-in-Err-clause-unchanged : goal.returns-in-Err-clause-unchanged
+returns-in-Err-clause-unchanged c = λ s stands. subst (λ d. Holds d s) (sym (returns-in-Err-clause-restored c)) stands
 
 pub returns-in-Err-clause-grown : goal.returns-in-Err-clause-grown
 returns-in-Err-clause-grown c =
-    let same : c.pop.new.self.items ≡ c.args.self.now.declared.items =
-    grind (
-      arith,
-      common_steps,
-      c.pop.ensures.items,
-      c.pop.ensures.variant,
-      c.insert.ensures.declared,
-      c.in_ok-push.ensures.items,
-    ) in
-    record {
-      theories = ap (λ (z : SortNames). z.theories) c.insert.ensures.sorts;
-      abbreviations = nothing_more _ _ (ap abbreviations_of c.insert.ensures.sorts);
-      ranks = nothing_more _ _ c.in-Err.ensures.unchanged.0;
-      heads = nothing_more _ _ c.in-Err.ensures.unchanged.1;
-      declared = nothing_more _ _ (ap (map declaration_view) same);
-      definitions = nothing_more _ _ c.insert.ensures.definitions;
-      bodies = nothing_more _ _ c.insert.ensures.bodies;
-      rows = nothing_more _ _ (ap rows_of c.insert.ensures.nodes);
-    }
+    subst (λ d. Extends (contents_of c.args.self.now) d) (sym (returns-in-Err-clause-restored c))
+    (extends_itself (contents_of c.args.self.now))
 
 pub returns-in-Ok-clause-added : goal.returns-in-Ok-clause-added
 returns-in-Ok-clause-added c =

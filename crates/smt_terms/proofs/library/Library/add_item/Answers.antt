@@ -1,9 +1,10 @@
-use Rattle.std.proofs.Common.{ap, ◌∙◌}
-use Rattle.std.proofs.lemmas.Result.{IfErr-weaker, on_ok_weaker}
+use Rattle.std.proofs.Common.{ap, subst, sym, ◌∙◌}
+use Rattle.std.proofs.lemmas.Result.{IfErr-weaker, on_err_weaker, on_ok_weaker}
 use Rattle.smt_terms.specs.Definitions.{definition_in}
 use Rattle.smt_forms.specs.ItemView.{item_view}
 use Rattle.smt_terms.specs.Items.{form_in}
 use Rattle.smt_forms.specs.ScopeView.{scope_view}
+use Rattle.smt_terms.specs.Library.{Holds}
 use Rattle.smt_terms.specs.Signature.{names_of}
 use Rattle.smt_terms.proofs.DefinitionLemmas.{same_fault}
 use Rattle.smt_terms.proofs.ItemLemmas.{item_is_free, item_step}
@@ -47,3 +48,8 @@ returns-clause-refused c =
     (ap scope_view c.as_slice.ensures.value)
     (ap scope_view c.as_slice-2.ensures.value)) (refused m items))
     c.add_definition.ensures.refused
+
+pub returns-clause-unchanged : goal.returns-clause-unchanged
+returns-clause-unchanged c =
+    on_err_weaker c.add_definition.result (λ same s stands. subst (λ d. Holds d s) (sym same) stands)
+    c.add_definition.ensures.restored

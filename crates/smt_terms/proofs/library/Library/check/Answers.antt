@@ -11,6 +11,8 @@ use Rattle.smt_terms.proofs.DenotesLemmas.{denotes_kept}
 use Rattle.smt_terms.proofs.ItemLemmas.{names_as}
 use Rattle.smt_terms.proofs.StandsLemmas.{stands_still}
 use Rattle.smt_terms.proofs.KeptTermLemmas.{checked_keeps, checked_longer, none_given, none_more, without_labels}
+use Rattle.smt_terms.proofs.ContentsLemmas.{keeps_names, restored}
+use Rattle.smt_terms.proofs.StandsLemmas.{on_err}
 use Rattle.smt_terms.proofs.library.Library.check.Goals as goal
 
 pub returns-in_err-checked-clause-kept : goal.returns-in_err-checked-clause-kept
@@ -65,3 +67,12 @@ returns-clause-answer c = λ s stands.
       denotes_kept (table_with old given rows) (terms_in (contents_of new)) longer [] 0 0 c.in_ok-checked.checked.node t
           (c.in_ok-checked.ensures.node (ready (terms_in (contents_of old)) s stands.terms)).0,
     )
+
+pub returns-in_err-checked-clause-restored : goal.returns-in_err-checked-clause-restored
+returns-in_err-checked-clause-restored c =
+    let e = c.check_whole.ensures in
+    let same = c.in_err-checked.ensures.unchanged in
+    on_err c.from_residual.result
+    (restored (contents_of c.args.self.now) (contents_of c.check_whole.new.self)
+    (keeps_names c.args.self.now c.check_whole.new.self e.names e.sorts e.declared e.definitions e.bodies
+    (nothing_more _ _ same)) same)

@@ -76,12 +76,12 @@ returns-in-Ok-clause-answer c = λ s stands.
     let e = c.in-Ok.ensures in
     let labels = c.new-draft.ensures.labels in
     let none : draft.labels.given.items ≡ [] =
-    ap (λ (ls : Labels). ls.given.items) labels ∙ c.refused.ensures.given in
+    ap (λ (ls : Labels). ls.given.items) labels ∙ c.refused-labels.ensures.given in
     let sort = ap (λ (ls : Labels). sort_in (names_for old (labels_view ls)) [] t) (sym labels) ∙ e.sort in
     let given : map (λ l. (l.name.items, sexp_of l.body.now)) last.labels.given.items ≡ labels_in t =
     e.labels.given ∙ ap (λ ls. map (λ l. (l.name.items, sexp_of l.body.now)) ls ++ labels_in t) none in
-    let no_more = none_given old (labels_view c.refused.result) [] t c.in-Ok.checked.sort last.labels.given.items
-    c.refused.ensures.view sort given in
+    let no_more = none_given old (labels_view c.refused-labels.result) [] t c.in-Ok.checked.sort last.labels.given.items
+    c.refused-labels.ensures.view sort given in
     let moved = c.new-draft.ensures.nodes ∙ c.replace-nodes.ensures.value in
     let is_ready = ready_longer (held_terms_of old) (table_in old draft) (record {
       theories = refl;
@@ -90,7 +90,7 @@ returns-in-Ok-clause-answer c = λ s stands.
       rows = (_, refl);
     }) refl (ready (held_terms_of old) s stands.terms) in (
       ap (λ n. sort_in n [] t) (sym (names_as old s stands))
-          ∙ without_labels old (labels_view c.refused.result) [] t _ c.refused.ensures.view sort,
+          ∙ without_labels old (labels_view c.refused-labels.result) [] t _ c.refused-labels.ensures.view sort,
       denotes_kept (table_in old last) (terms_of new) (record {
         theories = refl;
         heads = nothing_more _ _ refl;

@@ -1,9 +1,10 @@
-use Rattle.std.proofs.Common.{rules, map, ap, sym, ◌∙◌}
-use Rattle.std.proofs.lemmas.Result.{IfErr-weaker, on_ok_weaker}
+use Rattle.std.proofs.Common.{rules, map, ap, subst, sym, ◌∙◌}
+use Rattle.std.proofs.lemmas.Result.{IfErr-weaker, on_err_weaker, on_ok_weaker}
 use Rattle.smt_trees.specs.Tree.{sexp_of}
 use Rattle.smt_terms.specs.Definitions.{defined_in, definition_in}
 use Rattle.smt_forms.specs.ParamView.{param_view}
 use Rattle.smt_forms.specs.ScopeView.{scope_view}
+use Rattle.smt_terms.specs.Library.{Holds}
 use Rattle.smt_terms.specs.Signature.{names_of}
 use Rattle.smt_terms.proofs.DefinitionLemmas.{define_step, same_fault}
 use Rattle.smt_terms.proofs.ItemLemmas.{not_operator}
@@ -55,3 +56,8 @@ returns-in_err-parameters-clause-refused c = search rules
 
 pub returns-in_err-sort-clause-refused : goal.returns-in_err-sort-clause-refused
 returns-in_err-sort-clause-refused c = search rules
+
+pub returns-clause-unchanged : goal.returns-clause-unchanged
+returns-clause-unchanged c =
+    on_err_weaker c.add_definition.result (λ same s stands. subst (λ d. Holds d s) (sym same) stands)
+    c.add_definition.ensures.restored

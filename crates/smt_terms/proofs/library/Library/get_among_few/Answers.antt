@@ -1,6 +1,5 @@
 use Rattle.std.proofs.Common.{Some, cond, drop, ◌+◌, ap, sym, ◌∙◌, option_map}
 use Rattle.smt_names.specs.Entries.{entries_of}
-use Rattle.std.specs.Prelude.{bytes_eq}
 use Rattle.smt_theory.specs.Words.{look_up}
 use Rattle.smt_terms.proofs.LibraryLemmas.{look_on}
 use Rattle.smt_terms.proofs.library.Library.get_among_few.Goals as goal

@@ -1,7 +1,6 @@
 use Rattle.smt_names.specs.Entries.{entries_of}
 use Rattle.smt_terms.specs.Internal.LibraryView.{rank_of}
-use Rattle.smt_terms.specs.Internal.TableView.{head_of}
-use Rattle.smt_terms.proofs.LibraryLemmas.{absent_itself, goes_last}
+use Rattle.smt_terms.proofs.LibraryLemmas.{absent_itself}
 use Rattle.smt_terms.proofs.library.Library.insert.Goals as goal
 
 pub insert-requires : goal.insert-requires

@@ -1,4 +1,4 @@
-use Rattle.std.proofs.Common.{◌≡◌, Option, Some, None, option_map, is_some, refl, ap, sym, ◌∙◌}
+use Rattle.std.proofs.Common.{◌≡◌, Option, Some, None, option_map, is_some, refl, ap, ◌∙◌}
 use Rattle.smt_theory.specs.PlainOp.{op_of_plain}
 use Rattle.smt_theory.specs.declared.op.plain.PlainOp.{PlainOp}
 use Rattle.smt_terms.proofs.library.freshness.is_operator.Goals as goal

@@ -3,8 +3,6 @@ use Rattle.smt_trees.specs.Tree.{sexp_of}
 use Rattle.smt_terms.specs.Internal.LibraryView.{sort_names}
 use Rattle.smt_terms.specs.SortTrees.{sort_named}
 use Rattle.smt_faults.specs.declared.term_flaw.TermFlaw.TheVariants.{NotFresh}
-use Rattle.smt_terms.proofs.LibraryLemmas.{goes_last}
-use Rattle.smt_terms.proofs.SortLemmas.{not_abbreviated}
 use Rattle.smt_terms.proofs.sorts.SortNames.abbreviate.Goals as goal
 
 pub returns-clause-abbreviated : goal.returns-clause-abbreviated

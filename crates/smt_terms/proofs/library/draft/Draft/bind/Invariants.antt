@@ -9,6 +9,7 @@ invariant-loop-left l = record {
   base : l.self.base ≡ l.fn.self.base;
   labels : l.self.labels ≡ l.fn.self.labels;
   nodes : l.self.nodes ≡ l.fn.self.nodes;
+  arguments : l.self.arguments ≡ l.fn.self.arguments;
   within : l.left ≤ length l.variables;
 }
 

@@ -1,0 +1,11 @@
+use Rattle.std.proofs.Common.{refl}
+use Rattle.smt_terms.proofs.TableLemmas.{grows_rows}
+use Rattle.smt_terms.proofs.library.draft.Draft.push_numbered.Goals as goal
+
+pub returns-in_err-node-clause-longer : goal.returns-in_err-node-clause-longer
+returns-in_err-node-clause-longer c =
+    grows_rows c.args.self.now (record c.args.self.now { nodes = c.push.new.self }) _ refl c.in_ok-own.ensures.pushed
+
+pub returns-clause-longer : goal.returns-clause-longer
+returns-clause-longer c =
+    grows_rows c.args.self.now (record c.args.self.now { nodes = c.push.new.self }) _ refl c.in_ok-own.ensures.pushed
