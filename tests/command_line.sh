@@ -319,7 +319,7 @@ Options:
           [default: base]
 
       --steps <N>
-          How many steps the evaluation of a model may take, from 0 to 18446744073709551614. All assertions in force count together, and a model that costs more is told as `too long`, and is not evaluated.
+          How many steps the evaluation of a model may take, from 0 to 18446744073709551614. All assertions in force and all assumptions count together, and a model that costs more is told as `too long`, and is not evaluated.
           
           A step is one term that is evaluated. Its parts count as well, the body of a name counts at each use of the name, and each annotation `!` is one step more.
           
@@ -328,7 +328,7 @@ Options:
           [default: 10000000]
 
       --explain
-          After the report, say of each check that is not confirmed, and of the fault, where it stands in the files, by line and column, and why: of an assertion that is false the part that makes it so, with the values of what stands in it.
+          After the report, say of each check that is not confirmed, and of the fault, where it stands in the files, by line and column, and why: of an assertion or an assumption that is false the part that makes it so, with the values of what stands in it.
           
           The report and the status stay the same. Both texts are kept in memory until then.
 
@@ -343,7 +343,7 @@ Options:
 
 The last line of the report is the verdict, and the exit status says the same:
   0  valid: every `sat` is confirmed by the models printed for it
-  1  invalid: some model makes an assertion false
+  1  invalid: some model makes an assertion or an assumption false
   2  not decided: no model refutes a `sat`, and some `sat` is not confirmed
   3  refused: the script or the answers have a fault
   4  a file could not be opened, read or written, or memory was refused: standard error says which

@@ -52,7 +52,7 @@ __all__ = [
     "Detail", "Explained", "Explanation", "Item", "LibraryError", "Line", "PROFILES", "Part", "Place", "Report", "STEPS", "Session", "Spot",
     "VERDICTS", "Value", "check", "check_files", "explain", "explanation_of", "line_of", "main", "version",
 ]
-__version__ = "0.7.2"
+__version__ = "0.7.3"
 
 VERDICTS = ("valid", "invalid", "not decided", "refused")
 PROFILES = ("base", "wide")
@@ -116,7 +116,7 @@ class Report(NamedTuple):
     confirmed: int
     """how many `sat` are confirmed by the models printed for them"""
     refuted: int
-    """how many `sat` have a model that makes an assertion false"""
+    """how many `sat` have a model that makes an assertion or an assumption false"""
     undecided: int
     """how many `sat` are neither"""
     unchecked: int

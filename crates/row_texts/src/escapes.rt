@@ -11,6 +11,13 @@
 //!
 //! Every other byte but `}` in braces stands for itself.
 
+ghost use Rattle.std.specs.Prelude.{◌≡◌, ◌<◌, [], ◌++◌, Some, IfOk, OnOk};
+ghost use Rattle.std.specs.Result.{result_ok};
+ghost use Rattle.row_texts.specs.Escapes.{bytes_meant, bytes_of, bytes_of_all, pieces_after, letter_escape};
+ghost use Rattle.row_texts.specs.Escapes.{hexadecimal_digit, read_byte, read_outside, read_escaped, read_times};
+ghost use Rattle.row_texts.specs.Escapes.{read_brace, close_brace, after_piece};
+ghost use Rattle.row_texts.specs.Internal.Parts.{piece_of, pieces_in, braces_onto, reading_of, HasDigit};
+
 use anyhow::{Result, bail};
 use std::alloc::{AllocError, Global};
 use std::io::Write;
@@ -63,7 +70,9 @@ struct Reader {
 }
 
 /// The bytes that a text stands for.
-pub(crate) fn unescape(alloc: Global, text: &str) -> Result<Vec<u8>> {
+pub(crate) fn unescape(alloc: Global, text: &str) -> Result<Vec<u8>>
+    ensures { IfOk result (λ bytes. bytes_meant text.now ≡ Some bytes.items) }
+{
     let mut reader = Reader {
         alloc,
         state: State::Outside,
@@ -77,7 +86,9 @@ pub(crate) fn unescape(alloc: Global, text: &str) -> Result<Vec<u8>> {
 }
 
 // Writes the parts of a whole text.
-fn write_parts(parts: &[Part], bytes: &mut Vec<u8>) -> io::Result<()> {
+fn write_parts(parts: &[Part], bytes: &mut Vec<u8>) -> io::Result<()>
+    ensures { OnOk result (bytes.new.items ≡ bytes.old.items ++ bytes_of_all (pieces_in parts.now) 0) }
+{
     for part in parts {
         part.write(0, bytes)?;
     }
@@ -85,7 +96,11 @@ fn write_parts(parts: &[Part], bytes: &mut Vec<u8>) -> io::Result<()> {
 }
 
 impl Reader {
-    fn take_all(&mut self, text: &str) -> Result<()> {
+    fn take_all(&mut self, text: &str) -> Result<()>
+        requires { HasDigit self.old.state }
+        ensures { OnOk result (pieces_after (self.old.state, reading_of self.old) text.now
+            ≡ Some (pieces_in self.new.parts.items)) }
+    {
         for byte in text.bytes() {
             self.state = self.take(byte)?;
         }
@@ -96,7 +111,12 @@ impl Reader {
     }
 
     // Consumes one byte, and returns the state after it.
-    fn take(&mut self, byte: u8) -> Result<State> {
+    fn take(&mut self, byte: u8) -> Result<State>
+        requires { HasDigit self.old.state }
+        ensures digit { IfOk result HasDigit }
+        ensures read { IfOk result (λ state. read_byte self.old.state (reading_of self.old) byte
+            ≡ Some (state, reading_of self.new)) }
+    {
         match self.state {
             State::Outside => Ok(self.take_outside(byte)?),
             State::Backslash => self.take_escaped(byte),
@@ -104,14 +124,17 @@ impl Reader {
                 first: hex_digit(byte)?,
             }),
             State::SecondDigit { first } => Ok(self.add(Part::Byte(
-                first << 4 | hex_digit(byte)?,
+                first * 16 + hex_digit(byte)?,
             ))?),
             State::Repeat => self.take_times(byte),
             State::Brace { times } => self.take_brace(byte, times),
         }
     }
 
-    fn take_outside(&mut self, byte: u8) -> Result<State, AllocError> {
+    fn take_outside(&mut self, byte: u8) -> Result<State, AllocError>
+        ensures digit { IfOk result HasDigit }
+        ensures read { IfOk result (λ state. read_outside (reading_of self.old) byte ≡ (state, reading_of self.new)) }
+    {
         match byte {
             b'\\' => Ok(State::Backslash),
             b'}' => self.close_brace(),
@@ -119,7 +142,11 @@ impl Reader {
         }
     }
 
-    fn take_escaped(&mut self, byte: u8) -> Result<State> {
+    fn take_escaped(&mut self, byte: u8) -> Result<State>
+        ensures digit { IfOk result HasDigit }
+        ensures read { IfOk result (λ state. read_escaped (reading_of self.old) byte
+            ≡ Some (state, reading_of self.new)) }
+    {
         match byte {
             b'x' => Ok(State::Byte),
             b'*' => Ok(State::Repeat),
@@ -129,7 +156,11 @@ impl Reader {
         }
     }
 
-    fn take_times(&mut self, byte: u8) -> Result<State> {
+    fn take_times(&mut self, byte: u8) -> Result<State>
+        ensures digit { IfOk result HasDigit }
+        ensures read { IfOk result (λ state. read_times (reading_of self.old) byte
+            ≡ Some (state, reading_of self.new)) }
+    {
         match byte {
             b'0'..=b'9' => Ok(State::Brace {
                 times: Times::Count(u64::from(byte - b'0')),
@@ -141,7 +172,11 @@ impl Reader {
         }
     }
 
-    fn take_brace(&mut self, byte: u8, times: Times) -> Result<State> {
+    fn take_brace(&mut self, byte: u8, times: Times) -> Result<State>
+        ensures digit { IfOk result HasDigit }
+        ensures read { IfOk result (λ state. read_brace times (reading_of self.old) byte
+            ≡ Some (state, reading_of self.new)) }
+    {
         match (byte, times) {
             (b'{', _) => {
                 let before = mem::replace(&mut self.parts, Vec::new(self.alloc));
@@ -158,7 +193,11 @@ impl Reader {
     }
 
     // Ends the innermost repetition. Outside of every repetition the brace is a byte like any other.
-    fn close_brace(&mut self) -> Result<State, AllocError> {
+    fn close_brace(&mut self) -> Result<State, AllocError>
+        ensures outside { IfOk result (λ state. state ≡ State.Outside) }
+        ensures closed { OnOk result (reading_of self.new
+            ≡ close_brace (pieces_in self.old.parts.items) (braces_onto self.old.outer.items [])) }
+    {
         match self.outer.pop() {
             Some((before, times)) => {
                 let parts = mem::replace(&mut self.parts, before);
@@ -168,7 +207,11 @@ impl Reader {
         }
     }
 
-    fn add(&mut self, part: Part) -> Result<State, AllocError> {
+    fn add(&mut self, part: Part) -> Result<State, AllocError>
+        ensures digit { IfOk result HasDigit }
+        ensures read { IfOk result (λ state. after_piece (reading_of self.old) (piece_of part)
+            ≡ (state, reading_of self.new)) }
+    {
         self.parts.push(part)?;
         Ok(State::Outside)
     }
@@ -176,7 +219,9 @@ impl Reader {
 
 impl Part {
     // Writes the part; `number` is that of the repetition it is in.
-    fn write(&self, number: u64, bytes: &mut Vec<u8>) -> io::Result<()> {
+    fn write(&self, number: u64, bytes: &mut Vec<u8>) -> io::Result<()>
+        ensures { OnOk result (bytes.new.items ≡ bytes.old.items ++ bytes_of (piece_of self.now) number) }
+    {
         match self {
             Part::Byte(byte) => bytes.push(*byte)?,
             Part::Number => write!(bytes, "{number}")?,
@@ -198,7 +243,9 @@ impl Part {
 }
 
 // The byte that an escape of one letter stands for.
-fn escaped(byte: u8) -> Result<u8> {
+fn escaped(byte: u8) -> Result<u8>
+    ensures { result_ok result ≡ letter_escape byte }
+{
     match byte {
         b'n' => Ok(b'\n'),
         b't' => Ok(b'\t'),
@@ -208,7 +255,10 @@ fn escaped(byte: u8) -> Result<u8> {
     }
 }
 
-fn hex_digit(byte: u8) -> Result<u8> {
+fn hex_digit(byte: u8) -> Result<u8>
+    ensures digit { result_ok result ≡ hexadecimal_digit byte }
+    ensures below { IfOk result (λ digit. digit < 16) }
+{
     match byte {
         b'0'..=b'9' => Ok(byte - b'0'),
         b'a'..=b'f' => Ok(byte - b'a' + 10),

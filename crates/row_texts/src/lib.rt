@@ -1,7 +1,7 @@
 //! The form of the files of rows that the test programs read: rows of fields, and the escapes in their texts.
 //!
-//! No claim rests on this crate, which is no part of the program. Its calls are proved safe; what they return is
-//! seen in what the test programs print.
+//! No claim rests on this crate, which is no part of the program. Contracts say what its functions make of a field;
+//! what `read` and `run` do is seen in what the test programs print.
 //!
 //! A call, for a file that holds `terms: over p` and, on the next line, `term: (not \x70)`:
 //!

@@ -4,6 +4,11 @@
 //! `term: (and p q)`. The first field is the title of the row, and its key is the kind of the row. A line that
 //! begins with two spaces continues the field above it, and a line that begins with `#` is a comment.
 
+ghost use Rattle.std.specs.Prelude.{◌≡◌, ◌++◌, Some, IfOk, IfErr, codes, string_bytes};
+ghost use Rattle.std.specs.Fmt.{decimal};
+ghost use Rattle.anyhow.specs.Error.{HasMessage};
+ghost use Rattle.row_texts.specs.Escapes.{bytes_meant};
+
 use crate::escapes::unescape;
 use anyhow::{Context, Result, bail};
 use std::alloc::{AllocError, Global};
@@ -21,7 +26,10 @@ pub struct Field<'a> {
 
 impl Field<'_> {
     /// The bytes that the text stands for; the error of a faulty escape names the line.
-    pub fn bytes(&self, alloc: Global) -> Result<Vec<u8>> {
+    pub fn bytes(&self, alloc: Global) -> Result<Vec<u8>>
+        ensures ok { IfOk result (λ bytes. bytes_meant (string_bytes self.now.text) ≡ Some bytes.items) }
+        ensures err { IfErr result (HasMessage (Some (codes "line " ++ decimal self.now.line))) }
+    {
         let line = self.line;
         unescape(alloc, self.text.as_str()).context(format_args!("line {line}"))
     }

@@ -1,6 +1,6 @@
 -- Sessions: turns come to rest, or may be left to take.
 use Rattle.std.proofs.Common.{◌≡◌, ◌<◌, ◌^◌, ◌-◌, ℕ, true, false, List, [], ◌++◌, Option, Some, None, is_some, refl}
-use Rattle.std.proofs.Common.{ap, sym, ◌∙◌, subst, arith}
+use Rattle.std.proofs.Common.{OnErr, Result, ap, sym, ◌∙◌, subst, arith}
 use Rattle.std.specs.List.{list_any}
 use Rattle.smt_dialogue.specs.InForce.{start_by}
 use Rattle.smt_dialogue.proofs.AdvanceLemmas.{cut_at}
@@ -10,7 +10,8 @@ use Rattle.smt_dialogue.proofs.SessionGrowthLemmas.{AreTold, ended_lines, ended_
 use Rattle.smt_dialogue.specs.FirstFault.{TextSoFar, Waits, turn_at}
 use Rattle.smt_dialogue.specs.History.{AreDecided, AreFirstDecided, History, Told}
 use Rattle.smt_dialogue.specs.Report.{ArePaired}
-use Rattle.smt_dialogue.specs.Session.{AreCounted, AreLines, IsCounted, IsVerdictIn, StandsFor, lines_waiting}
+use Rattle.smt_dialogue.specs.Session.{AreCounted, AreLines, IsCounted, IsVerdictIn, StandsFor}
+use Rattle.smt_dialogue.specs.Session.{is_verdict_waiting, lines_waiting}
 use Rattle.smt_dialogue.specs.SoFar.{IsBeginning, is_verdict_line}
 use Rattle.smt_dialogue.specs.Internal.PairingView.{HasAdvanced, HasRested, IsAdvance, IsCut, waiting}
 use Rattle.smt_dialogue.specs.Internal.SessionStep.{IsFed, IsFedBy, IsGoingOn}
@@ -245,3 +246,10 @@ none_added taken before after begins silent =
     let none = (none_of is_verdict_line taken after silent).1 in
     none
     ∙ sym (none_of is_verdict_line before begins.0 (ap (list_any is_verdict_line) (sym begins.1) ∙ none)).0
+
+-- a step that adds no line, and then one that adds no verdict line, add no verdict line
+pub none_before : {T E : Type 0} (r : Result T E) (old mid new : Session) → lines_waiting mid ≡ lines_waiting old
+    → OnErr r (is_verdict_waiting new ≡ is_verdict_waiting mid)
+    → OnErr r (is_verdict_waiting new ≡ is_verdict_waiting old)
+none_before r old mid new same none =
+    subst (λ (ls : List Line). OnErr r (is_verdict_waiting new ≡ list_any is_verdict_line ls)) same none

@@ -23,8 +23,11 @@ pub mod NodeValueLemmas
 pub mod NodeNameLemmas
 pub mod StructureNodeLemmas
 pub mod CostLemmas
+pub mod CountLemmas
 pub mod NodeCostLemmas
 pub mod NodeNameCostLemmas
+pub mod NodeLeastLemmas
+pub mod LeastLemmas
 pub mod StructureCostLemmas
 pub mod TermCostLemmas
 pub mod CostExampleLemmas

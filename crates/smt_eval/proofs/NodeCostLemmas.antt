@@ -28,12 +28,12 @@ use Rattle.smt_eval.specs.Cost.{BodyCosts, cost_of, costs_bound, costs_of, head_
 -- ---- rows and parts
 
 -- a row that is a node
-row_of : (o : Option Row) (around : ℕ) (n : Node) → IsRow o around (Some n)
+pub row_of : (o : Option Row) (around : ℕ) (n : Node) → IsRow o around (Some n)
     → (row : Row) × (o ≡ Some row) × (row.node ≡ n) × (row.around ≡ around)
 row_of None around n h = absurd h
 row_of (Some row) around n h = (row, refl, h.0, h.1)
 
-no_row : (o : Option Row) (around : ℕ) → IsRow o around None → ⊥
+pub no_row : (o : Option Row) (around : ℕ) → IsRow o around None → ⊥
 no_row None around h = h
 no_row (Some row) around h = h
 
@@ -112,13 +112,13 @@ module _ (c : ℕ → ℕ) (off : ℕ) (declared : List ℕ) (t : Table) (b : Bo
       omega (arith, here, head, args)
 
   -- the name that a label gives to a term, which uses no variable
-  label_costs : (slots : Slots) (i around : ℕ) (term : Sexp) → UsesNone slots term
-      → (name : IsNameOf t around i (λ j. Denotes t [] 0 0 j term))
+  label_costs : (slots : Slots) (label : List ℕ) (i around : ℕ) (term : Sexp) → UsesNone slots term
+      → (name : IsNameOf t label around i (λ j. Denotes t [] 0 0 j term))
       → c (off + name.1) ≡ cost_of b [] term → c (off + i) ≡ around + (1 + cost_of b (names_in slots) term)
-  label_costs slots i around term unused name here =
-      let node = node_costs i around (node.Defined name.0 []) name.2 in
-      let body = ap (λ o. inner_cost (off + i) c (call (option_map (λ j. off + j) o) [])) name.3 in
-      let below = cost_below off i name.1 c name.4 in
+  label_costs slots label i around term unused name here =
+      let node = node_costs i around (node.Defined name.0 []) name.3 in
+      let body = ap (λ o. inner_cost (off + i) c (call (option_map (λ j. off + j) o) [])) name.4 in
+      let below = cost_below off i name.1 c name.5 in
       let closed = cost_closed b slots term unused in
       omega (arith, node, body, below, here, closed)
 
@@ -127,12 +127,12 @@ module _ (c : ℕ → ℕ) (off : ℕ) (declared : List ℕ) (t : Table) (b : Bo
       → c (off + i) ≡ around + 1 + cost_of b (names_in slots) term)
       → ((j : ℕ) → j < i → Denotes t [] 0 0 j term → c (off + j) ≡ 0 + cost_of b [] term)
       → unless_labelled labels (Denotes t slots next (around + 1) i term)
-      (UsesNone slots term × IsNameOf t around i (λ j. Denotes t [] 0 0 j term))
+      (λ label. UsesNone slots term × IsNameOf t label around i (λ j. Denotes t [] 0 0 j term))
       → c (off + i) ≡ around + (1 + cost_of b (names_in slots) term)
   annotated_costs slots next around i term [] bare labelled d = let here = bare d in omega (arith, here)
   annotated_costs slots next around i term (label ∷ labels) bare labelled d =
-      let body = labelled d.1.1 d.1.4 d.1.5 in
-      label_costs slots i around term d.0 d.1 (omega (arith, body))
+      let body = labelled d.1.1 d.1.5 d.1.6 in
+      label_costs slots label i around term d.0 d.1 (omega (arith, body))
 
   mutual
     pub term_costs : (slots : Slots) (next around i : ℕ) (term : Sexp) → Denotes t slots next around i term

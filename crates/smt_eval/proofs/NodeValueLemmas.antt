@@ -129,13 +129,14 @@ module _ (g : Giving) (off : ℕ) (declared : List ℕ) (t : Table) (m : KnownMe
       applied_given i around frame f js h d ∙ ap (m f) args ∙ sym (ap (λ q. known_by q (λ k. m k vs)) is)
 
   -- the name that a label gives to a term, which uses no variable
-  label_given : (slots : Slots) (i around : ℕ) (frame : Frame) (r : Knowns) (term : Sexp)
-      → StandIn frame slots r → UsesNone slots term → (name : IsNameOf t around i (λ j. Denotes t [] 0 0 j term))
+  label_given : (slots : Slots) (label : List ℕ) (i around : ℕ) (frame : Frame) (r : Knowns) (term : Sexp)
+      → StandIn frame slots r → UsesNone slots term
+      → (name : IsNameOf t label around i (λ j. Denotes t [] 0 0 j term))
       → g (off + name.1) [] ≡ known_of m [] term → g (off + i) frame ≡ known_of m r term
-  label_given slots i around frame r term stand unused name here =
-      node_given i around (node.Defined name.0 []) frame name.2
-      ∙ ap (λ o. node_value (off + i) g frame (Some (call (option_map (λ j. off + j) o) []))) name.3
-      ∙ part_below off i name.1 g [] name.4 ∙ here
+  label_given slots label i around frame r term stand unused name here =
+      node_given i around (node.Defined name.0 []) frame name.3
+      ∙ ap (λ o. node_value (off + i) g frame (Some (call (option_map (λ j. off + j) o) []))) name.4
+      ∙ part_below off i name.1 g [] name.5 ∙ here
       ∙ known_same m [] (map (λ s. (s.0, Boolean)) slots) [] r
       (λ x none. sym (stands_hidden frame slots r x stand none)) term unused
 
@@ -144,11 +145,11 @@ module _ (g : Giving) (off : ℕ) (declared : List ℕ) (t : Table) (m : KnownMe
       → (Denotes t slots next (around + 1) i term → g (off + i) frame ≡ known_of m r term)
       → ((j : ℕ) → j < i → Denotes t [] 0 0 j term → g (off + j) [] ≡ known_of m [] term)
       → unless_labelled labels (Denotes t slots next (around + 1) i term)
-      (UsesNone slots term × IsNameOf t around i (λ j. Denotes t [] 0 0 j term))
+      (λ label. UsesNone slots term × IsNameOf t label around i (λ j. Denotes t [] 0 0 j term))
       → g (off + i) frame ≡ known_of m r term
   annotated_given slots next around i frame r term [] stand bare labelled d = bare d
   annotated_given slots next around i frame r term (label ∷ labels) stand bare labelled d =
-      label_given slots i around frame r term stand d.0 d.1 (labelled d.1.1 d.1.4 d.1.5)
+      label_given slots label i around frame r term stand d.0 d.1 (labelled d.1.1 d.1.5 d.1.6)
 
   mutual
     pub term_given : (slots : Slots) (next around i : ℕ) (term : Sexp) → Denotes t slots next around i term

@@ -1,5 +1,5 @@
 -- What names are known to mean over definitions that are kept as their trees.
-use Rattle.std.proofs.Common.{◌≡◌, ◌≤◌, ℕ, suc, ◌+◌, true, false, cond, List, [], ◌∷◌}
+use Rattle.std.proofs.Common.{◌≡◌, ◌≤◌, ℕ, suc, ◌+◌, Bool, true, false, cond, List, [], ◌∷◌}
 use Rattle.std.proofs.Common.{◌++◌, length, slice_index_or, take, Option, Some, None, Ok, refl, ap, sym}
 use Rattle.std.proofs.Common.{◌∙◌, arith}
 use Rattle.std.proofs.Math.Seq.{take-suc}
@@ -13,6 +13,7 @@ use Rattle.smt_theory.specs.declared.theories.Theories.{Theories}
 use Rattle.smt_forms.specs.Identifier.{Identifier, Plain, Indexed, all_indexes, indexed, operator_of}
 use Rattle.smt_faults.specs.declared.term_flaw.TermFlaw.TheVariants.{Form}
 use Rattle.smt_terms.specs.Signature.{Entry}
+use Rattle.smt_eval.specs.Cost.{BodyCosts, body_cost, costs_after, no_costs, with_cost}
 use Rattle.smt_eval.specs.Internal.PlainEvaluation.{bodies_weight}
 use Rattle.smt_eval.proofs.EvaluatorLemmas.{known_with_indexes}
 use Rattle.smt_eval.specs.Known.{KnownMeaning, known_after, known_defined, known_of_op, known_operators}
@@ -57,6 +58,23 @@ pub last_is_not_meant : (m : KnownMeaning) (before all : List Definition) (d : D
 last_is_not_meant m before all d x args is named = known_last m before all d x args is ∙ ap
     (λ b. cond b (known_defined (known_after m (entries_of before)) (origin_of d) args)
     (known_after m (entries_of before) (Plain x) args)) named
+
+-- one more definition costs its body, and hides what the earlier ones cost
+costs_after-last : (b : BodyCosts) (es : List Entry) (e : Entry)
+    → costs_after b (es ++ e ∷ []) ≡ with_cost (costs_after b es) e
+costs_after-last b [] e = refl
+costs_after-last b (c ∷ es) e = costs_after-last (with_cost b c) es e
+
+pub last_costs : (before all : List Definition) (d : Definition) (x : List ℕ) (named : Bool)
+    → all ≡ before ++ d ∷ [] → bytes_eq x d.name.now ≡ named
+    → costs_after no_costs (entries_of all) x
+    ≡ cond named (body_cost (costs_after no_costs (entries_of before)) (origin_of d))
+    (costs_after no_costs (entries_of before) x)
+last_costs before all d x named is here =
+    ap (λ es. costs_after no_costs es x) (ap entries_of is ∙ map-append entry_of before (d ∷ []))
+    ∙ ap (λ (b : BodyCosts). b x) (costs_after-last no_costs (entries_of before) (entry_of d))
+    ∙ ap (λ k. cond k (body_cost (costs_after no_costs (entries_of before)) (origin_of d))
+    (costs_after no_costs (entries_of before) x)) here
 
 -- the last body and those before it
 pub weight-last : (before all : List Definition) (d : Definition) → all ≡ before ++ d ∷ []

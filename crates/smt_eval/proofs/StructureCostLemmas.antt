@@ -1,5 +1,5 @@
 -- A node of a script costs what its term does over the structure that a model gives to the script.
-use Rattle.std.proofs.Common.{◌≡◌, ℕ, ◌+◌, List, [], length, map, slice_get, Some, ap, sym}
+use Rattle.std.proofs.Common.{◌≡◌, ◌≤◌, ℕ, ◌+◌, List, [], length, map, slice_get, Some, ap, sym}
 use Rattle.std.proofs.Common.{◌∙◌, subst, arith}
 use Rattle.std.proofs.Math.Seq.{take-length}
 use Rattle.std.proofs.lemmas.List.{length-map}
@@ -8,6 +8,7 @@ use Rattle.smt_trees.specs.Sexp.{Sexp}
 use Rattle.smt_nodes.specs.Node.{Row}
 use Rattle.smt_machine.specs.Costs.{around_at, cost, node_cost}
 use Rattle.smt_machine.specs.Given.{given}
+use Rattle.smt_machine.specs.Least.{least, node_least}
 use Rattle.smt_machine.specs.Nodes as machine
 use Rattle.smt_machine.specs.Nodes.{Frame, node_value}
 use Rattle.smt_machine.specs.Tables.{resolved}
@@ -17,13 +18,15 @@ use Rattle.smt_terms.specs.Signature.{AreDistinct, Entry, Signature}
 use Rattle.smt_terms.specs.TermsOf.{AreTermsOf, first_heads}
 use Rattle.smt_eval.proofs.HeadLemmas.{IsBodyOf, body_at, none_declared}
 use Rattle.smt_eval.proofs.NodeCostLemmas.{HasRowCosts}
-use Rattle.smt_eval.proofs.NodeNameCostLemmas.{IsCostAt, called_costs, calls_cost, closed_costs}
+use Rattle.smt_eval.proofs.NodeLeastLemmas.{HasRowLeasts, term_counts}
+use Rattle.smt_eval.proofs.NodeNameCostLemmas.{IsCostAt, called_costs, calls_cost, closed_costs, costs_its_nodes}
 use Rattle.smt_eval.proofs.NodeNameLemmas.{HasNames}
 use Rattle.smt_eval.proofs.PlaceLemmas.{at_left, at_right}
 use Rattle.smt_eval.proofs.StructureNodeLemmas.{all_seen, at_map, denotes_within, model_names, script_names}
 use Rattle.smt_eval.proofs.StructureNodeLemmas.{seen, within}
 use Rattle.smt_eval.specs.Cost.{cost_of, cost_over, costs_in}
 use Rattle.smt_eval.specs.Internal.DefinitionValues.{AllDefined}
+use Rattle.smt_eval.specs.Least.{least_of}
 use Rattle.smt_eval.specs.NodeValues.{GivesBodies, arounds_over, nodes_over}
 use Rattle.smt_eval.specs.Structure.{structure_of}
 
@@ -70,6 +73,19 @@ module _ (has : (nodes : List machine.Node) (i : ℕ) (frame : Frame)
   names_of_script =
       script_names has model script declared names definitions terms bodies all theories distinct gives
 
+  -- the node of a row of the script, and the annotations round it
+  script_at : (k : ℕ) (row : Row) → slice_get script.rows k ≡ Some row
+      → (slice_get nodes (count + k) ≡ Some (of_script row))
+      × (slice_get arounds (count + k) ≡ Some row.around)
+  script_at k row at =
+      let l = length-map model.rows of_model in
+      let m = length-map model.rows around_of in (
+        at_right (map of_model model.rows) (map of_script script.rows) (count + k) k (of_script row)
+            (omega (arith, l)) (at_map of_script script.rows k row at),
+        at_right (map around_of model.rows) (map around_of script.rows) (count + k) k row.around
+            (omega (arith, m)) (at_map around_of script.rows k row at),
+      )
+
   -- a row that stands at this place
   row_costs : (i : ℕ) (row : Row) (n : machine.Node) → slice_get nodes i ≡ Some n
       → slice_get arounds i ≡ Some row.around → c i ≡ node_cost i c row.around (Some n)
@@ -89,13 +105,7 @@ module _ (has : (nodes : List machine.Node) (i : ℕ) (frame : Frame)
 
   script_rows : HasRowCosts c count declared script
   script_rows = λ k row at.
-      let l = length-map model.rows of_model in
-      let m = length-map model.rows around_of in
-      row_costs (count + k) row (of_script row)
-      (at_right (map of_model model.rows) (map of_script script.rows) (count + k) k (of_script row)
-      (omega (arith, l)) (at_map of_script script.rows k row at))
-      (at_right (map around_of model.rows) (map around_of script.rows) (count + k) k row.around
-      (omega (arith, m)) (at_map around_of script.rows k row at))
+      let here = script_at k row at in row_costs (count + k) row (of_script row) here.0 here.1
 
   none_given : (k : ℕ) (e : Entry) → slice_get (declared_among definitions.entries) k ≡ Some e
       → IsCostAt c 0 [] whole (λ n. n) k e
@@ -134,3 +144,30 @@ module _ (has : (nodes : List machine.Node) (i : ℕ) (frame : Frame)
       denotes)
       ∙ ap (λ d. around + cost_of (costs_in d) [] term)
       (all_seen has model script declared names definitions terms bodies all theories distinct gives)
+
+  -- ---- what the node takes at least
+
+  module _ (leasts : (nodes : List machine.Node) (arounds : List ℕ) (i : ℕ) → least nodes arounds i
+      ≡ node_least i (least nodes arounds) (around_at arounds i) (slice_get nodes i)) where
+    abbrev least_at : ℕ → ℕ
+    least_at = least nodes arounds
+
+    least_rows : HasRowLeasts least_at count declared script
+    least_rows = λ k row at.
+        let here = script_at k row at in
+        leasts nodes arounds (count + k)
+        ∙ ap (λ o. node_least (count + k) least_at (unwrap_or o 0) (slice_get nodes (count + k))) here.1
+        ∙ ap (node_least (count + k) least_at row.around) here.0
+
+    pub node_has_least : (around i : ℕ) (term : Sexp) → Denotes script [] 0 around i term
+        → around + least_of names.theories term ≤ least_at (count + i)
+    node_has_least around i term denotes =
+        let calls = calls_cost (given nodes) count declared script names.entries whole seen_of names_of_script c
+        script_rows given_costs i in
+        let means = costs_its_nodes (given nodes) count declared script names.entries whole seen_of
+        names_of_script c script_rows given_costs i calls all_names in
+        subst (λ ts. around + least_of ts term ≤ least_at (count + i)) terms.theories
+        (term_counts c least_at count declared (first_heads all_names script) _ i
+        (λ j. let here = costs nodes arounds j in omega (arith, here)) least_rows means [] 0 around i term
+        (subst (λ hs. Denotes (record script { heads = hs }) [] 0 around i term) (sym (take-length script.heads))
+        denotes) (omega arith))

@@ -139,10 +139,10 @@ denotes_within t slots next around i (Items (Cons (Reserved Bang) (Cons term att
   where
     by : (labels : List (List ℕ))
         → unless_labelled labels (Denotes t slots next (around + 1) i term)
-        (UsesNone slots term × IsNameOf t around i (λ j. Denotes t [] 0 0 j term))
+        (λ label. UsesNone slots term × IsNameOf t label around i (λ j. Denotes t [] 0 0 j term))
         → (Denotes t slots next (around + 1) i term → i < length t.rows) → i < length t.rows
     by [] e bare = bare e
-    by (label ∷ labels) e bare = row_within t.rows i around _ e.1.2
+    by (label ∷ labels) e bare = row_within t.rows i around _ e.1.3
 denotes_within t slots next around i (Items (Cons head args)) d = row_within t.rows i around _ d.3.0
 denotes_within t slots next around i _ d = absurd d
 

@@ -1,9 +1,10 @@
 -- What a term of a library costs over an interpretation, by its number.
-use Rattle.std.proofs.Common.{◌≡◌, ◌≤◌, ℕ, ◌+◌, List, [], length, Option, Result, IfOk, OnOk, ap, sym, ◌∙◌, subst}
+use Rattle.std.proofs.Common.{◌≡◌, ◌≤◌, ℕ, ◌+◌, List, [], length, Option, Result, Ok, Err, IfOk, OnOk, ap, sym, ◌∙◌, subst}
 use Rattle.std.proofs.Common.{arith}
 use Rattle.smt_trees.specs.Sexp.{Sexp}
 use Rattle.smt_machine.specs.Costs.{cost, within}
-use Rattle.smt_machine.specs.Tables.{arounds_of, model_count, nodes_of, term_cost}
+use Rattle.smt_machine.specs.Least.{least}
+use Rattle.smt_machine.specs.Tables.{arounds_of, model_count, nodes_of, term_cost, term_least}
 use Rattle.smt_machine.specs.declared.tables.Tables.{Tables}
 use Rattle.smt_terms.specs.Denotes.{Denotes, Table}
 use Rattle.smt_terms.specs.Library.{IsTerm, StandsFor, held_terms_of, terms_of}
@@ -13,6 +14,7 @@ use Rattle.smt_terms.specs.declared.library.Library.{Library}
 use Rattle.smt_eval.specs.Cost.{cost_over}
 use Rattle.smt_eval.specs.Internal.DefinitionValues.{AllDefined}
 use Rattle.smt_eval.specs.Interpretation.{CostsAtMost, Fits, IsInterpretation}
+use Rattle.smt_eval.specs.Least.{least_of, least_over}
 use Rattle.smt_eval.specs.NodeValues.{GivesBodies, arounds_over, nodes_over}
 use Rattle.smt_eval.specs.Structure.{structure_of}
 use Rattle.smt_eval.specs.declared.interpretation.Interpretation.{Interpretation}
@@ -49,6 +51,45 @@ cost_is law tables library interpretation id script definitions t are names hold
     ∙ ap (λ (arounds : List ℕ). cost (nodes_over model (terms_of library) interpretation.declared.items) arounds
     (length model.rows + id)) are.arounds
     ∙ omega (arith, whole)
+
+-- the law of `nodes_take_the_least_of_their_terms`
+abbrev pub NodesTakeLeast : Type 0
+NodesTakeLeast = (model script : Table) (declared : List ℕ) (names definitions : Signature) (around i : ℕ)
+    (term : Sexp) → AreTermsOf script names → AreTermsOf model definitions
+    → AllDefined definitions.entries → definitions.theories ≡ names.theories
+    → AreDistinct (structure_of names definitions).entries
+    → GivesBodies declared names definitions model.bodies
+    → Denotes script [] 0 around i term
+    → around + least_of names.theories term
+    ≤ least (nodes_over model script declared) (arounds_over model script) (length model.rows + i)
+
+pub counted_is : {T F : Type 0} (r : Result T F) (old new : ℕ) → NodesTakeLeast → (tables : Tables)
+    (library : Library) (interpretation : Interpretation) (id : ℕ) (script definitions : Signature) (t : Sexp)
+    → AreTablesOf tables library interpretation
+    → StandsFor library script → IsInterpretation interpretation script definitions → IsTerm library id t
+    → OnOk r (new + term_least tables id ≤ old) → OnOk r (new + least_over (structure_of script definitions) t ≤ old)
+counted_is r old new law tables library interpretation id script definitions t are names holds term counted =
+    by r counted
+  where
+    is : term_least tables id ≡ least (nodes_over (held_terms_of interpretation.definitions) (terms_of library)
+        interpretation.declared.items) (arounds_over (held_terms_of interpretation.definitions) (terms_of library))
+        (length (held_terms_of interpretation.definitions).rows + id)
+    is = ap (λ n. least (nodes_of tables) (arounds_of tables) (n + id)) are.count
+        ∙ ap (λ nodes. least nodes (arounds_of tables)
+        (length (held_terms_of interpretation.definitions).rows + id)) are.nodes
+        ∙ ap (λ (arounds : List ℕ). least (nodes_over (held_terms_of interpretation.definitions) (terms_of library)
+        interpretation.declared.items) arounds (length (held_terms_of interpretation.definitions).rows + id))
+        are.arounds
+
+    by : {T F : Type 0} (r : Result T F) → OnOk r (new + term_least tables id ≤ old)
+        → OnOk r (new + least_over (structure_of script definitions) t ≤ old)
+    by (Ok x) most =
+        let taken = law (held_terms_of interpretation.definitions) (terms_of library) interpretation.declared.items
+        script definitions 0 id t (are.named script names) holds.stands.terms holds.defined holds.theories
+        holds.distinct holds.bodies term in
+        let same = ap (λ theories. least_of theories t) holds.theories in
+        omega (arith, is, taken, most, same)
+    by (Err e) most = tt
 
 -- there is enough for the node
 pub cost_within : NodesHaveCosts → (tables : Tables) (library : Library) (interpretation : Interpretation)

@@ -1,6 +1,7 @@
 pub mod Meaning
 pub mod Known
 pub mod Cost
+pub mod Least
 pub mod CostExamples
 pub mod NodeValues
 pub mod Agreement

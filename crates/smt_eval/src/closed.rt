@@ -12,12 +12,16 @@ ghost use Rattle.smt_eval.specs.Cost.{cost_over};
 ghost use Rattle.smt_eval.specs.Interpretation.{CostsAtMost, Fits, IsInterpretation, KeepsCosts, KnowsCosts};
 ghost use Rattle.smt_eval.specs.Interpretation.{Serves};
 ghost use Rattle.smt_eval.specs.Known.{known_over};
+ghost use Rattle.smt_eval.specs.Least.{least_over};
 ghost use Rattle.smt_eval.specs.NodeValues.{arounds_over, nodes_over};
 ghost use Rattle.smt_eval.specs.Structure.{structure_of};
 
 use crate::checked::Checked;
 use crate::interpretation::Interpretation;
-use crate::laws::{nodes_give_the_values_of_their_terms, nodes_have_the_costs_of_their_terms};
+use crate::laws::{
+    nodes_give_the_values_of_their_terms, nodes_have_the_costs_of_their_terms,
+    nodes_take_the_least_of_their_terms,
+};
 use crate::tables::tables;
 use smt_faults::Memory;
 use smt_machine::{Machine, Tables, cost_of_term};
@@ -106,6 +110,9 @@ pub fn eval(
     requires fits { Fits interpretation.now library.now }
     requires enough { CostsAtMost left.old library.now interpretation.now term }
     ensures fewer { OnOk result (left.new < left.old) }
+    ensures counted { (script definitions : Signature) (t : Sexp) → StandsFor library.now script
+        → IsInterpretation interpretation.now script definitions → IsTerm library.now term t
+        → OnOk result (left.new + least_over (structure_of script definitions) t ≤ left.old) }
     ensures paid { (script definitions : Signature) (t : Sexp) → StandsFor library.now script
         → IsInterpretation interpretation.now script definitions → IsTerm library.now term t
         → OnOk result (left.old ≤ left.new + cost_over (structure_of script definitions) t) }
@@ -139,6 +146,9 @@ pub fn eval_by(
     requires serves { Serves machine.old interpretation.now library.now }
     ensures serves { IfOk result (λ _. Serves machine.new interpretation.now library.now) }
     ensures fewer { OnOk result (left.new < left.old) }
+    ensures counted { (script definitions : Signature) (t : Sexp) → StandsFor library.now script
+        → IsInterpretation interpretation.now script definitions → IsTerm library.now term t
+        → OnOk result (left.new + least_over (structure_of script definitions) t ≤ left.old) }
     ensures paid { (script definitions : Signature) (t : Sexp) → StandsFor library.now script
         → IsInterpretation interpretation.now script definitions → IsTerm library.now term t
         → OnOk result (left.old ≤ left.new + cost_over (structure_of script definitions) t) }
@@ -148,6 +158,7 @@ pub fn eval_by(
 {
     nodes_give_the_values_of_their_terms();
     nodes_have_the_costs_of_their_terms();
+    nodes_take_the_least_of_their_terms();
     machine.eval(tables_of(library, interpretation), term, left)
 }
 

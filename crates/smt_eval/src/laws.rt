@@ -2,14 +2,16 @@
 
 pub mod terms;
 
-ghost use Rattle.std.specs.Prelude.{◌≡◌, ◌↔◌, ℕ, ◌+◌, ◌*◌, ◌^◌, List, [], ◌∷◌, Ok, Err, Option, length};
+ghost use Rattle.std.specs.Prelude.{◌≡◌, ◌≤◌, ◌↔◌, ℕ, ◌+◌, ◌*◌, ◌^◌, List, [], ◌∷◌, Ok, Err, Option, length};
 ghost use Rattle.smt_trees.specs.Sexp.{Cons, Sexp, Sexps, append};
 ghost use Rattle.smt_trees.specs.Tree.{sexp_of};
 ghost use Rattle.smt_theory.specs.declared.sort.Sort.{Sort};
+ghost use Rattle.smt_theory.specs.declared.theories.Theories.{Theories};
 ghost use Rattle.smt_values.specs.Element.{Agrees, Element, IsOfSort};
 ghost use Rattle.smt_values.specs.Operations.{DivisionByZero};
 ghost use Rattle.smt_machine.specs.Costs.{cost};
 ghost use Rattle.smt_machine.specs.Given.{given};
+ghost use Rattle.smt_machine.specs.Least.{least};
 ghost use Rattle.smt_terms.specs.Checking.{sort_in};
 ghost use Rattle.smt_terms.specs.Denotes.{Denotes, Table};
 ghost use Rattle.smt_terms.specs.Items.{items_before};
@@ -21,10 +23,11 @@ ghost use Rattle.smt_terms.specs.WellSorted.{AreIntroduced, AreWellSorted};
 ghost use Rattle.smt_eval.specs.Agreement.{AgreesWith, FitsScope};
 ghost use Rattle.smt_faults.specs.declared.term_flaw.TermFlaw.{TermFlaw};
 ghost use Rattle.smt_eval.specs.CompleteModel.{IsModelOf};
-ghost use Rattle.smt_eval.specs.Cost.{cost_of, cost_over, costs_after, no_costs};
+ghost use Rattle.smt_eval.specs.Cost.{BodyCosts, cost_of, cost_over, costs_after, no_costs};
 ghost use Rattle.smt_eval.specs.CostExamples.{annotated_twice, doubling_name, doublings, sum_is_three, two_for_x};
 ghost use Rattle.smt_eval.specs.Internal.DefinitionValues.{AllDefined};
 ghost use Rattle.smt_eval.specs.Interpretation.{IsInterpretation};
+ghost use Rattle.smt_eval.specs.Least.{least_of};
 ghost use Rattle.smt_eval.specs.Known.{known_in, known_of, known_over};
 ghost use Rattle.smt_eval.specs.Meaning.{value_over};
 ghost use Rattle.smt_eval.specs.Model.{AreDefined, AreItems, HasFirstFlaw, IsFirstLacking, items_of};
@@ -39,7 +42,7 @@ ghost use Rattle.smt_eval.specs.declared.model_fault.ModelFlaw.TheVariants.{Item
 use crate::checked::Checked;
 use crate::closed::Closed;
 use crate::plain;
-use smt_machine::laws::{nodes_have_their_costs, nodes_have_their_values};
+use smt_machine::laws::{nodes_have_their_costs, nodes_have_their_least, nodes_have_their_values};
 use smt_terms::laws::{items_are_well_sorted, repeated_items_are_set_aside, sorts_are_kept};
 use smt_theory::laws::{ranks_are_the_table, sorts_are_compared};
 use smt_values::laws::{known_results_are_true, results_are_of_their_sorts};
@@ -184,6 +187,28 @@ pub fn nodes_have_the_costs_of_their_terms()
     nodes_have_their_values();
     nodes_have_their_costs();
 }
+
+/// The evaluation of a node of a script takes at least as many steps as its term, and one for each annotation
+/// without a label round it. The structure is the one that a model gives to the script, as for values.
+pub fn nodes_take_the_least_of_their_terms()
+    ensures { (model script : Table) (declared : List ℕ) (names definitions : Signature) (around i : ℕ)
+        (term : Sexp) → AreTermsOf script names → AreTermsOf model definitions
+        → AllDefined definitions.entries → definitions.theories ≡ names.theories →
+        AreDistinct (structure_of names definitions).entries → GivesBodies declared names definitions model.bodies
+        → Denotes script [] 0 around i term
+        → around + least_of names.theories term
+        ≤ least (nodes_over model script declared) (arounds_over model script) (length model.rows + i) }
+{
+    nodes_have_their_values();
+    nodes_have_their_costs();
+    nodes_have_their_least();
+}
+
+/// What the evaluation of a term takes at least is within its cost, whatever bodies cost.
+pub fn the_least_is_within_the_cost()
+    ensures { (theories : Theories) (b : BodyCosts) (variables : List (List ℕ)) (term : Sexp)
+        → least_of theories term ≤ cost_of b variables term }
+{}
 
 /// The costs of some terms: `(= (+ x 1) 3)` where `x` is 2; two annotations round `true`; and functions each
 /// of which calls the one before twice.

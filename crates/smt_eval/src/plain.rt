@@ -13,11 +13,13 @@ ghost use Rattle.std.specs.Prelude.{◌≡◌, IfOk};
 ghost use Rattle.smt_values.specs.Element.{known_element};
 ghost use Rattle.smt_eval.specs.Known.{known_over};
 
+mod counting;
 mod evaluator;
 mod names;
 mod scope;
 
 use crate::checked::Checked;
+use crate::plain::counting::count_term;
 use crate::plain::evaluator::known_value;
 use crate::plain::names::Definitions;
 use smt_faults::Memory;
@@ -59,12 +61,19 @@ impl Closed<'_> {
         ensures { IfOk result (λ v. (structure : Signature) (term : Sexp) → IsPlain self.now structure term
             → known_element v ≡ known_over structure term) }
     {
-        let over = Definitions {
+        known_value(self.over(), &[], self.tree)
+    }
+
+    // The definitions that the term sees.
+    fn over(&self) -> Definitions<'_>
+        ensures theories { result.theories ≡ self.now.theories }
+        ensures seen { result.seen.now ≡ self.now.definitions.now }
+    {
+        Definitions {
             alloc: self.alloc,
             theories: self.theories,
             seen: self.definitions,
-        };
-        known_value(over, &[], self.tree)
+        }
     }
 }
 
@@ -74,9 +83,9 @@ impl Checked for Closed<'_> {
     ghost IsTerm = { IsPlain };
 
     fn known(&self, left: &mut u64) -> Result<Option<Value>, Memory> {
-        // The recursion does not count what it evaluates. For an ill-sorted term, which may occur here, the
-        // cost is no bound on that.
-        *left -= 1;
+        // The recursion evaluates every part, both branches of a choice too, and each body at each use. So it
+        // takes what the term costs.
+        count_term(self.over(), &[], self.tree, left)?;
         self.value()
     }
 }

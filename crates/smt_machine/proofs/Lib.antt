@@ -1,4 +1,5 @@
 pub mod GivenLemmas
+pub mod LeastLemmas
 pub mod RunLemmas
 pub mod StateLemmas
 pub mod StepLemmas

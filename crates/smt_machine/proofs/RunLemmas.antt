@@ -7,13 +7,16 @@ use Rattle.std.proofs.lemmas.List.{length-map, map-append, take-append-le, take_
 use Rattle.smt_values.specs.Element.{Element}
 use Rattle.smt_values.specs.KnownOperations.{known_step}
 use Rattle.smt_machine.proofs.GivenLemmas.{given_law, cost_law}
+use Rattle.smt_machine.proofs.LeastLemmas.{AtOnce, Owes, arguments_of_parts, least-append, node_owes}
+use Rattle.smt_machine.proofs.LeastLemmas.{owes_nothing}
 use Rattle.smt_machine.specs.Given.{given}
 use Rattle.smt_machine.specs.Costs.{cost, first_cost, part_cost, parts_cost}
+use Rattle.smt_machine.specs.Least.{inner_least, is_choice, least, parts_least}
 use Rattle.smt_machine.specs.Internal.States.{State, before_last, frame_of, last_of, state_of, with_last}
 use Rattle.smt_machine.specs.Internal.States.{with_value}
 use Rattle.smt_machine.specs.Internal.Tasks.{AreDue, IsAt, IsBased, IsDone, IsDue, IsPlanned, IsStep, finished}
-use Rattle.smt_machine.specs.Internal.Tasks.{charge, part_task, run, run_all, task_cost, task_work, tasks_cost, visits}
-use Rattle.smt_machine.specs.Internal.Tasks.{work}
+use Rattle.smt_machine.specs.Internal.Tasks.{body_least, charge, part_task, run, run_all, task_cost, task_work, tasks_cost, tasks_least}
+use Rattle.smt_machine.specs.Internal.Tasks.{visits, work}
 use Rattle.smt_machine.specs.Internal.KeptView.{kept_at}
 use Rattle.smt_machine.specs.Memory.{Remembers}
 use Rattle.smt_machine.specs.Nodes.{Frame, Node, Known, Slot, Apply, Call, Let, node_value, part, parts}
@@ -218,10 +221,11 @@ pub grown : (nodes : List Node) (task : Task) (before after : Machine) (more : L
     → IsBased (state_of after)
     → work nodes more < task_work nodes task
     → Pays nodes task more
+    → Owes nodes task more
     → Remembers after nodes
     → AreDue nodes more (state_of after)
     → IsDone nodes task before after
-grown nodes task before after more tasks leads based less pays remembers due = record {
+grown nodes task before after more tasks leads based less pays owes remembers due = record {
   answer = ap (λ ts. run_all nodes ts (state_of after)) tasks
       ∙ run_all-append nodes before.tasks.items more (state_of after)
       ∙ ap (run_all nodes before.tasks.items) leads;
@@ -231,6 +235,10 @@ grown nodes task before after more tasks leads based less pays remembers due = r
       let c : ℕ → ℕ = cost nodes arounds in
       let e = ap (tasks_cost nodes c) tasks in
       omega (arith, e, cost-append nodes c before.tasks.items more, pays arounds);
+  owes = λ arounds.
+      let k : ℕ → ℕ = least nodes arounds in
+      let e = ap (tasks_least nodes k) tasks in
+      omega (arith, e, least-append nodes k before.tasks.items more, owes arounds);
   remembers = remembers;
   due = λ earlier.
       let P : State → Type 0 = λ s. AreDue nodes before.tasks.items s in
@@ -244,10 +252,11 @@ pub settled : (nodes : List Node) (task : Task) (before after : Machine)
     → IsBased (run nodes task (state_of before))
     → 0 < task_work nodes task
     → Pays nodes task []
+    → Owes nodes task []
     → IsStep nodes task before after
-settled nodes task before after is based less pays = λ remembers due.
+settled nodes task before after is based less pays owes = λ remembers due.
     grown nodes task before after [] (is.tasks ∙ sym (append-nil before.tasks.items)) is.state
-    (let P : State → Type 0 = λ s. IsBased s in subst P (sym is.state) based) less pays
+    (let P : State → Type 0 = λ s. IsBased s in subst P (sym is.state) based) less pays owes
     (remembered nodes before after is.kept remembers) tt
 
 pub planned : (nodes : List Node) (task : Task) (before after : Machine) (more : List Task) (s : State)
@@ -256,11 +265,12 @@ pub planned : (nodes : List Node) (task : Task) (before after : Machine) (more :
     → IsBased s
     → work nodes more < task_work nodes task
     → Pays nodes task more
+    → Owes nodes task more
     → AreDue nodes more s
     → IsStep nodes task before after
-planned nodes task before after more s is leads based less pays dues = λ remembers due.
+planned nodes task before after more s is leads based less pays owes dues = λ remembers due.
     grown nodes task before after more is.tasks (ap (run_all nodes more) is.state ∙ leads)
-    (let P : State → Type 0 = λ s. IsBased s in subst P (sym is.state) based) less pays
+    (let P : State → Type 0 = λ s. IsBased s in subst P (sym is.state) based) less pays owes
     (remembered nodes before after is.kept remembers)
     (let P : State → Type 0 = λ s. AreDue nodes more s in subst P (sym is.state) dues)
 
@@ -269,18 +279,19 @@ planned nodes task before after more s is leads based less pays dues = λ rememb
 -- a value that is there at once
 pub visited : (nodes : List Node) (i : ℕ) (n : Option Node) (v : Option Element) (before after : Machine)
     → n ≡ slice_get nodes i
+    → AtOnce i n
     → node_value i (given nodes) (frame_of (state_of before)) n ≡ v
     → IsAt (with_value v (state_of before)) before after
     → IsBased (state_of before)
     → IsStep nodes (Visit i) before after
-visited nodes i n v before after at is made based =
+visited nodes i n v before after at once is made based =
     let e : given nodes i (frame_of (state_of before)) ≡ v =
     given_law nodes i (frame_of (state_of before))
     ∙ ap (node_value i (given nodes) (frame_of (state_of before))) (sym at) ∙ is in
     settled nodes (Visit i) before after
     (let P : Option Element → Type 0 = λ w. IsAt (with_value w (state_of before)) before after in
     subst P (sym e) made) based (omega (arith, cost_law nodes [] i))
-    (λ arounds. omega (arith, cost_law nodes arounds i))
+    (λ arounds. omega (arith, cost_law nodes arounds i)) (owes_nothing nodes i n at once)
 
 first_cost_is : (i : ℕ) (c : ℕ → ℕ) (n : Node) → first_cost i c (Some n) ≡ parts_cost i c (first_parts n)
 first_cost_is i c (Known v) = refl
@@ -288,6 +299,14 @@ first_cost_is i c (Slot k) = refl
 first_cost_is i c (Apply op args) = refl
 first_cost_is i c (Call body args) = refl
 first_cost_is i c (Let values body) = refl
+
+inner_least_of : (i : ℕ) (k : ℕ → ℕ) (n : Node)
+    → inner_least i k (Some n) ≤ parts_least i k (first_parts n) + body_least i k (Some n)
+inner_least_of i k (Known v) = omega arith
+inner_least_of i k (Slot place) = omega arith
+inner_least_of i k (Apply op args) = omega (arith, arguments_of_parts i k (is_choice op) args)
+inner_least_of i k (Call body args) = omega arith
+inner_least_of i k (Let values body) = omega arith
 
 -- parts that come first
 pub visit_planned : (nodes : List Node) (i : ℕ) (n : Node) (before after : Machine)
@@ -313,6 +332,7 @@ visit_planned nodes i n before after at compound is based =
     let firsts = cost_visits nodes c i (first_parts n) in
     let first = ap (first_cost i c) (sym at) ∙ first_cost_is i c n in
     omega (arith, firsts, first, cost_law nodes arounds i))
+    (node_owes nodes i n (first_parts n) at (λ k. inner_least_of i k n))
     (tt, due_visits nodes i (first_parts n) s)
 
 -- ---- the loop that plans visits, from the last part on

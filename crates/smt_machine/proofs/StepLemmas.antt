@@ -13,20 +13,22 @@ use Rattle.smt_theory.specs.declared.op.Op.TheVariants.{Core}
 use Rattle.smt_values.specs.Element.{Element}
 use Rattle.smt_values.specs.KnownOperations.{known_choice, known_step, known_truth}
 use Rattle.smt_machine.proofs.GivenLemmas.{given_law, cost_law}
+use Rattle.smt_machine.proofs.LeastLemmas.{Owes, least-append, least_law, least_part, least_visits}
 use Rattle.smt_machine.proofs.RunLemmas.{due_before, due_later, due_part, due_visits, grown, last_of_more}
 use Rattle.smt_machine.proofs.RunLemmas.{made_of_last, planned, remembered, run_all-append, run_part}
 use Rattle.smt_machine.proofs.RunLemmas.{run_visits, settled, visited, work-append, work_part, work_visits}
 use Rattle.smt_machine.proofs.RunLemmas.{Pays, cost-append, cost_part, cost_visits, with_values}
 use Rattle.smt_machine.specs.Given.{given}
 use Rattle.smt_machine.specs.Costs.{cost, first_cost, last_cost, part_cost}
+use Rattle.smt_machine.specs.Least.{inner_least, least}
 use Rattle.smt_machine.specs.Internal.States.{State, before_last, first_of, frame_of, last_of, state_of}
 use Rattle.smt_machine.specs.Internal.KeptView.{kept_at}
 use Rattle.smt_machine.specs.Internal.States.{with_base, with_last, with_moved, with_value, without_last}
 use Rattle.smt_machine.specs.Internal.Tasks.{AreDue, IsAt, IsBased, IsBegun, IsChoice, IsDone, IsDue}
 use Rattle.smt_machine.specs.Internal.Tasks.{IsKeeping, IsPaid, IsPlanned, IsRunning, IsStep}
 use Rattle.smt_machine.specs.Internal.Tasks.{branches_cost, branches_of, empty_state, chosen, chosen_between}
-use Rattle.smt_machine.specs.Internal.Tasks.{charge, chosen_cost, finished, part_task, run, run_all, task_cost}
-use Rattle.smt_machine.specs.Internal.Tasks.{task_work, tasks_cost}
+use Rattle.smt_machine.specs.Internal.Tasks.{body_least, charge, chosen_cost, finished, part_task, run, run_all, task_cost}
+use Rattle.smt_machine.specs.Internal.Tasks.{task_work, tasks_cost, tasks_least}
 use Rattle.smt_machine.specs.Internal.Tasks.{visits, work}
 use Rattle.smt_machine.specs.Memory.{Remembers}
 use Rattle.smt_machine.specs.Nodes.{Frame, Node, Apply, Call, Let, node_value, part}
@@ -42,10 +44,11 @@ if_done (Err e) p f = tt
 -- a task that changes nothing
 pub idle : (nodes : List Node) (task : Task) (m : Machine)
     → run nodes task (state_of m) ≡ state_of m
-    → IsBased (state_of m) → 0 < task_work nodes task → Pays nodes task [] → IsStep nodes task m m
-idle nodes task m same based less pays =
+    → IsBased (state_of m) → 0 < task_work nodes task → Pays nodes task [] → Owes nodes task []
+    → IsStep nodes task m m
+idle nodes task m same based less pays owes =
     settled nodes task m m (record { tasks = refl; state = sym same; kept = refl })
-    (let P : State → Type 0 = λ s. IsBased s in subst P (sym same) based) less pays
+    (let P : State → Type 0 = λ s. IsBased s in subst P (sym same) based) less pays owes
 
 -- ---- a choice
 
@@ -72,6 +75,10 @@ choice_planned_at nodes i c a b before after at is based =
     let first = ap (first_cost i k) (sym at) in
     let later = ap (chosen_cost i k) (sym at) in
     omega (arith, cost_visits nodes k i (c ∷ []), first, later, cost_law nodes arounds i))
+    (λ arounds.
+    let k : ℕ → ℕ = least nodes arounds in
+    let inner = ap (inner_least i k) (sym at) in
+    omega (arith, inner, least_visits nodes k i (c ∷ []), least_law nodes arounds i))
     (tt, due_visits nodes i (c ∷ []) s)
 
 pub choice_planned : (nodes : List Node) (i : ℕ) (op : Op) (args condition : List ℕ) (before after : Machine)
@@ -162,6 +169,7 @@ chosen_one nodes i a b op args t c before middle after at branches is some taken
     let pays = branch_pays nodes i a b op args k at branches in
     let one = branch_cost (part_cost i k) c a b in
     omega (arith, pays, one, cost_part nodes k i (if c then a else b)))
+    (λ arounds. omega arith)
     (due_part nodes i (if c then a else b) (without_last 1 s))
 
 -- no truth value to choose by
@@ -187,7 +195,7 @@ chosen_none nodes i a b op args t before middle after at branches is none taken 
       kept = left.kept ∙ taken.kept;
     })
     (let here : IsBased (with_last 1 None s) = based in subst B leads here)
-    (omega arith) (λ arounds. omega arith)
+    (omega arith) (λ arounds. omega arith) (λ arounds. omega arith)
 
 -- no choice
 pub chosen_idle : (nodes : List Node) (i : ℕ) (op : Op) (args : List ℕ) (m : Machine)
@@ -197,7 +205,7 @@ chosen_idle nodes i op args m at branches based =
     idle nodes (Choose i) m
     (ap (λ n. chosen nodes i n (state_of m)) (sym at)
     ∙ ap (λ p. chosen_between nodes i p (state_of m)) (sym branches)) based (omega arith)
-    (λ arounds. omega arith)
+    (λ arounds. omega arith) (λ arounds. omega arith)
 
 -- ---- what a node does with the last values
 
@@ -216,6 +224,7 @@ operated_step nodes i n op args before after at count is based =
     settled nodes (Finish i) before after (subst A leads is)
     (let here : IsBased (with_last n (known_step op (last_of n s.values)) s) = based in subst B leads here)
     (omega arith) (λ arounds. omega arith)
+    (λ arounds. let none = ap (body_least i (least nodes arounds)) (sym at) in omega (arith, none))
 
 lesser_is : (m n : ℕ) → m ≤ n → min m n ≡ m
 lesser_is m n h = omega arith
@@ -251,6 +260,7 @@ entered_step nodes i n body args before after at count is based =
     (λ arounds.
     let c : ℕ → ℕ = cost nodes arounds in
     let last = ap (last_cost i c) (sym at) in omega (arith, last, cost_part nodes c i body))
+    (λ arounds. let none = ap (body_least i (least nodes arounds)) (sym at) in omega (arith, none))
     (tt, due_part nodes i body inner)
 
 pub bound_step : (nodes : List Node) (i n body : ℕ) (values : List ℕ) (before after : Machine)
@@ -280,6 +290,9 @@ bound_step nodes i n body values before after at count is based =
     (λ arounds.
     let c : ℕ → ℕ = cost nodes arounds in
     let last = ap (last_cost i c) (sym at) in omega (arith, last, cost_part nodes c i body))
+    (λ arounds.
+    let k : ℕ → ℕ = least nodes arounds in
+    let last = ap (body_least i k) (sym at) in omega (arith, last, least_part nodes k i body))
     (tt, due_part nodes i body inner)
 
 -- ---- constants
@@ -318,7 +331,7 @@ kept_step nodes i j k v before after at below kept is based = λ remembers due.
     let made : given nodes i (frame_of (state_of before)) ≡ v =
     constant_value nodes i j (frame_of (state_of before)) at here.0
     ∙ ap (λ n. given nodes n []) (sym here.1) ∙ sym (remembers k v (sym kept)) in
-    visited nodes i (slice_get nodes i) v before after refl
+    visited nodes i (slice_get nodes i) v before after refl (λ k. ap (inner_least i k) (sym at))
     (sym (given_law nodes i (frame_of (state_of before))) ∙ made) is based remembers due
 
 -- a body that is not below the constant
@@ -328,7 +341,7 @@ pub open_step : (nodes : List Node) (i j : ℕ) (before after : Machine)
     → IsBased (state_of before)
     → IsStep nodes (Visit i) before after
 open_step nodes i j before after at past is based =
-    visited nodes i (slice_get nodes i) None before after refl
+    visited nodes i (slice_get nodes i) None before after refl (λ k. ap (inner_least i k) (sym at))
     (sym (given_law nodes i (frame_of (state_of before)))
     ∙ constant_open nodes i j (frame_of (state_of before)) at (past_by (nat_lt j i) j past)) is based
 
@@ -365,7 +378,10 @@ closed_step nodes i j k before after at below is based =
     let last = ap (last_cost i c) (sym at) in
     let part = ap (λ b. cond b (c j) 1) here.0 in
     let same = ap c here.1 in
-    omega (arith, last, part, same, cost_law nodes arounds i)) (
+    omega (arith, last, part, same, cost_law nodes arounds i))
+    (λ arounds.
+    let none = ap (inner_least i (least nodes arounds)) (sym at) in
+    omega (arith, none, least_law nodes arounds i)) (
       ap (λ z. first_of (last_of 1 z.values)) body
           ∙ ap first_of (last_of_more s.values (value ∷ []) 1 refl),
       (tt, (tt, tt)),
@@ -387,7 +403,7 @@ pub keeping_step : (nodes : List Node) (k : ℕ) (before after : Machine)
 keeping_step nodes k before after is based = λ remembers due.
     grown nodes (Keep k) before after [] (is.tasks ∙ sym (append-nil before.tasks.items)) is.state
     (let P : State → Type 0 = λ s. IsBased s in subst P (sym is.state) based) (omega arith)
-    (λ arounds. omega arith)
+    (λ arounds. omega arith) (λ arounds. omega arith)
     (λ number v here. kept_by nodes k number (nat_eq number k) v before
     (first_of (last_of 1 (state_of before).values)) refl remembers due (sym (is.kept number) ∙ here)) tt
 
@@ -475,9 +491,11 @@ pub started_paid : (nodes : List Node) (arounds : List ℕ) (root first : ℕ) (
     → IsBegun (Visit root) before m → cost nodes arounds root ≤ first → IsPaid nodes arounds root first first m
 started_paid nodes arounds root first before m begun enough =
     let e = ap (tasks_cost nodes (cost nodes arounds)) begun.tasks in
+    let f = ap (tasks_least nodes (least nodes arounds)) begun.tasks in
     record {
       enough = omega (arith, e, enough);
       paid = omega (arith, e);
+      counted = omega (arith, f);
       within = omega arith;
       fewer = inl begun.tasks;
     }
@@ -507,9 +525,13 @@ turned_paid nodes arounds root first left rest v task before middle after runnin
     let c : ℕ → ℕ = cost nodes arounds in
     let e = ap (tasks_cost nodes c) tasks ∙ cost-append nodes c middle.tasks.items (task ∷ []) in
     let pays = done.pays arounds in
+    let k : ℕ → ℕ = least nodes arounds in
+    let f = ap (tasks_least nodes k) tasks ∙ least-append nodes k middle.tasks.items (task ∷ []) in
+    let owes = done.owes arounds in
     record {
       enough = let h = paid.enough in omega (arith, e, pays, h, counted);
       paid = let h = paid.paid in omega (arith, e, pays, h, counted);
+      counted = let h = paid.counted in omega (arith, f, owes, h, counted);
       within = let h = paid.within in omega (arith, h, counted);
       fewer = by paid.fewer;
     }
@@ -538,6 +560,12 @@ ended_paid nodes arounds root first left m paid none = by paid.fewer
 pub ended_cost : (nodes : List Node) (arounds : List ℕ) (root first left : ℕ) (m : Machine)
     → IsPaid nodes arounds root first left m → first ≤ left + cost nodes arounds root
 ended_cost nodes arounds root first left m paid = let h = paid.paid in omega (arith, h)
+
+pub ended_least : (nodes : List Node) (arounds : List ℕ) (root first left : ℕ) (m : Machine)
+    → IsPaid nodes arounds root first left m → m.tasks.items ≡ [] → left + least nodes arounds root ≤ first
+ended_least nodes arounds root first left m paid none =
+    let e = ap (tasks_least nodes (least nodes arounds)) none in
+    let h = paid.counted in omega (arith, e, h)
 
 pub ended : (nodes : List Node) (v w : Option Element) (before middle : Machine)
     → IsRunning nodes v before

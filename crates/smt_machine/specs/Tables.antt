@@ -3,6 +3,7 @@
 use Rattle.std.specs.Prelude.{ℕ, ◌+◌, List, [], ◌++◌, Option, Some, None, length, map, option_map, slice_get}
 use Rattle.smt_values.specs.Literals.{bin_element, hex_element, numeral_element}
 use Rattle.smt_machine.specs.Costs.{cost}
+use Rattle.smt_machine.specs.Least.{least}
 use Rattle.smt_machine.specs.Nodes as machine
 use Rattle.smt_nodes.specs.Node.{Node, Numeral, Hexadecimal, Binary, Slot, Apply, Declared, Defined, Let, Row}
 use Rattle.smt_nodes.specs.Nodes.{rows_of}
@@ -52,3 +53,7 @@ arounds_of tables =
 -- what a term of the script costs, by its number there
 abbrev pub term_cost : Tables → ℕ → ℕ
 term_cost tables term = cost (nodes_of tables) (arounds_of tables) (model_count tables + term)
+
+-- how many nodes are evaluated for it at least
+abbrev pub term_least : Tables → ℕ → ℕ
+term_least tables term = least (nodes_of tables) (arounds_of tables) (model_count tables + term)

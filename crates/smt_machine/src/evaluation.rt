@@ -12,13 +12,14 @@ ghost use Rattle.smt_values.specs.Element.{known_element};
 ghost use Rattle.smt_values.specs.KnownOperations.{known_truth};
 ghost use Rattle.smt_machine.specs.Costs.{cost};
 ghost use Rattle.smt_machine.specs.Given.{given};
+ghost use Rattle.smt_machine.specs.Least.{least};
 ghost use Rattle.smt_machine.specs.Internal.States.{state_of};
 ghost use Rattle.smt_machine.specs.Internal.Parts.{found, found_node, found_parts, meaning, number_of};
 ghost use Rattle.smt_machine.specs.Internal.Parts.{numbers_of};
 ghost use Rattle.smt_machine.specs.Internal.Tasks.{IsBased, IsChoice, IsStep, branches_of, charge};
 ghost use Rattle.smt_machine.specs.Memory.{Remembers};
 ghost use Rattle.smt_machine.specs.Nodes.{Apply, Call, Node as MachineNode};
-ghost use Rattle.smt_machine.specs.Tables.{arounds_of, call, model_count, nodes_of, term_cost};
+ghost use Rattle.smt_machine.specs.Tables.{arounds_of, call, model_count, nodes_of, term_cost, term_least};
 ghost use Rattle.smt_machine.specs.declared.task.Task.TheVariants.{Choose, Finish, Visit};
 
 use crate::machine::Machine;
@@ -48,6 +49,7 @@ impl Machine {
         ensures value { IfOk result (λ v. known_element v
             ≡ given (nodes_of tables.entry) (model_count tables.entry + term) []) }
         ensures fewer { OnOk result (left.new < left.old) }
+        ensures counted { OnOk result (left.new + term_least tables.entry term ≤ left.old) }
         ensures paid { OnOk result (left.old ≤ left.new + term_cost tables.entry term) }
     {
         match tables.shift().checked_add(term.number()) {
@@ -69,6 +71,8 @@ impl Machine {
         ensures serves { IfOk result (λ _. Remembers self.new (nodes_of tables.now)) }
         ensures value { IfOk result (λ v. known_element v ≡ given (nodes_of tables.now) root []) }
         ensures fewer { OnOk result (left.new < left.old) }
+        ensures counted { OnOk result
+            (left.new + least (nodes_of tables.now) (arounds_of tables.now) root ≤ left.old) }
         ensures paid { OnOk result
             (left.old ≤ left.new + cost (nodes_of tables.now) (arounds_of tables.now) root) }
     {

@@ -3,6 +3,7 @@
 ghost use Rattle.std.specs.Prelude.{◌≡◌, ℕ, ◌<◌, List, ◌++◌, length, slice_get};
 ghost use Rattle.smt_machine.specs.Costs.{around_at, cost, node_cost};
 ghost use Rattle.smt_machine.specs.Given.{given};
+ghost use Rattle.smt_machine.specs.Least.{least, node_least};
 ghost use Rattle.smt_machine.specs.Nodes.{Frame, Node, node_value};
 
 /// What is known of a node's value follows from its form and the nodes below it, at every number and in every
@@ -22,4 +23,10 @@ pub fn values_are_kept()
 pub fn nodes_have_their_costs()
     ensures { (nodes : List Node) (arounds : List ℕ) (i : ℕ) → cost nodes arounds i
         ≡ node_cost i (cost nodes arounds) (around_at arounds i) (slice_get nodes i) }
+{}
+
+/// How many nodes are evaluated at least for a node follows from the nodes below it, at every number.
+pub fn nodes_have_their_least()
+    ensures { (nodes : List Node) (arounds : List ℕ) (i : ℕ) → least nodes arounds i
+        ≡ node_least i (least nodes arounds) (around_at arounds i) (slice_get nodes i) }
 {}

@@ -4,3 +4,4 @@ pub mod RowLemmas
 pub mod SoundLemmas
 pub mod TableLemmas
 pub mod NumberLemmas
+pub mod PushLemmas

@@ -1,16 +1,23 @@
 -- Arguments that wait for their term, after those that waited before.
 use Rattle.std.proofs.Common.{◌≡◌, ◌-◌, ℕ, Bool, List, [], ◌∷◌, ◌++◌, length, drop, take, refl, ap, sym, ◌∙◌}
-use Rattle.std.proofs.Common.{◌≤◌, append-nil, arith, subst}
+use Rattle.std.proofs.Common.{◌≤◌, Ok, Result, append-nil, arith, subst}
 use Rattle.std.proofs.Math.Seq.{drop-append_seam}
 use Rattle.std.proofs.lemmas.List.{append_assoc, length-append, length-drop}
 use Rattle.smt_theory.specs.declared.sort.Sort.{Sort}
 use Rattle.smt_terms.specs.Internal.Calls.{HasTheSame, SeesTheSame}
-use Rattle.smt_terms.specs.Internal.DraftView.{argument_sorts, argument_terms, sorts_from, terms_from}
+use Rattle.smt_faults.specs.declared.term_flaw.TermFlaw.{TermFlaw}
+use Rattle.smt_terms.specs.Checking.{sort_in, sort_of_call, sorts_in}
+use Rattle.smt_terms.specs.Internal.DraftView.{argument_sorts, argument_terms, sorts_from, sorts_seen, terms_from}
+use Rattle.smt_terms.specs.Internal.LabelsView.{labels_view}
+use Rattle.smt_terms.specs.Internal.LibraryView.{names_for, names_of_library}
 use Rattle.smt_terms.specs.declared.library.arguments.Arguments.{Arguments}
-use Rattle.smt_forms.specs.Identifier.{Identifier}
+use Rattle.smt_forms.specs.Identifier.{Identifier, applied}
 use Rattle.smt_terms.specs.Internal.NodesView.{AddsApplied, Denoting, Stands}
+use Rattle.smt_terms.proofs.CheckerLemmas.{IsPlainHead, Scope}
+use Rattle.smt_terms.proofs.DraftLemmas.{sorts_kept}
+use Rattle.smt_terms.proofs.LabelLemmas.{called}
 use Rattle.smt_terms.proofs.PartNodeLemmas.{SoFar}
-use Rattle.smt_trees.specs.Sexp.{Sexp, Sexps}
+use Rattle.smt_trees.specs.Sexp.{Cons, Items, Sexp, Sexps}
 use Rattle.smt_terms.specs.declared.library.Library.{Library}
 use Rattle.smt_terms.specs.declared.library.draft.CheckedTerm.{CheckedTerm}
 use Rattle.smt_terms.specs.declared.library.draft.Draft.{Draft}
@@ -89,6 +96,19 @@ pub terms_start : (old new : Draft) (start : ℕ) (terms : List ℕ) → start �
 terms_start old new start terms from is =
     after_list (argument_terms old.arguments) terms (argument_terms new.arguments) start
     (from ∙ sym old.arguments.paired) is
+
+-- the sort of a list whose arguments wait so is that of the call that it is
+pub called_from : (library : Library) (old new : Draft) (head : Sexp) (args parts : Sexps) (f : Identifier) (start : ℕ)
+    (sorts : List Sort) → parts ≡ Cons head args → IsPlainHead head → applied head args ≡ Ok f
+    → sorts_in (names_for library (labels_view old.labels)) (sorts_seen old) args ≡ Ok sorts
+    → argument_sorts new.arguments ≡ argument_sorts old.arguments ++ sorts → start ≡ waiting old → SeesTheSame old new
+    → sort_in (names_for library (labels_view old.labels)) (sorts_seen old) (Items parts)
+    ≡ sort_of_call (names_of_library library) (sorts_seen new) f (sorts_from start new.arguments)
+called_from library old new head args parts f start sorts split other is found wait from kept =
+    let given = sorts_from start new.arguments in
+    let call : Scope → Result Sort TermFlaw = λ vs. sort_of_call (names_of_library library) vs f given in
+    called library (labels_view old.labels) (sorts_seen old) head args parts f sorts given (call (sorts_seen new))
+    split other is found (sorts_start old new start sorts from wait) (ap call (sorts_kept old new kept))
 
 pub since_within : (old new : Draft) (start : ℕ) (sorts : List Sort) → start ≡ waiting old
     → argument_sorts new.arguments ≡ argument_sorts old.arguments ++ sorts → start ≤ waiting new

@@ -50,9 +50,9 @@ module _ (t : Table) (i later : ℕ) (row : Row) (at : slice_get t.rows i ≡ So
   annotated_around : (slots : Slots) (next around : ℕ) (term : Sexp) (labels : List (List ℕ))
       → (Denotes t slots next (around + 1) i term → Denotes t slots next (around + 1 + 1) later term)
       → unless_labelled labels (Denotes t slots next (around + 1) i term)
-      (UsesNone slots term × IsNameOf t around i (λ j. Denotes t [] 0 0 j term))
+      (λ label. UsesNone slots term × IsNameOf t label around i (λ j. Denotes t [] 0 0 j term))
       → unless_labelled labels (Denotes t slots next (around + 1 + 1) later term)
-      (UsesNone slots term × IsNameOf t (around + 1) later (λ j. Denotes t [] 0 0 j term))
+      (λ label. UsesNone slots term × IsNameOf t label (around + 1) later (λ j. Denotes t [] 0 0 j term))
   annotated_around slots next around term [] bare h = bare h
   annotated_around slots next around term (label ∷ labels) bare h =
       let n = h.1 in (
@@ -60,10 +60,11 @@ module _ (t : Table) (i later : ℕ) (row : Row) (at : slice_get t.rows i ≡ So
         (
           n.0,
           n.1,
-          row_around around (Some (node.Defined n.0 [])) n.2,
-          n.3,
-          omega (arith, n.4, before),
-          n.5,
+          n.2,
+          row_around around (Some (node.Defined n.0 [])) n.3,
+          n.4,
+          omega (arith, n.5, before),
+          n.6,
         ),
       )
 

@@ -16,9 +16,9 @@ use Rattle.smt_terms.specs.Checking.{sort_in}
 use Rattle.smt_terms.specs.Contents.{Contents, Extends, IsWithin, contents_of, first_of}
 use Rattle.smt_nodes.specs.Node.{Row}
 use Rattle.smt_terms.specs.Denotes.{IsLonger, Table}
-use Rattle.smt_terms.specs.Internal.Growing.{AreFitUnder, HoldsUnder, IsFitUnder, terms_under}
+use Rattle.smt_terms.specs.Internal.Growing.{AreFitUnder, Bodies, HoldsUnder, IsFitUnder, terms_under}
 use Rattle.smt_terms.specs.Internal.LabelsView.{AreNew, AreSorted, label_entry}
-use Rattle.smt_terms.specs.Internal.TableView.{AreNamed, table_with}
+use Rattle.smt_terms.specs.Internal.TableView.{AreNamed, names_of_definitions, table_with}
 use Rattle.smt_terms.specs.Internal.LibraryView.{names_for, names_of_library, ranks_of_library}
 use Rattle.smt_terms.specs.Labels as spec
 use Rattle.smt_forms.specs.Labels.{labels_in}
@@ -159,7 +159,7 @@ asserted_ill library s labels term sort stands view has other =
 -- ## What labels stand for
 
 -- labels that fit, with nodes that stand for their terms, over the table that the term was checked over
-fits_named : (names : Names) (t : Table) (bodies : List ℕ) (c : Contents) (s : Signature) (ls : List Label)
+fits_named : (names : Names) (t : Table) (bodies : Bodies) (c : Contents) (s : Signature) (ls : List Label)
     → names.theories ≡ s.theories → IsLonger t (terms_under bodies c) → AreFit names (given_as ls)
     → AreNamed t ls → AreFitUnder bodies c s ls
 fits_named names t bodies c s [] same longer fits named = tt
@@ -175,7 +175,7 @@ fits_named names t bodies c s (l ∷ ls) same longer fits named = (
 
 -- those of an assertion, over the bodies with their own
 pub given_named : (library : Library) (labels : spec.Labels) (given : List Label) (term : Sexp) (sort : Sort)
-    (rows : List Row) (bodies : List ℕ) (now : Contents) (s : Signature) → StandsFor library s
+    (rows : List Row) (bodies : Bodies) (now : Contents) (s : Signature) → StandsFor library s
     → labels ≡ spec.Given [] → sort_in (names_for library labels) [] term ≡ Ok sort
     → given_as given ≡ labels_in term
     → IsLonger (table_with library given rows) (terms_under bodies now)
@@ -190,9 +190,11 @@ given_named library labels given term sort rows bodies now s stands view has sam
 pub record AreAdded (old now : Library) (all left : List Label) : Type 0 where
   pub done : List Label
   pub are : all ≡ done ++ left
-  pub stands : (bodies : List ℕ) (s : Signature) → HoldsUnder bodies (contents_of old) s
+  pub stands : (bodies : Bodies) (s : Signature) → HoldsUnder bodies (contents_of old) s
       → AreFitUnder bodies (contents_of old) s all
       → HoldsUnder bodies (contents_of now) (with_entries s (map label_entry done))
+  pub names : names_of_definitions now.definitions.items
+      ≡ names_of_definitions old.definitions.items ++ map (λ l. l.name.items) done
   pub bodies : now.bodies.items ≡ old.bodies.items ++ map (λ l. l.node) done
   pub new : AreNew (ranks_of_library now) left
   pub grown : Extends (contents_of old) (contents_of now)
@@ -211,13 +213,13 @@ one_entry s done e = λ i. record {
 }
 
 -- the one behind others that fit
-fit_behind : (bodies : List ℕ) (c : Contents) (s : Signature) (done : List Label) (l : Label) (rest : List Label)
+fit_behind : (bodies : Bodies) (c : Contents) (s : Signature) (done : List Label) (l : Label) (rest : List Label)
     → AreFitUnder bodies c s (done ++ l ∷ rest) → IsFitUnder bodies c s l
 fit_behind bodies c s [] l rest fits = fits.0
 fit_behind bodies c s (d ∷ done) l rest fits = fit_behind bodies c s done l rest fits.1
 
 -- a label that fits does so in longer contents, over the same bodies and more names
-pub fit_longer : (bodies : List ℕ) (c d : Contents) (s t : Signature) (l : Label) → t.theories ≡ s.theories
+pub fit_longer : (bodies : Bodies) (c d : Contents) (s t : Signature) (l : Label) → t.theories ≡ s.theories
     → IsLonger (terms_under bodies c) (terms_under bodies d) → IsFitUnder bodies c s l
     → IsFitUnder bodies d t l
 fit_longer bodies c d s t l same longer fits = record {
@@ -232,23 +234,32 @@ AreAdded-none library all new = record {
   done = [];
   are = refl;
   stands = λ bodies s h fits. subst (λ r. HoldsUnder bodies (contents_of library) r) (no_entries s) h;
+  names = sym (append-nil (names_of_definitions library.definitions.items));
   bodies = sym (append-nil library.bodies.items);
   new = new;
   grown = extends_itself (contents_of library);
   transient = refl;
 }
 
+-- what is seen of one more label, behind others
+one_behind : {A : Type 0} (f : Label → A) (old : List A) (done : List Label) (l : Label) {mid now : List A}
+    → mid ≡ old ++ map f done → now ≡ mid ++ f l ∷ [] → now ≡ old ++ map f (done ++ l ∷ [])
+one_behind {A = A} f old done l first then =
+    then ∙ ap (λ (xs : List A). xs ++ f l ∷ []) first ∙ append_assoc old (map f done) (f l ∷ [])
+    ∙ ap (λ (xs : List A). old ++ xs) (sym (map-append f done (l ∷ [])))
+
 pub AreAdded-next : (old mid now : Library) (all left rest : List Label) (l : Label)
     → AreAdded old mid all left → left ≡ l ∷ rest
-    → ((bodies : List ℕ) (s : Signature) → HoldsUnder bodies (contents_of mid) s
+    → ((bodies : Bodies) (s : Signature) → HoldsUnder bodies (contents_of mid) s
     → IsFitUnder bodies (contents_of mid) s l
     → HoldsUnder bodies (contents_of now) (with_entry s (label_entry l)))
     → ranks_of_library now ≡ ranks_of_library mid ++ (l.name.items, rank_of_entry (label_entry l)) ∷ []
+    → names_of_definitions now.definitions.items ≡ names_of_definitions mid.definitions.items ++ l.name.items ∷ []
     → now.bodies.items ≡ mid.bodies.items ++ l.node ∷ []
     → Extends (contents_of mid) (contents_of now) → now.transient ≡ mid.transient → AreAdded old now all rest
-AreAdded-next old mid now all left rest l first split added ranks joined grown transient =
+AreAdded-next old mid now all left rest l first split added ranks named joined grown transient =
     let parts : all ≡ first.done ++ l ∷ rest = first.are ∙ ap (λ (ls : List Label). first.done ++ ls) split in
-    let longer = λ (bodies : List ℕ).
+    let longer = λ (bodies : Bodies).
     under_longer bodies (contents_of old) (contents_of mid) first.grown.theories first.grown.heads
     first.grown.rows in
     record {
@@ -263,14 +274,20 @@ AreAdded-next old mid now all left rest l first split added ranks joined grown t
           refl (longer bodies)
           (fit_behind bodies (contents_of old) s first.done l rest
           (subst (λ ls. AreFitUnder bodies (contents_of old) s ls) parts fits)))));
-      bodies = joined ∙ ap (λ (bs : List ℕ). bs ++ l.node ∷ []) first.bodies
-          ∙ append_assoc old.bodies.items (map (λ k. k.node) first.done) (l.node ∷ [])
-          ∙ ap (λ (bs : List ℕ). old.bodies.items ++ bs) (sym (map-append (λ (k : Label). k.node) first.done (l ∷ [])));
+      names = one_behind (λ k. k.name.items) (names_of_definitions old.definitions.items) first.done l first.names
+          named;
+      bodies = one_behind (λ k. k.node) old.bodies.items first.done l first.bodies joined;
       new = subst (λ rs. AreNew rs rest) (sym ranks)
           (subst (λ ls. AreNew (ranks_of_library mid) ls) split first.new).1;
       grown = extends_on (contents_of old) (contents_of mid) (contents_of now) first.grown grown;
       transient = transient ∙ first.transient;
     }
+
+-- what is seen of labels that were added where nothing else has come
+pub labels_added : {A : Type 0} (f : Label → A) (old : List A) (added given : List Label) {mid now : List A}
+    → now ≡ mid ++ map f added → mid ≡ old → added ≡ given → now ≡ old ++ map f given
+labels_added {A = A} f old added given grown kept same =
+    grown ∙ ap (λ (xs : List A). xs ++ map f added) kept ∙ ap (λ (ls : List Label). old ++ map f ls) same
 
 -- ## Undoing
 

@@ -16,7 +16,10 @@ use Rattle.smt_terms.specs.Internal.Calls.{SeesTheSame, has_labels}
 use Rattle.smt_terms.specs.Internal.DraftView.{Variables, inside, placed_from, seen_by, sorts_seen}
 use Rattle.smt_terms.specs.Internal.NodesView.{AddsAround, AddsNode, BindingsStand, GrowsTo, Stands}
 use Rattle.smt_terms.specs.Internal.NodesView.{nodes_given}
-use Rattle.smt_terms.specs.Internal.TableView.{AreNamed, IsReady, places_seen, rows_in, slots_seen, table_in}
+use Rattle.smt_terms.specs.Internal.LabelsView.{given_names, given_terms}
+use Rattle.smt_terms.specs.Internal.TableView.{AreNamed, IsReady, names_of_definitions, places_seen, rows_in}
+use Rattle.smt_terms.specs.Internal.TableView.{slots_seen, table_in}
+use Rattle.smt_terms.specs.declared.labels.Label.{Label}
 use Rattle.smt_terms.specs.declared.labels.Labels.{Labels}
 use Rattle.smt_terms.specs.declared.library.Library.{Library}
 use Rattle.smt_terms.specs.declared.library.draft.CheckedTerm.{CheckedTerm}
@@ -26,6 +29,7 @@ use Rattle.smt_terms.proofs.CheckerLemmas.{Scope}
 use Rattle.smt_terms.proofs.ClosedLemmas.{neither}
 use Rattle.smt_terms.proofs.DenotesLemmas.{bound_kept, denotes_kept, slice_get-append}
 use Rattle.smt_terms.proofs.DraftLemmas.{inside_none, names_of, no_labels, places_more, slots_more, uses_none}
+use Rattle.smt_terms.proofs.LabelLemmas.{given_names_of}
 use Rattle.smt_terms.proofs.NodeLemmas.{added, made_stands}
 use Rattle.smt_terms.proofs.TableLemmas.{grows_on, grows_same, keeps_labels, keeps_on, named_kept, ready_kept}
 use Rattle.smt_terms.proofs.TableLemmas.{grows_given}
@@ -132,14 +136,15 @@ let_stands library d mid inner last cut new args bindings body bound js b checke
 -- ## Annotated terms
 
 -- what holds of a term without labels, and of one with some
-bare_holds : (xs : List (List ℕ)) (bare labelled : Type 0) → xs ≡ [] → bare → unless_labelled xs bare labelled
+bare_holds : (xs : List (List ℕ)) (bare : Type 0) (labelled : List ℕ → Type 0) → xs ≡ [] → bare
+    → unless_labelled xs bare labelled
 bare_holds [] bare labelled none h = h
 bare_holds (x ∷ xs) bare labelled none h = cc
 
-labelled_holds : (xs : List (List ℕ)) (bare labelled : Type 0) → has_labels xs ≡ true → labelled
-    → unless_labelled xs bare labelled
+labelled_holds : (xs : List (List ℕ)) (bare : Type 0) (labelled : List ℕ → Type 0) → has_labels xs ≡ true
+    → ((x : List ℕ) (rest : List (List ℕ)) → xs ≡ x ∷ rest → labelled x) → unless_labelled xs bare labelled
 labelled_holds [] bare labelled some h = cc
-labelled_holds (x ∷ xs) bare labelled some h = h
+labelled_holds (x ∷ xs) bare labelled some h = h x xs refl
 
 -- one without labels
 pub annotated_stands : (library : Library) (d mid new : Draft) (args attributes : Sexps) (term : Sexp)
@@ -181,34 +186,40 @@ at_seam : {A : Type 0} (xs : List A) (y : A) (ys : List A) → slice_get (xs ++ 
 at_seam [] y ys = refl
 at_seam (x ∷ xs) y ys = at_seam xs y ys
 
--- the body of the first label that is given
+-- what is seen of the first label that is given, behind what is seen of the others
+first_given : {A : Type 0} (f : Label → A) (before : List A) (old new : List Label) (y : A) (ys : List A)
+    → map f new ≡ map f old ++ y ∷ ys → slice_get (before ++ map f new) (length before + length old) ≡ Some y
+first_given {A = A} f before old new y ys more =
+    ap (λ (zs : List A). slice_get (before ++ zs) (length before + length old)) more
+    ∙ ap (λ (zs : List A). slice_get zs (length before + length old)) (sym (append_assoc before (map f old) (y ∷ ys)))
+    ∙ ap (λ (k : ℕ). slice_get ((before ++ map f old) ++ y ∷ ys) k)
+    (sym (length-append before (map f old) ∙ ap (λ (k : ℕ). length before + k) (length-map old f)))
+    ∙ at_seam (before ++ map f old) y ys
+
+-- its body
 first_body : (bodies : List ℕ) (old new : Labels) (n : ℕ) (xs : List (List ℕ)) → has_labels xs ≡ true
     → nodes_given new ≡ nodes_given old ++ map (λ x. n) xs
     → slice_get (bodies ++ nodes_given new) (length bodies + length old.given.items) ≡ Some n
 first_body bodies old new n [] some more = cc
 first_body bodies old new n (x ∷ xs) some more =
-    ap (λ (ns : List ℕ). slice_get (bodies ++ ns) (length bodies + length old.given.items)) more
-    ∙ ap (λ (ns : List ℕ). slice_get ns (length bodies + length old.given.items))
-    (sym (append_assoc bodies (nodes_given old) (n ∷ map (λ y. n) xs)))
-    ∙ ap (λ (k : ℕ). slice_get ((bodies ++ nodes_given old) ++ n ∷ map (λ (y : List ℕ). n) xs) k)
-    (sym (length-append bodies (nodes_given old)
-    ∙ ap (λ (k : ℕ). length bodies + k) (length-map old.given.items (λ l. l.node))))
-    ∙ at_seam (bodies ++ nodes_given old) n (map (λ y. n) xs)
+    first_given (λ l. l.node) bodies old.given.items new.given.items n (map (λ y. n) xs) more
 
 -- a term with labels, the first of which names it
 pub labelled_stands : (library : Library) (d inner mid given new : Draft) (term : Sexp) (attributes : Sexps)
-    (place : ℕ) (checked c : CheckedTerm) → inner.labels ≡ d.labels → inner.nodes ≡ d.nodes
+    (place : ℕ) (checked c : CheckedTerm) (more : List Label) → inner.labels ≡ d.labels → inner.nodes ≡ d.nodes
     → inner.base ≡ length (seen_by inner) → GrowsTo inner mid → Stands library inner mid term checked
     → checked.is_open ≡ false → uses_variable (sorts_seen d) term ≡ false
     → place ≡ length library.bodies.items + length mid.labels.given.items
     → has_labels (labels_among attributes) ≡ true → given.nodes ≡ mid.nodes
+    → given.labels.given.items ≡ mid.labels.given.items ++ more
+    → given_terms given.labels ≡ given_terms mid.labels ++ map (λ x. (x, term)) (labels_among attributes)
     → nodes_given given.labels ≡ nodes_given mid.labels ++ map (λ x. checked.node) (labels_among attributes)
     → ((t : Table) → AreNamed t mid.labels.given.items → Denotes t [] 0 0 checked.node term
     → AreNamed t given.labels.given.items)
     → GrowsTo given new → AddsNode library.nodes given new (node.Defined place []) c
     → Stands library d new (Items (Cons (Reserved Bang) (Cons term attributes))) c
-labelled_stands library d inner mid given new term attributes place checked c labels nodes base first stands closed
-    unused is_place some same_nodes more named last adds =
+labelled_stands library d inner mid given new term attributes place checked c more labels nodes base first stands
+    closed unused is_place some same_nodes longer terms bodies named last adds =
     made_stands library d given new (Items (Cons (Reserved Bang) (Cons term attributes))) (node.Defined place []) c
     to_given
     (λ ready is. named (table_in library given)
@@ -217,24 +228,25 @@ labelled_stands library d inner mid given new term attributes place checked c la
     (body given step ready)) last adds
     (λ ready outer_closed. (
       (checked.node, at given refl, below),
-      λ is. labelled_holds (labels_among attributes) _ _ some (
+      λ is. labelled_holds (labels_among attributes) _ _ some (λ label rest split. (
         uses_none (seen_by d) d.base term unused,
         (
           place,
           checked.node,
+          name_at label rest split,
           is.0,
           at new adds.labels,
           below,
           body new (grows_on mid given new step last) ready,
         ),
-      ),
+      )),
     ))
   where
     to_inner : GrowsTo d inner
     to_inner = grows_same d inner labels nodes
 
     step : GrowsTo mid given
-    step = grows_given mid given (map (λ x. checked.node) (labels_among attributes)) same_nodes more
+    step = grows_given mid given more same_nodes longer
 
     to_given : GrowsTo d given
     to_given = grows_on d mid given (grows_on d inner mid to_inner first) step
@@ -265,4 +277,16 @@ labelled_stands library d inner mid given new term attributes place checked c la
     at u same =
         ap (λ (k : ℕ). slice_get (library.bodies.items ++ nodes_given u.labels) k) is_place
         ∙ first_body library.bodies.items mid.labels u.labels checked.node (labels_among attributes) some
-        (ap nodes_given same ∙ more)
+        (ap nodes_given same ∙ bodies)
+
+    name_at : (label : List ℕ) (rest : List (List ℕ)) → labels_among attributes ≡ label ∷ rest
+        → slice_get (table_in library new).names place ≡ Some label
+    name_at label rest split =
+        let before = names_of_definitions library.definitions.items in
+        let paired : length library.bodies.items ≡ length before =
+        library.paired ∙ sym (length-map library.definitions.items (λ d. d.name.items)) in
+        ap (λ (k : ℕ). slice_get (before ++ given_names new.labels) k)
+        (is_place ∙ ap (λ (k : ℕ). k + length mid.labels.given.items) paired)
+        ∙ first_given (λ l. l.name.items) before mid.labels.given.items new.labels.given.items label rest
+        (ap given_names adds.labels ∙ given_names_of mid.labels given.labels (labels_among attributes) term terms
+        ∙ ap (λ (xs : List (List ℕ)). given_names mid.labels ++ xs) split)

@@ -43,6 +43,7 @@ first_longer n t u longer =
     record {
       theories = longer.theories;
       heads = (r.0, ap (take n) longer.heads.1 ∙ r.1);
+      names = longer.names;
       bodies = longer.bodies;
       rows = longer.rows;
     }
@@ -163,10 +164,10 @@ denotes_within t slots next around i (Items (Cons (Reserved Bang) (Cons term att
     by (labels_among attributes) d (denotes_within t slots next (around + 1) i term)
   where
     by : (labels : List (List ℕ)) → unless_labelled labels (Denotes t slots next (around + 1) i term)
-        (UsesNone slots term × IsNameOf t around i (λ j. Denotes t [] 0 0 j term))
+        (λ label. UsesNone slots term × IsNameOf t label around i (λ j. Denotes t [] 0 0 j term))
         → (Denotes t slots next (around + 1) i term → i < length t.rows) → i < length t.rows
     by [] h bare = bare h
-    by (label ∷ labels) h bare = row_within t.rows i around (Some (node.Defined h.1.0 [])) h.1.2
+    by (label ∷ labels) h bare = row_within t.rows i around (Some (node.Defined h.1.0 [])) h.1.3
 denotes_within t slots next around i (Items (Cons head args)) d =
     row_within t.rows i around (node_of t d.0 d.1) d.3.0
 denotes_within t slots next around i _ d = absurd d

@@ -84,6 +84,10 @@ pub record IsPlainHead (head : Sexp) : Type 0 where
   pub no_let : begins_let head ≡ false
   pub no_bang : begins_annotated head ≡ false
 
+pub plain_head : (head : Sexp) → false ≡ begins_indexed head → false ≡ begins_let head → false ≡ begins_annotated head
+    → IsPlainHead head
+plain_head head index is_let bang = record { no_index = sym index; no_let = sym is_let; no_bang = sym bang }
+
 -- a list with another head applies an identifier, or is out of form
 pub other_head : (names : Names) (scope : Scope) (head : Sexp) (args : Sexps)
     → begins_indexed head ≡ false → begins_let head ≡ false → begins_annotated head ≡ false

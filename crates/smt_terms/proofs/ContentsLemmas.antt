@@ -2,7 +2,7 @@
 use Rattle.std.proofs.Common.{◌≡◌, ◌≤◌, ℕ, zero, suc, ◌+◌, List, [], ◌∷◌, ◌++◌, length, map, take}
 use Rattle.std.proofs.Common.{refl, ap, sym, ◌∙◌, arith, append_assoc, Result, Ok, Err, OnOk, OnErr}
 use Rattle.std.specs.Global.{Vec}
-use Rattle.std.proofs.lemmas.List.{append-nil, length-append, length-take-le, take-append-le, take-map}
+use Rattle.std.proofs.lemmas.List.{append-nil, length-append, length-take-le, map-append, take-append-le, take-map}
 use Rattle.smt_trees.specs.Sexp.{Sexp}
 use Rattle.smt_theory.specs.declared.sort.Sort.{Sort}
 use Rattle.smt_nodes.specs.Node.{Row}
@@ -12,6 +12,7 @@ use Rattle.smt_terms.specs.Contents.{first_of, terms_in}
 use Rattle.smt_terms.specs.Denotes.{IsLonger}
 use Rattle.smt_terms.specs.Internal.Growing.{KeepsNames}
 use Rattle.smt_terms.specs.Internal.LibraryView.{abbreviations_of}
+use Rattle.smt_terms.specs.Internal.TableView.{names_of_definitions}
 use Rattle.smt_terms.specs.Library.{IsTermOf}
 use Rattle.smt_terms.specs.declared.library.Declared.{Declared}
 use Rattle.smt_terms.specs.declared.library.Definition.{Definition}
@@ -124,11 +125,19 @@ earlier_within mark later c below within = record {
   rows = within_earlier mark.nodes later.nodes c.rows below.nodes within.rows;
 }
 
+-- the names of definitions go on as these do
+pub names_go_on : (ds es : List Definition) → Goes ds es → Goes (names_of_definitions ds) (names_of_definitions es)
+names_go_on ds es (more, is) = (
+  names_of_definitions more,
+  ap names_of_definitions is ∙ map-append (λ (d : Definition). d.name.items) ds more,
+)
+
 -- the table of longer contents is longer
 pub terms_longer : (c d : Contents) → Extends c d → IsLonger (terms_in c) (terms_in d)
 terms_longer c d more = record {
   theories = more.theories;
   heads = more.heads;
+  names = names_go_on c.definitions d.definitions more.definitions;
   bodies = more.bodies;
   rows = more.rows;
 }

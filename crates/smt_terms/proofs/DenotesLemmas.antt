@@ -55,6 +55,10 @@ module _ (t u : Table) (longer : IsLonger t u) where
           (sym (ap (λ rows. slice_get rows i) longer.rows.1
           ∙ slice_get-append t.rows longer.rows.0 i row is)) h
 
+  name_kept : (p : ℕ) (label : List ℕ) → slice_get t.names p ≡ Some label → slice_get u.names p ≡ Some label
+  name_kept p label h =
+      ap (λ names. slice_get names p) longer.names.1 ∙ slice_get-append t.names longer.names.0 p label h
+
   pub body_kept : (p j : ℕ) → slice_get t.bodies p ≡ Some j → slice_get u.bodies p ≡ Some j
   body_kept p j h =
       ap (λ bodies. slice_get bodies p) longer.bodies.1 ∙ slice_get-append t.bodies longer.bodies.0 p j h
@@ -107,9 +111,9 @@ module _ (t u : Table) (longer : IsLonger t u) where
       → (Denotes t slots next (around + 1) i term → Denotes u slots next (around + 1) i term)
       → ((j : ℕ) → Denotes t [] 0 0 j term → Denotes u [] 0 0 j term)
       → unless_labelled labels (Denotes t slots next (around + 1) i term)
-      (UsesNone slots term × IsNameOf t around i (λ j. Denotes t [] 0 0 j term))
+      (λ label. UsesNone slots term × IsNameOf t label around i (λ j. Denotes t [] 0 0 j term))
       → unless_labelled labels (Denotes u slots next (around + 1) i term)
-      (UsesNone slots term × IsNameOf u around i (λ j. Denotes u [] 0 0 j term))
+      (λ label. UsesNone slots term × IsNameOf u label around i (λ j. Denotes u [] 0 0 j term))
   annotated_kept slots next around i term [] bare labelled h = bare h
   annotated_kept slots next around i term (label ∷ labels) bare labelled h =
       let n = h.1 in (
@@ -117,10 +121,11 @@ module _ (t u : Table) (longer : IsLonger t u) where
         (
           n.0,
           n.1,
-          row_kept i around (Some (node.Defined n.0 [])) n.2,
-          body_kept n.0 n.1 n.3,
-          n.4,
-          labelled n.1 n.5,
+          name_kept n.0 label n.2,
+          row_kept i around (Some (node.Defined n.0 [])) n.3,
+          body_kept n.0 n.1 n.4,
+          n.5,
+          labelled n.1 n.6,
         ),
       )
 

@@ -12,25 +12,25 @@ use Rattle.smt_trees.specs.declared.reserved.Word.TheVariants.{Bang, Let, Unders
 use Rattle.smt_theory.specs.Words.{look_up, result_and_then}
 use Rattle.smt_theory.specs.declared.sort.Sort.{Sort}
 use Rattle.smt_theory.specs.declared.sort.Sort.TheVariants.{Bool as Boolean}
-use Rattle.smt_forms.specs.Bindings.{are_attributes, named_trees}
-use Rattle.smt_forms.specs.Labels.{labels_among, labels_in}
+use Rattle.smt_forms.specs.Bindings.{are_attributes, are_bindings, named_trees}
+use Rattle.smt_forms.specs.Labels.{labels_among, labels_in, labels_in_bindings}
 use Rattle.smt_forms.specs.Variables.{any_uses_outer, bindings_use_outer, is_among, uses_outer, uses_variable}
 use Rattle.smt_faults.specs.Outcome.{IsOutcome, Tells}
 use Rattle.smt_faults.specs.declared.term_fault.TermFault.{TermFault}
 use Rattle.smt_faults.specs.declared.term_flaw.TermFlaw.{TermFlaw}
 use Rattle.smt_faults.specs.declared.term_flaw.TermFlaw.TheVariants.{Label}
 use Rattle.smt_terms.specs.Denotes.{UsesNone, slots_from}
-use Rattle.smt_terms.specs.Checking.{flaw_of_label, flaw_of_labels, sort_in, unless}
+use Rattle.smt_terms.specs.Checking.{bound_in, flaw_of_label, flaw_of_labels, sort_in, unless}
 use Rattle.smt_terms.specs.Freshness.{NewLabel, where_fresh}
-use Rattle.smt_terms.specs.Internal.LabelsView.{given_names, labels_view}
+use Rattle.smt_terms.specs.Internal.LabelsView.{AreGiven, given_names, labels_view}
 use Rattle.smt_terms.specs.Internal.LibraryView.{names_for, names_of_library}
 use Rattle.smt_terms.specs.Labels as spec
 use Rattle.smt_terms.specs.Signature.{Names, behind}
 use Rattle.smt_terms.specs.declared.labels.Labels.{Labels}
 use Rattle.smt_terms.specs.declared.library.Library.{Library}
 use Rattle.smt_terms.specs.declared.library.draft.CheckedTerm.{CheckedTerm}
-use Rattle.smt_terms.proofs.BinderLemmas.{bang_in, bang_with_parts}
-use Rattle.smt_terms.proofs.LabelLemmas.{or_none}
+use Rattle.smt_terms.proofs.BinderLemmas.{bang_in, bang_with_parts, let_in, let_of_body}
+use Rattle.smt_terms.proofs.LabelLemmas.{names_behind, or_none}
 use Rattle.smt_terms.specs.Internal.DraftView.{AreBelow, AreFrom, IsPlaced, Variables, inside, outside}
 use Rattle.smt_terms.specs.Internal.Calls.{SeesTheSame, has_labels}
 use Rattle.smt_terms.specs.Internal.DraftView.{are_open, are_open_bindings, is_open, names_inside, placed_from}
@@ -615,6 +615,23 @@ bound_sorts n bound scope old new more is =
     ∙ ap (λ (vs : Scope). vs ++ sorts_of old) (sorts-placed n bound) ∙ ap (λ (vs : Scope). bound ++ vs) is
 
 -- a `let` uses a variable from outside where its bindings do, or its body
+-- the sort of a `let` is that of its body, which sees the variables that were bound
+pub let_sorted : (library : Library) (d mid inner : Draft) (bound : Scope) (args bindings : Sexps) (body : Sexp)
+    → args ≡ Cons (Items bindings) (Cons body Nil) → are_bindings bindings ≡ true
+    → bound_in (names_for library (labels_view d.labels)) (sorts_seen d) [] bindings ≡ Ok bound
+    → AreGiven (names_of_library library) d.labels mid.labels (labels_in_bindings bindings) → SeesTheSame d mid
+    → seen_by inner ≡ placed_from (length (seen_by mid)) bound ++ seen_by mid → inner.labels ≡ mid.labels
+    → let_in (names_for library (labels_view d.labels)) (sorts_seen d) args
+    ≡ sort_in (names_for library (labels_view inner.labels)) (sorts_seen inner) body
+let_sorted library d mid inner bound args bindings body split is found given kept more labels =
+    let_of_body (names_for library (labels_view d.labels)) (names_for library (labels_view inner.labels)) (sorts_seen d)
+    (sorts_seen inner) bound args bindings body
+    (ap (λ (ls : Labels). names_for library (labels_view ls)) labels
+    ∙ names_behind library (names_of_library library) d.labels mid.labels (labels_in_bindings bindings) given)
+    split is found
+    (bound_sorts (length (seen_by mid)) bound (sorts_seen d) (seen_by mid) (seen_by inner) more
+    (sorts_kept d mid kept))
+
 pub open_let : (d mid inner : Draft) (bindings args : Sexps) (body : Sexp) (bound : Scope) (b c : Bool)
     → SeesTheSame d mid → d.base ≤ length (seen_by d)
     → seen_by inner ≡ placed_from (length (seen_by mid)) bound ++ seen_by mid → inner.base ≡ mid.base

@@ -41,9 +41,10 @@ module _ (n : ℕ) (t : Table) where
       → (Denotes t slots next (around + 1) i term → Denotes (first_rows n t) slots next (around + 1) i term)
       → ((j : ℕ) → j < n → Denotes t [] 0 0 j term → Denotes (first_rows n t) [] 0 0 j term)
       → unless_labelled labels (Denotes t slots next (around + 1) i term)
-      (UsesNone slots term × IsNameOf t around i (λ j. Denotes t [] 0 0 j term))
+      (λ label. UsesNone slots term × IsNameOf t label around i (λ j. Denotes t [] 0 0 j term))
       → unless_labelled labels (Denotes (first_rows n t) slots next (around + 1) i term)
-      (UsesNone slots term × IsNameOf (first_rows n t) around i (λ j. Denotes (first_rows n t) [] 0 0 j term))
+      (λ label. UsesNone slots term
+      × IsNameOf (first_rows n t) label around i (λ j. Denotes (first_rows n t) [] 0 0 j term))
   annotated_left slots next around i term [] within bare labelled h = bare h
   annotated_left slots next around i term (label ∷ labels) within bare labelled h =
       let m = h.1 in (
@@ -51,10 +52,11 @@ module _ (n : ℕ) (t : Table) where
         (
           m.0,
           m.1,
-          row_left i around (Some (node.Defined m.0 [])) within m.2,
-          m.3,
+          m.2,
+          row_left i around (Some (node.Defined m.0 [])) within m.3,
           m.4,
-          labelled m.1 (omega (arith, m.4, within)) m.5,
+          m.5,
+          labelled m.1 (omega (arith, m.5, within)) m.6,
         ),
       )
 
@@ -147,6 +149,7 @@ holds_left n c s below stands = record {
     theories = stands.terms.theories;
     heads = stands.terms.heads;
     free = stands.terms.free;
+    names = stands.terms.names;
     bodies = bodies_left n (terms_in c) 0 c.bodies s.entries below stands.terms.bodies;
   };
 }

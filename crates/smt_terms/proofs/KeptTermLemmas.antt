@@ -13,8 +13,8 @@ use Rattle.smt_forms.specs.declared.variable.Variable.{Variable}
 use Rattle.smt_terms.specs.Checking.{sort_in}
 use Rattle.smt_terms.specs.Contents.{Contents, contents_of}
 use Rattle.smt_terms.specs.Denotes.{Denotes, IsLonger, slots_from}
-use Rattle.smt_terms.specs.Internal.Growing.{IsBodyUnder, KeepsNames, terms_under}
-use Rattle.smt_terms.specs.Internal.TableView.{table_with}
+use Rattle.smt_terms.specs.Internal.Growing.{Bodies, IsBodyUnder, KeepsNames, terms_under}
+use Rattle.smt_terms.specs.Internal.TableView.{names_of_definitions, table_with}
 use Rattle.smt_terms.specs.Internal.LibraryView.{names_for, names_of_library}
 use Rattle.smt_terms.specs.Labels.{Labels, Refused}
 use Rattle.smt_terms.specs.declared.labels.Label.{Label}
@@ -35,13 +35,15 @@ checked_keeps r old new grown unchanged names sorts declared definitions bodies 
     (more_rows r (rows_of old.nodes) (rows_of new.nodes) grown unchanged)
 
 -- the table that a term was checked over is the first part of a later one
-pub checked_longer : (old : Library) (now : Contents) (given : List Label) (rows : List Row) (bodies : List ℕ)
+pub checked_longer : (old : Library) (now : Contents) (given : List Label) (rows : List Row) (bodies : Bodies)
     → now.theories ≡ old.sorts.theories → Goes (contents_of old).heads now.heads
-    → Goes (old.bodies.items ++ map (λ l. l.node) given) bodies → Goes rows now.rows
+    → Goes (names_of_definitions old.definitions.items ++ map (λ l. l.name.items) given) bodies.names
+    → Goes (old.bodies.items ++ map (λ l. l.node) given) bodies.nodes → Goes rows now.rows
     → IsLonger (table_with old given rows) (terms_under bodies now)
-checked_longer old now given rows bodies theories heads more grown = record {
+checked_longer old now given rows bodies theories heads names more grown = record {
   theories = theories;
   heads = heads;
+  names = names;
   bodies = more;
   rows = grown;
 }
@@ -62,13 +64,13 @@ pub none_given : (library : Library) (labels : Labels) (scope : Scope) (t : Sexp
 none_given library labels scope t sort given refused has are =
     none_of given (are ∙ no_labels_given (names_for library labels) scope t sort refused has)
 
--- so the bodies are the library's, and perhaps more
-pub none_more : (bodies : List ℕ) (given : List Label) (new : List ℕ) → given ≡ [] → Goes bodies new
-    → Goes (bodies ++ map (λ l. l.node) given) new
-none_more bodies given new none (more, is) = (
+-- so the names and the bodies are the library's, and perhaps more
+pub none_more : {A : Type 0} (f : Label → A) (old : List A) (given : List Label) (new : List A) → given ≡ []
+    → Goes old new → Goes (old ++ map f given) new
+none_more {A = A} f old given new none (more, is) = (
   more,
-  is ∙ ap (λ (bs : List ℕ). bs ++ more)
-      (sym (ap (λ (ls : List Label). bodies ++ map (λ l. l.node) ls) none ∙ append-nil bodies)),
+  is ∙ ap (λ (xs : List A). xs ++ more)
+      (sym (ap (λ (ls : List Label). old ++ map f ls) none ∙ append-nil old)),
 )
 
 -- the sort of a term without labels is that over the library's names
@@ -84,7 +86,7 @@ pub length-scope : {V : Type 0} (vs : List (Variable V)) → length (scope_view 
 length-scope vs = length-map vs (λ v. (v.name.now, v.value))
 
 -- a term that was checked over parameters is a body that sees all names
-pub body_checked : (old : Library) (now : Contents) (given : List Label) (rows : List Row) (bodies : List ℕ)
+pub body_checked : (old : Library) (now : Contents) (given : List Label) (rows : List Row) (bodies : Bodies)
     (vs : List (Variable Sort)) (node : ℕ) (t : Sexp)
     → IsLonger (table_with old given rows) (terms_under bodies now)
     → Denotes (table_with old given rows) (slots_from 0 (map (λ v. v.0) (scope_view vs))) (length vs) 0 node t

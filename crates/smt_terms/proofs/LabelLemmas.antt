@@ -59,6 +59,16 @@ given-view : (old new : Bool) (before after : List (List ℕ)) (more : List (Lis
 given-view true new before after more same h = rw same refl
 given-view false new before after more same h = rw (same, h) refl
 
+-- those of one term
+pub given_names_of : (old new : Labels) (xs : List (List ℕ)) (term : Sexp)
+    → given_terms new ≡ given_terms old ++ map (λ x. (x, term)) xs → given_names new ≡ given_names old ++ xs
+given_names_of old new xs term h =
+    given-names old new (map (λ x. (x, term)) xs) h ∙ ap (λ ys. given_names old ++ ys) (again xs)
+  where
+    again : (ys : List (List ℕ)) → map (λ (p : List ℕ × Sexp). p.0) (map (λ x. (x, term)) ys) ≡ ys
+    again [] = refl
+    again (y ∷ ys) = ap (λ zs. y ∷ zs) (again ys)
+
 -- what the labels are behind those that are given
 pub given_view : (names : Names) (old new : Labels) (more : Labelled) → AreGiven names old new more
     → labels_view new ≡ with_labels (map (λ (p : List ℕ × Sexp). p.0) more) (labels_view old)
@@ -287,13 +297,13 @@ called library labels scope head args parts f ss given r split other is done sam
     ∙ call_without_labels library labels scope f given ∙ sym call
 
 pub given_by_args : {T E : Type 0} (r : Result T E) (names : Names) (old new : Labels) (head : Sexp)
-    (args parts : Sexps) → parts ≡ Cons head args → begins_indexed head ≡ false → begins_let head ≡ false
-    → begins_annotated head ≡ false
+    (args parts : Sexps) → parts ≡ Cons head args → IsPlainHead head
     → AreGiven names old new (labels_in_all args) → OnOk r (AreGiven names old new (labels_in (Items parts)))
-given_by_args (Err e) names old new head args parts split h i j given = tt
-given_by_args (Ok v) names old new head args parts split h i j given =
+given_by_args (Err e) names old new head args parts split other given = tt
+given_by_args (Ok v) names old new head args parts split other given =
     subst (AreGiven names old new)
-    (sym (ap (λ ps. labels_in (Items ps)) split ∙ other_labels head args h i j)) given
+    (sym (ap (λ ps. labels_in (Items ps)) split
+    ∙ other_labels head args other.no_index other.no_let other.no_bang)) given
 
 -- an identifier alone gives none
 pub given_by_indexed : {T E : Type 0} (r : Result T E) (names : Names) (old new : Labels) (head : Sexp)

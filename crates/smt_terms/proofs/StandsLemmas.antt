@@ -15,7 +15,8 @@ use Rattle.smt_theory.specs.declared.theories.Theories.{Theories}
 use Rattle.smt_terms.specs.Contents.{Contents, Declaration, terms_in}
 use Rattle.smt_terms.specs.Definitions.{definition}
 use Rattle.smt_terms.specs.Denotes.{Denotes, Head, IsLonger, slots_from}
-use Rattle.smt_terms.specs.Internal.Growing.{HoldsUnder, IsBodyUnder, KeepsNames, terms_under}
+use Rattle.smt_terms.specs.Internal.Growing.{Bodies, HoldsUnder, IsBodyUnder, KeepsNames, bodies_in, terms_under}
+use Rattle.smt_terms.specs.Internal.TableView.{names_of_definitions}
 use Rattle.smt_terms.specs.Library.{AreDefinitions, Holds, IsDefinitionOf, declaration_at}
 use Rattle.smt_terms.specs.Library.{declarations_from, declared_among, defined_among, is_declared}
 use Rattle.smt_terms.specs.Signature as signature
@@ -74,7 +75,17 @@ length-definitions [] (e ∷ es) h = absurd h
 length-definitions (d ∷ ds) [] h = absurd h
 length-definitions (d ∷ ds) (e ∷ es) h = ap suc (length-definitions ds es h.1)
 
--- and a declaration for each declared one
+-- and it has the name of that entry
+defined_names : (ds : List Definition) (es : List Entry) → AreDefinitions ds es
+    → names_of_definitions ds ≡ map (λ e. e.name) es
+defined_names [] [] h = refl
+defined_names [] (e ∷ es) h = absurd h
+defined_names (d ∷ ds) [] h = absurd h
+defined_names (d ∷ ds) (e ∷ es) h =
+    ap (λ (x : List ℕ). x ∷ names_of_definitions ds) h.0.name
+    ∙ ap (λ (xs : List (List ℕ)). e.name ∷ xs) (defined_names ds es h.1)
+
+-- and there is a declaration for each declared one
 length-declarations : (n : ℕ) (es : List Entry) → length (declarations_from n es) ≡ length (declared_among es)
 length-declarations n [] = refl
 length-declarations n (e ∷ es) = by e.origin (length-declarations (n + 1) es)
@@ -100,6 +111,7 @@ nothing_stands c theories same abbreviations ranks heads declared definitions bo
     theories = same;
     heads = heads;
     free = All-nil (λ e. is_plain_operator theories e.name ≡ false);
+    names = ap names_of_definitions definitions;
     bodies = bodies;
   };
 }
@@ -107,7 +119,7 @@ nothing_stands c theories same abbreviations ranks heads declared definitions bo
 -- ---- while bodies are still to come
 
 -- what contents stand for, over the bodies that they have, and back
-pub under : (c : Contents) (s : Signature) → Holds c s → HoldsUnder c.bodies c s
+pub under : (c : Contents) (s : Signature) → Holds c s → HoldsUnder (bodies_in c) c s
 under c s stands = record {
   theories = stands.theories;
   distinct = stands.distinct;
@@ -120,9 +132,9 @@ under c s stands = record {
   seen = stands.terms.bodies;
 }
 
-pub whole : (bodies : List ℕ) (c : Contents) (s : Signature) → c.bodies ≡ bodies → HoldsUnder bodies c s
-    → Holds c s
-whole bodies c s same stands = record {
+pub whole : (bodies : Bodies) (c : Contents) (s : Signature) → c.bodies ≡ bodies.nodes
+    → names_of_definitions c.definitions ≡ bodies.names → HoldsUnder bodies c s → Holds c s
+whole bodies c s same named stands = record {
   theories = stands.theories;
   distinct = stands.distinct;
   abbreviations = stands.abbreviations;
@@ -133,14 +145,22 @@ whole bodies c s same stands = record {
     theories = stands.theories;
     heads = stands.heads;
     free = stands.free;
-    bodies = subst (λ bs. AreBodies (terms_under bs c) 0 c.bodies s.entries) (sym same) stands.seen;
+    names = defined_names c.definitions (defined_among s.entries) stands.definitions;
+    bodies =
+        subst (λ (bs : List ℕ). AreBodies (terms_under (record (bodies_in c) { nodes = bs }) c) 0 c.bodies s.entries)
+        (sym same)
+        (subst (λ (ns : List (List ℕ)). AreBodies (terms_under (record bodies { names = ns }) c) 0 c.bodies s.entries)
+        (sym named) stands.seen);
   };
 }
 
 -- with more bodies to come
-pub under_more : (bodies more : List ℕ) (c : Contents) (s : Signature) → HoldsUnder bodies c s
-    → HoldsUnder (bodies ++ more) c s
-under_more bodies more c s stands = record {
+abbrev pub and_more : Bodies → (names : List (List ℕ)) → (nodes : List ℕ) → Bodies
+and_more bodies names nodes = record { names = bodies.names ++ names; nodes = bodies.nodes ++ nodes }
+
+pub under_more : (bodies : Bodies) (names : List (List ℕ)) (nodes : List ℕ) (c : Contents) (s : Signature)
+    → HoldsUnder bodies c s → HoldsUnder (and_more bodies names nodes) c s
+under_more bodies names nodes c s stands = record {
   theories = stands.theories;
   distinct = stands.distinct;
   abbreviations = stands.abbreviations;
@@ -149,27 +169,30 @@ under_more bodies more c s stands = record {
   definitions = stands.definitions;
   heads = stands.heads;
   free = stands.free;
-  seen = bodies_longer (terms_under bodies c) (terms_under (bodies ++ more) c) 0 c.bodies s.entries (record {
-    theories = refl;
-    heads = nothing_more _ _ refl;
-    bodies = (more, refl);
-    rows = nothing_more _ _ refl;
-  }) stands.seen;
+  seen = bodies_longer (terms_under bodies c) (terms_under (and_more bodies names nodes) c) 0 c.bodies s.entries
+      (record {
+        theories = refl;
+        heads = nothing_more _ _ refl;
+        names = (names, refl);
+        bodies = (nodes, refl);
+        rows = nothing_more _ _ refl;
+      }) stands.seen;
 }
 
 -- the table over the same bodies, as names and nodes come
-pub under_longer : (bodies : List ℕ) (old new : Contents) → new.theories ≡ old.theories
+pub under_longer : (bodies : Bodies) (old new : Contents) → new.theories ≡ old.theories
     → Goes old.heads new.heads → Goes old.rows new.rows
     → IsLonger (terms_under bodies old) (terms_under bodies new)
 under_longer bodies old new theories heads rows = record {
   theories = theories;
   heads = heads;
+  names = nothing_more _ _ refl;
   bodies = nothing_more _ _ refl;
   rows = rows;
 }
 
 -- nothing but nodes has come
-pub stands_kept : (bodies : List ℕ) (old new : Contents) (s : Signature) → KeepsNames old new
+pub stands_kept : (bodies : Bodies) (old new : Contents) (s : Signature) → KeepsNames old new
     → HoldsUnder bodies old s → HoldsUnder bodies new s
 stands_kept bodies old new s kept stands = record {
   theories = kept.theories ∙ stands.theories;
@@ -188,7 +211,8 @@ stands_kept bodies old new s kept stands = record {
 
 pub stands_still : (old new : Contents) (s : Signature) → KeepsNames old new → Holds old s → Holds new s
 stands_still old new s kept stands =
-    whole old.bodies new s kept.bodies (stands_kept old.bodies old new s kept (under old s stands))
+    whole (bodies_in old) new s kept.bodies (ap names_of_definitions kept.definitions)
+    (stands_kept (bodies_in old) old new s kept (under old s stands))
 
 -- an abbreviation has come
 pub stands_abbreviated : (old new : Contents) (s : Signature) (x : List ℕ) (sort : Sort)
@@ -209,9 +233,11 @@ stands_abbreviated old new s x sort theories abbreviations ranks heads declared 
     theories = theories ∙ stands.theories;
     heads = heads ∙ stands.terms.heads;
     free = stands.terms.free;
+    names = ap names_of_definitions definitions ∙ stands.terms.names;
     bodies = bodies_longer (terms_in old) (terms_in new) 0 new.bodies s.entries (record {
       theories = theories;
       heads = nothing_more _ _ heads;
+      names = nothing_more _ _ (ap names_of_definitions definitions);
       bodies = nothing_more _ _ bodies;
       rows = nothing_more _ _ rows;
     }) (subst (λ bs. AreBodies (terms_in old) 0 bs s.entries) (sym bodies) stands.terms.bodies);
@@ -255,7 +281,7 @@ heads-next es e heads m n is declared defined =
     ∙ sym (heads-push 0 0 es e)
 
 -- and so the bodies with what one more entry has
-seen-next : (bodies more : List ℕ) (old new : Contents) (es : List Entry) (e : Entry)
+seen-next : (bodies : Bodies) (more : List ℕ) (old new : Contents) (es : List Entry) (e : Entry)
     → new.theories ≡ old.theories → Goes old.heads new.heads → Goes old.rows new.rows
     → new.bodies ≡ old.bodies ++ more → AreBodies (terms_under bodies old) 0 old.bodies es
     → IsLastBody (terms_under bodies new) (length es) e more
@@ -305,7 +331,7 @@ stands_declared old new s x d absent free next theories abbreviations ranks head
     (λ d. (d.name, rank_of_entry d)) in
     let same : defined_among (s.entries ++ e ∷ []) ≡ defined_among s.entries =
     filter-append _ s.entries (e ∷ []) ∙ append-nil (defined_among s.entries) in
-    whole old.bodies new (with_entry s e) bodies (record {
+    whole (bodies_in old) new (with_entry s e) bodies (ap names_of_definitions definitions) (record {
       theories = theories ∙ stands.theories;
       distinct =
           distinct-push s.entries e stands.distinct (absent_entry s.entries x old.ranks stands.ranks absent);
@@ -325,7 +351,7 @@ stands_declared old new s x d absent free next theories abbreviations ranks head
       heads = heads ∙ heads-next s.entries e old.heads (length old.declared) _ stands.terms.heads counted refl;
       free = free-push s.theories s.entries e stands.terms.free
           (ap (λ ts. is_plain_operator ts x) (sym stands.theories) ∙ free);
-      seen = seen-next old.bodies [] old new s.entries e theories (_, heads) rows
+      seen = seen-next (bodies_in old) [] old new s.entries e theories (_, heads) rows
           (bodies ∙ sym (append-nil old.bodies)) stands.terms.bodies refl;
     })
 
@@ -350,7 +376,7 @@ length-heads m n [] = refl
 length-heads m n (e ∷ es) = ap suc (length-heads (with_declared m e.origin) (with_defined n e.origin) es)
 
 -- a body that sees all names is one for the next entry
-body-next : (bodies : List ℕ) (old new : Contents) (es : List Entry) (ps : List (List ℕ × Sort)) (t : Sexp)
+body-next : (bodies : Bodies) (old new : Contents) (es : List Entry) (ps : List (List ℕ × Sort)) (t : Sexp)
     (j : ℕ) → new.theories ≡ old.theories → Goes old.heads new.heads → Goes old.rows new.rows
     → old.heads ≡ heads_of es → IsBodyUnder bodies old ps j t
     → IsBody (terms_under bodies new) (length es) (length (map (λ p. p.1) ps)) (map (λ p. p.0) ps) t j
@@ -363,6 +389,7 @@ body-next bodies old new es ps t j theories heads rows are node =
       heads = nothing_more _ _ (ap (λ (n : ℕ). take n new.heads) count
           ∙ ap (λ (hs : List (List ℕ × Head)). take (length old.heads) hs) heads.1
           ∙ take_front old.heads heads.0);
+      names = nothing_more _ _ refl;
       bodies = nothing_more _ _ refl;
       rows = rows;
     } in
@@ -375,7 +402,7 @@ body-next bodies old new es ps t j theories heads rows are node =
     }
 
 -- a definition has come
-pub stands_defined : (bodies : List ℕ) (old new : Contents) (s : Signature) (x : List ℕ)
+pub stands_defined : (bodies : Bodies) (old new : Contents) (s : Signature) (x : List ℕ)
     (ps : List (List ℕ × Sort)) (d : Definition) (t : Sexp) (j : ℕ) → look_up old.ranks x ≡ None
     → is_plain_operator s.theories x ≡ false → d.name.items ≡ x → parameters_of d ≡ ps
     → IsBodyUnder bodies old ps j t

@@ -1,7 +1,7 @@
 -- Tables that grow while a term is checked.
 use Rattle.std.proofs.Common.{◌≡◌, ◌<◌, ◌-◌, ℕ, map, List, [], ◌∷◌, ◌++◌, length, append-nil, append_assoc, refl, ap, sym}
 use Rattle.std.proofs.Common.{◌∙◌, subst, arith}
-use Rattle.std.proofs.lemmas.List.{length-append}
+use Rattle.std.proofs.lemmas.List.{length-append, map-append}
 use Rattle.smt_trees.specs.Tree.{sexp_of}
 use Rattle.smt_nodes.specs.Node.{Row}
 use Rattle.smt_nodes.specs.Nodes.{rows_of}
@@ -10,9 +10,10 @@ use Rattle.smt_theory.specs.Words.{look_up}
 use Rattle.smt_terms.specs.Denotes.{IsLonger, Table}
 use Rattle.smt_terms.specs.Internal.Calls.{SeesTheSame}
 use Rattle.smt_terms.specs.Internal.DraftView.{Variables, inside, seen_by}
-use Rattle.smt_terms.specs.Internal.NodesView.{GrowsTo, KeepsNamed, nodes_given}
+use Rattle.smt_terms.specs.Internal.LabelsView.{given_names}
+use Rattle.smt_terms.specs.Internal.NodesView.{GrowsTo, KeepsNamed}
 use Rattle.smt_terms.specs.Internal.TableView.{AreNamed, HasBody, IsReady, places_seen, rows_in, slots_seen}
-use Rattle.smt_terms.specs.Internal.TableView.{table_in}
+use Rattle.smt_terms.specs.Internal.TableView.{names_of_definitions, table_in}
 use Rattle.smt_terms.specs.declared.labels.Label.{Label}
 use Rattle.smt_terms.specs.declared.labels.Labels.{Labels}
 use Rattle.smt_terms.specs.declared.library.Found.{Found}
@@ -27,6 +28,7 @@ pub longer_itself : (t : Table) → IsLonger t t
 longer_itself t = record {
   theories = refl;
   heads = ([], sym (append-nil t.heads));
+  names = ([], sym (append-nil t.names));
   bodies = ([], sym (append-nil t.bodies));
   rows = ([], sym (append-nil t.rows));
 }
@@ -42,6 +44,10 @@ longer_on t u v first second = record {
   heads = (
     first.heads.0 ++ second.heads.0,
     behind_behind t.heads u.heads v.heads first.heads.0 second.heads.0 first.heads.1 second.heads.1,
+  );
+  names = (
+    first.names.0 ++ second.names.0,
+    behind_behind t.names u.names v.names first.names.0 second.names.0 first.names.1 second.names.1,
   );
   bodies = (
     first.bodies.0 ++ second.bodies.0,
@@ -83,6 +89,11 @@ pub grows_same : (old new : Draft) → new.labels ≡ old.labels → new.nodes �
 grows_same old new labels nodes library = record {
   theories = refl;
   heads = ([], sym (append-nil (table_in library old).heads));
+  names = (
+    [],
+    ap (λ (ls : Labels). names_of_definitions library.definitions.items ++ given_names ls) labels
+        ∙ sym (append-nil (table_in library old).names),
+  );
   bodies = (
     [],
     ap (λ (ls : Labels). library.bodies.items ++ map (λ l. l.node) ls.given.items) labels
@@ -91,19 +102,39 @@ grows_same old new labels nodes library = record {
   rows = ([], ap (λ ns. rows_of library.nodes ++ rows_of ns) nodes ∙ sym (append-nil (rows_in library old)));
 }
 
+-- what is seen of more behind some, behind others
+map_behind : {A B : Type 0} (before : List B) (f : A → B) (xs ys more : List A) → ys ≡ xs ++ more
+    → (rest : List B) × (before ++ map f ys ≡ (before ++ map f xs) ++ rest)
+map_behind {B = B} before f xs ys more is = (
+  map f more,
+  ap (λ (zs : List B). before ++ zs) (ap (map f) is ∙ map-append f xs more)
+      ∙ sym (append_assoc before (map f xs) (map f more)),
+)
+
 -- one with the same nodes, and more labels
-pub grows_given : (old new : Draft) (more : List ℕ) → new.nodes ≡ old.nodes
-    → nodes_given new.labels ≡ nodes_given old.labels ++ more → GrowsTo old new
+pub grows_given : (old new : Draft) (more : List Label) → new.nodes ≡ old.nodes
+    → new.labels.given.items ≡ old.labels.given.items ++ more → GrowsTo old new
 grows_given old new more nodes given library = record {
   theories = refl;
   heads = ([], sym (append-nil (table_in library old).heads));
-  bodies = (
-    more,
-    ap (λ (ns : List ℕ). library.bodies.items ++ ns) given
-        ∙ sym (append_assoc library.bodies.items (nodes_given old.labels) more),
-  );
+  names = map_behind (names_of_definitions library.definitions.items) (λ l. l.name.items) old.labels.given.items
+      new.labels.given.items more given;
+  bodies = map_behind library.bodies.items (λ l. l.node) old.labels.given.items new.labels.given.items more given;
   rows = ([], ap (λ ns. rows_of library.nodes ++ rows_of ns) nodes ∙ sym (append-nil (rows_in library old)));
 }
+
+-- one that grows after variables were bound, and one after labels were given
+pub grows_bound : (old mid inner new : Draft) → GrowsTo old mid → inner.labels ≡ mid.labels → inner.nodes ≡ mid.nodes
+    → GrowsTo inner new → GrowsTo old new
+grows_bound old mid inner new first labels nodes second =
+    grows_on old mid new first (grows_on mid inner new (grows_same mid inner labels nodes) second)
+
+pub grows_labelled : (old mid new : Draft) (labels : Labels) → GrowsTo old mid
+    → (more : List Label) × (labels.given.items ≡ mid.labels.given.items ++ more)
+    → GrowsTo (record mid { labels = labels }) new → GrowsTo old new
+grows_labelled old mid new labels first given second =
+    let inner = record mid { labels = labels } in
+    grows_on old mid new first (grows_on mid inner new (grows_given mid inner given.0 refl given.1) second)
 
 -- one with more nodes, and the same labels
 pub grows_rows : (old new : Draft) (more : List Row) → new.labels ≡ old.labels
@@ -111,6 +142,11 @@ pub grows_rows : (old new : Draft) (more : List Row) → new.labels ≡ old.labe
 grows_rows old new more labels rows library = record {
   theories = refl;
   heads = ([], sym (append-nil (table_in library old).heads));
+  names = (
+    [],
+    ap (λ (ls : Labels). names_of_definitions library.definitions.items ++ given_names ls) labels
+        ∙ sym (append-nil (table_in library old).names),
+  );
   bodies = (
     [],
     ap (λ (ls : Labels). library.bodies.items ++ map (λ l. l.node) ls.given.items) labels

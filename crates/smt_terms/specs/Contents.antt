@@ -7,7 +7,7 @@ use Rattle.smt_nodes.specs.Nodes.{rows_of}
 use Rattle.smt_terms.specs.Denotes.{Head, Table}
 use Rattle.smt_terms.specs.Ends.{end_of}
 use Rattle.smt_terms.specs.Internal.LibraryView.{abbreviations_of, ranks_of_library}
-use Rattle.smt_terms.specs.Internal.TableView.{heads_of_library}
+use Rattle.smt_terms.specs.Internal.TableView.{heads_of_library, names_of_definitions}
 use Rattle.smt_terms.specs.Signature.{Rank}
 use Rattle.smt_terms.specs.declared.library.Declared.{Declared}
 use Rattle.smt_terms.specs.declared.library.Definition.{Definition}
@@ -52,7 +52,13 @@ contents_of library = record {
 
 -- the table of terms that contents hold
 abbrev pub terms_in : Contents → Table
-terms_in c = record { theories = c.theories; heads = c.heads; bodies = c.bodies; rows = c.rows }
+terms_in c = record {
+  theories = c.theories;
+  heads = c.heads;
+  names = names_of_definitions c.definitions;
+  bodies = c.bodies;
+  rows = c.rows;
+}
 
 -- ---- beginnings
 

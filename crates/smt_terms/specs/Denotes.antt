@@ -24,11 +24,12 @@ pub record Head : Type 0 where
   pub place : Found
   pub arity : ℕ
 
--- A table of terms: its theories, the names in force, the node that is the body of each definition, by its
--- place, and the nodes, by their numbers.
+-- A table of terms: its theories, the names in force, the name of each definition and the node that is its body,
+-- by its place, and the nodes, by their numbers.
 pub record Table : Type 0 where
   pub theories : Theories
   pub heads : List (List ℕ × Head)
+  pub names : List (List ℕ)
   pub bodies : List ℕ
   pub rows : List Row
 
@@ -94,15 +95,17 @@ UsesNone slots term = uses_variable (map (λ s. (s.0, Boolean)) slots) term ≡ 
 
 -- ---- what a node stands for
 
--- row i is the name of a definition whose body is a node below i, and such a node
-abbrev pub IsNameOf : Table → ℕ → ℕ → (ℕ → Type 0) → Type 0
-IsNameOf t around i IsBody = (p : ℕ) × (j : ℕ) × IsRow (slice_get t.rows i) around (Some (node.Defined p []))
-    × (slice_get t.bodies p ≡ Some j) × (j < i) × IsBody j
+-- row i is the definition that has the label as its name; its body is a node below i, and such a node
+abbrev pub IsNameOf : Table → List ℕ → ℕ → ℕ → (ℕ → Type 0) → Type 0
+IsNameOf t label around i IsBody = (p : ℕ) × (j : ℕ) × (slice_get t.names p ≡ Some label)
+    × IsRow (slice_get t.rows i) around (Some (node.Defined p [])) × (slice_get t.bodies p ≡ Some j) × (j < i)
+    × IsBody j
 
--- what holds of an annotated term with these labels: the one where there is none, or else the other
-abbrev pub unless_labelled : List (List ℕ) → (bare labelled : Type 0) → Type 0
+-- what holds of an annotated term with these labels: the one where there is none, or else the other, of the
+-- first label
+abbrev pub unless_labelled : List (List ℕ) → (bare : Type 0) → (labelled : List ℕ → Type 0) → Type 0
 unless_labelled [] bare labelled = bare
-unless_labelled (label ∷ labels) bare labelled = labelled
+unless_labelled (label ∷ labels) bare labelled = labelled label
 
 -- Node i, with so many annotations without a label directly round it already, stands for the term, where
 -- variables have these places in a frame of `next` places. Parts have lower numbers. A term with labels is
@@ -123,7 +126,7 @@ abbrev mutual
       × Denotes t (slots_bound next bindings ++ slots) (next + length js) 0 j body
   Denotes t slots next around i (Items (Cons (Reserved Bang) (Cons term attributes))) =
       unless_labelled (labels_among attributes) (Denotes t slots next (around + 1) i term)
-      (UsesNone slots term × IsNameOf t around i (λ j. Denotes t [] 0 0 j term))
+      (λ label. UsesNone slots term × IsNameOf t label around i (λ j. Denotes t [] 0 0 j term))
   Denotes t slots next around i (Items (Cons head args)) =
       (f : Identifier) × (js : List ℕ) × (applied head args ≡ Ok f) × IsNode t around i (node_of t f js)
       × AreDenoted t slots next i js args
@@ -149,5 +152,6 @@ abbrev mutual
 pub record IsLonger (t u : Table) : Type 0 where
   pub theories : u.theories ≡ t.theories
   pub heads : (more : List (List ℕ × Head)) × (u.heads ≡ t.heads ++ more)
+  pub names : (more : List (List ℕ)) × (u.names ≡ t.names ++ more)
   pub bodies : (more : List ℕ) × (u.bodies ≡ t.bodies ++ more)
   pub rows : (more : List Row) × (u.rows ≡ t.rows ++ more)

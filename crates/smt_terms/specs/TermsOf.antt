@@ -1,11 +1,11 @@
 -- When a table of terms is that of a signature: its names, and the bodies of its definitions, are the
 -- signature's. Nothing here knows a value.
 use Rattle.std.specs.List.{All}
-use Rattle.std.specs.Prelude.{◌≡◌, ℕ, ◌+◌, List, [], ◌∷◌, false, length, take}
+use Rattle.std.specs.Prelude.{◌≡◌, ℕ, ◌+◌, List, [], ◌∷◌, false, length, map, take}
 use Rattle.smt_theory.specs.Operators.{is_plain_operator}
 use Rattle.smt_trees.specs.Sexp.{Sexp}
 use Rattle.smt_terms.specs.Denotes.{Denotes, Head, Table, slots_from}
-use Rattle.smt_terms.specs.Signature.{Entry, Origin, Declared, Defined, Signature}
+use Rattle.smt_terms.specs.Signature.{Entry, Origin, Declared, Defined, Signature, defined_among}
 use Rattle.smt_terms.specs.declared.library.Found.{Found}
 use Rattle.smt_terms.specs.declared.library.Found.TheVariants as place
 
@@ -33,6 +33,10 @@ heads_from declared defined (e ∷ es) =
 
 abbrev pub heads_of : List Entry → List (List ℕ × Head)
 heads_of entries = heads_from 0 0 entries
+
+-- the names of the entries that are defined, in order
+abbrev pub names_of_defined : List Entry → List (List ℕ)
+names_of_defined entries = map (λ e. e.name) (defined_among entries)
 
 -- the table in which the first so many names are in force
 abbrev pub first_heads : ℕ → Table → Table
@@ -63,4 +67,5 @@ pub record AreTermsOf (t : Table) (s : Signature) : Type 0 where
   pub theories : t.theories ≡ s.theories
   pub heads : t.heads ≡ heads_of s.entries
   pub free : All (λ e. is_plain_operator s.theories e.name ≡ false) s.entries
+  pub names : t.names ≡ names_of_defined s.entries
   pub bodies : AreBodies t 0 t.bodies s.entries

@@ -189,6 +189,7 @@ pub fn no_names_have_no_bodies()
     ensures { (theories : Theories) (rows : List Row) → AreTermsOf (record {
       theories = theories;
       heads = [];
+      names = [];
       bodies = [];
       rows = rows;
     }) (no_names theories) }

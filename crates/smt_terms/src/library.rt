@@ -1,5 +1,5 @@
-//! The names in force, in the order in which they came, where each stands, and the nodes of the terms that were
-//! checked over them. This file checks no term: `library/checker` does.
+//! The names in force, in order of insertion, the place of each, and the nodes of the terms that were checked over
+//! them. This file checks no term: `library/checker` does.
 
 ghost use Rattle.std.specs.Prelude.{◌≡◌, length, bytes_eq};
 ghost use Rattle.std.proofs.Props.{props};
@@ -32,10 +32,10 @@ use smt_theory::{Sort, Theories};
 use smt_trees::Tree;
 use std::alloc::Global;
 
-// Among how many names a name is compared with each.
+// The most names among which a search compares a name with each one.
 const FEW: usize = 8;
 
-/// What a name stands for: a function of a rank.
+/// What a name means: a function of this rank, declared or defined at this place.
 #[derive(Drop)]
 struct Entry {
     parameters: Vec<Sort>,
@@ -43,21 +43,21 @@ struct Entry {
     place: Found,
 }
 
-/// Where a name stands.
+/// The place of a name, among the declared names or among the definitions.
 #[derive(Clone, Copy, Debug, PartialEq, Eq)]
 pub enum Found {
-    /// At this place among the declared names, from 0: that in `Library::declared`.
+    /// A declared name: its place in `Library::declared`, from 0.
     Declared(usize),
-    /// At this place among the definitions, from 0: that in `Library::definitions`.
+    /// A defined name: its place in `Library::definitions`, from 0.
     Defined(usize),
 }
 
-/// A declared name.
+/// A declared name (SMT-LIB 2.6, section 4.2.3).
 #[derive(Drop)]
 pub struct Declared {
-    /// Its place among all names, from 0: that of `Library::name`.
+    /// Its place among all names, from 0, as `Library::name` accepts it.
     pub name: usize,
-    /// The sorts of its parameters; a constant has none.
+    /// The sorts of its parameters, in order; a constant has none.
     pub params: Vec<Sort>,
     /// The sort of its result.
     pub result: Sort,
@@ -65,20 +65,20 @@ pub struct Declared {
     pub command: u64,
 }
 
-/// A name that is defined (SMT-LIB 2.6, section 4.2.3). The node of its body stands at the same place in
-/// `Library::bodies`.
+/// A defined name (SMT-LIB 2.6, section 4.2.3); a label is one too (section 3.6.5), without parameters. The node of
+/// its body is at the same place in `Library::bodies`.
 #[derive(Drop)]
 pub struct Definition {
     /// The bytes of its name, without bars.
     pub name: Vec<u8>,
-    /// Its parameters by name, with their sorts.
+    /// Its parameters in order: the bytes of each name, without bars, and its sort.
     pub params: Vec<(Vec<u8>, Sort)>,
     /// The sort of its result, and of its body.
     pub result: Sort,
 }
 
 /// The names of a signature in order of insertion, abbreviations of sorts, and terms over the names. No name
-/// stands twice.
+/// occurs twice.
 #[derive(Drop)]
 pub struct Library {
     alloc: Global,
@@ -87,11 +87,11 @@ pub struct Library {
     declared: Vec<Declared>,
     definitions: Vec<Definition>,
     bodies: Vec<TermId>,
-    /// For each definition how many nodes its body and those before it need.
+    /// For each definition, the number of nodes that its body and the bodies before it need.
     ends: Vec<usize>,
     nodes: Nodes,
     transient: Nodes,
-    /// Of no term between calls; kept for its memory.
+    /// Empty between calls; the library keeps it for its memory.
     arguments: Arguments,
     ghost paired: { length bodies.items ≡ length definitions.items } by { Prim.hlevel props },
     ghost ended: { ends.items ≡ ends_from 0 bodies.items } by { Prim.hlevel props },
@@ -124,7 +124,7 @@ impl Library {
     ghost use Rattle.smt_theory.specs.declared.sort.Sort.{Sort};
     ghost use Rattle.smt_faults.specs.Outcome.{IsOutcome, Tells};
 
-    /// A library of these theories without names.
+    /// A library of these theories, without names and terms.
     pub fn new(alloc: Global, theories: Theories) -> Self
         ensures stands { StandsFor result (no_names theories) }
         ensures empty { (contents_of result).rows ≡ [] }
@@ -144,7 +144,7 @@ impl Library {
         }
     }
 
-    /// Where the library gets its memory.
+    /// The allocator of the library's memory.
     pub fn alloc(&self) -> Global {
         self.alloc
     }
@@ -156,7 +156,7 @@ impl Library {
         self.sorts.theories
     }
 
-    /// The declared names, in order.
+    /// The declared names, in order of insertion.
     pub fn declared(&self) -> &[Declared]
         ensures { (s : Signature) → StandsFor self.now s
             → map declaration_view result.now ≡ declarations_from 0 s.entries }
@@ -164,7 +164,7 @@ impl Library {
         self.declared.as_slice()
     }
 
-    /// The definitions, in order.
+    /// The definitions, with those of labels, in order of insertion.
     pub fn definitions(&self) -> &[Definition]
         ensures stands { (s : Signature) → StandsFor self.now s
             → AreDefinitions result.now (defined_among s.entries) }
@@ -173,7 +173,7 @@ impl Library {
         self.definitions.as_slice()
     }
 
-    /// The name at a place among all names; places count from 0.
+    /// The bytes of the name at this place among all names, from 0. The place is less than the number of names.
     pub fn name(&self, place: usize) -> &[u8]
         requires { place < name_count self.now }
         ensures { (s : Signature) → StandsFor self.now s
@@ -182,7 +182,7 @@ impl Library {
         self.get_index(place).0
     }
 
-    /// Where a name stands, if it is in force.
+    /// The place of a name among the declared names or the definitions; `None` if the name is not in force.
     pub fn find(&self, name: &[u8]) -> Option<Found>
         ensures { (s : Signature) → StandsFor self.now s
             → MatchOption result (entry_named s.entries name.now ≡ None)
@@ -192,9 +192,12 @@ impl Library {
         self.place_of(name)
     }
 
-    /// Declares a name by the command of this number (SMT-LIB 2.6, section 4.2.3), with the sorts of its
-    /// parameters and of its result. Refused are a name that is in use or is a plain operator's, and a tree
-    /// that names no sort, in this order; then nothing changes.
+    /// Declares a name by the command of this number, from 1 (SMT-LIB 2.6, section 4.2.3), with the sorts of its
+    /// parameters and of its result.
+    ///
+    /// It refuses, in this order: a name that is in use or is a plain operator's (`NotFresh`); the first tree of a
+    /// parameter that names no sort, with its fault; a tree of the result that names no sort, with its fault. Then,
+    /// and where memory is refused (`Memory`), nothing changes.
     #[tactic(auto, using(crate::proofs::ContentsLemmas::extends_itself))]
     pub fn declare(
         &mut self,
@@ -221,9 +224,10 @@ impl Library {
     }
 
     /// Makes a name abbreviate the sort of a tree (SMT-LIB 2.6, section 4.2.3, `define-sort` without
-    /// parameters). It stands for that sort, whatever comes later. Refused are a name that abbreviates a
-    /// sort, `Bool` and `Int` (`NotFresh`), and then a tree that names no sort, with its fault; then nothing
-    /// changes.
+    /// parameters). The name means that sort, whatever comes later.
+    ///
+    /// It refuses, in this order: a name that abbreviates a sort, `Bool` and `Int` (`NotFresh`); a tree that names
+    /// no sort, with its fault. Then, and where memory is refused (`Memory`), nothing changes.
     pub fn abbreviate(&mut self, name: &[u8], sort: &Tree) -> Result<(), TermFault>
         ensures abbreviated { OnOk result ((s : Signature) → StandsFor self.old s → (found : Sort)
             × (abbreviated_in (sort_names_of s) name.now (sexp_of sort.now) ≡ Ok found)
@@ -238,8 +242,8 @@ impl Library {
         self.sorts.abbreviate(self.alloc, name, sort)
     }
 
-    /// Checks a term without labels over the names: its number and its sort, or its first fault (SMT-LIB 2.6,
-    /// sections 3.6 and 5.2).
+    /// Checks a term without labels over the names (SMT-LIB 2.6, sections 3.6 and 5.2). It returns the number of the
+    /// term's node and its sort, or its first fault; then nothing changes.
     #[tactic(auto, using(crate::proofs::ContentsLemmas::extends_itself))]
     pub fn check(&mut self, term: &Tree) -> Result<(TermId, Sort), TermFault>
         ensures answer { (s : Signature) → StandsFor self.old s
@@ -255,7 +259,7 @@ impl Library {
         Ok((checked.node, checked.sort))
     }
 
-    /// The node of a term, which is one of this library, perhaps a transient one.
+    /// The node of a term of this library; the term may be a transient one.
     pub fn node(&self, term: TermId) -> Node<'_>
         requires { (t : Sexp) × IsTerm self.now term t }
         ensures { (row : Row) × (slice_get (terms_of self.now).rows term ≡ Some row)
@@ -267,7 +271,7 @@ impl Library {
         }
     }
 
-    // The node of a number, if one has it.
+    // The node that has this number, if there is one.
     fn node_at(&self, number: usize) -> Option<Node<'_>>
         ensures { option_map node_view result
             ≡ option_map (λ row. row.node) (slice_get (terms_of self.now).rows number) }
@@ -280,21 +284,21 @@ impl Library {
         }
     }
 
-    /// The nodes of all terms but the transient ones.
+    /// The nodes of all terms except the transient ones. The place of a node, from 0, is its number.
     pub fn nodes(&self) -> &Nodes
         ensures { rows_of result.now ≡ (contents_of self.now).rows }
     {
         &self.nodes
     }
 
-    /// The nodes that are the bodies of the definitions, in order.
+    /// The nodes of the definitions' bodies, in the order of `Library::definitions`.
     pub fn bodies(&self) -> &[TermId]
         ensures { result.now ≡ (terms_of self.now).bodies }
     {
         self.bodies.as_slice()
     }
 
-    // What a name stands for.
+    // What a name means, if it is in force.
     fn get(&self, name: &[u8]) -> Option<&Entry>
         ensures ranked { option_map (λ e. rank_of e.now) result
             ≡ look_up (names_of_library self.now).ranks name.now }
@@ -308,7 +312,7 @@ impl Library {
         }
     }
 
-    // The same, by comparing one name after another: for few that takes less than a hash.
+    // What a name means, found by comparing it with one name after another: for few names that costs less than a hash.
     fn get_among_few(&self, name: &[u8]) -> Option<&Entry>
         ensures { option_copied result
             ≡ look_up (entries_of self.now.names) name.now }
@@ -322,7 +326,7 @@ impl Library {
         None
     }
 
-    // Where a name stands.
+    // The place of a name among the declared names or the definitions, if it is in force.
     fn place_of(&self, name: &[u8]) -> Option<Found>
         ensures { result ≡ look_up (places_of_library self.now) name.now }
     {
@@ -332,7 +336,7 @@ impl Library {
         }
     }
 
-    // The name at a place, and what it stands for.
+    // The name at this place among all names, from 0, and what it means.
     fn get_index(&self, place: usize) -> (&[u8], &Entry)
         requires { place < name_count self.now }
         ensures { slice_get (ranks_of_library self.now) place ≡ Some (result.0.now, rank_of result.1.now) }
@@ -340,7 +344,7 @@ impl Library {
         self.names.get_index(place).unwrap()
     }
 
-    // A declaration by the command, as the next name.
+    // The declaration of the next name by the command of this number, or the first fault of a tree of a sort.
     fn declaration(&self, command: u64, params: &[Tree], sort: &Tree) -> Result<Declared, TermFault>
         ensures rank { IsOutcome (λ d. record { parameters = d.params.items; sort = d.result })
             (rank_named (sort_names self.now.sorts) (sexps_of params.now) (sexp_of sort.now)) result }
@@ -356,7 +360,7 @@ impl Library {
         })
     }
 
-    // Adds a declared name at the end, or changes nothing.
+    // Adds a declared name at the end; where memory is refused, it changes nothing.
     #[tactic(auto, using(crate::proofs::ContentsLemmas::extends_itself))]
     fn add_declared(&mut self, name: &[u8], declared: Declared) -> Result<(), Memory>
         requires absent { look_up (names_of_library self.old).ranks name.now ≡ None }
@@ -386,7 +390,7 @@ impl Library {
         }
     }
 
-    // Adds a name alone at the end, or changes nothing.
+    // Adds a name at the end, without its declaration or definition; where memory is refused, it changes no name.
     fn insert(&mut self, name: &[u8], entry: Entry) -> Result<(), Memory>
         requires { look_up (names_of_library self.old).ranks name.now ≡ None }
         ensures ranks { OnOk result

@@ -3,3 +3,4 @@ pub mod Sexp
 pub mod Tree
 pub mod TreeJoins
 pub mod Internal
+pub mod View

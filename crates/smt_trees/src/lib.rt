@@ -16,6 +16,7 @@ mod bytes;
 pub mod laws;
 mod reserved;
 mod tree;
+pub mod view;
 
 pub use bytes::Bytes;
 pub use reserved::{Word, spelling};

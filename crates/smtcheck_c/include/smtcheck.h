@@ -29,12 +29,13 @@
 extern "C" {
 #endif
 
-/* What a call answers. The first four are verdicts, and are the program's exit statuses. */
+/* What a call returns. The first four are verdicts, and are the program's exit statuses. */
 enum smtcheck_outcome {
-    /* Every `sat` is confirmed: a model was printed for it, and each such model makes every assertion in force and
-       every assumption of the check true. It says nothing of the other answers. */
+    /* Every `sat` is confirmed: the solver printed a model for it, and each such model makes every assertion in force
+       and every assumption of its `check-sat-assuming` true. The verdict says nothing of the other answers. */
     SMTCHECK_VALID = 0,
-    /* Some model that was printed for a `sat` makes an assertion in force or an assumption of the check false. */
+    /* Some model that the solver printed for a `sat` makes an assertion in force false, or an assumption of its
+       `check-sat-assuming`. */
     SMTCHECK_INVALID = 1,
     /* No `sat` is refuted, and some `sat` is not confirmed. */
     SMTCHECK_NOT_DECIDED = 2,
@@ -42,27 +43,27 @@ enum smtcheck_outcome {
     SMTCHECK_REFUSED = 3,
     /* Memory was refused. This says nothing of the dialogue. */
     SMTCHECK_MEMORY = 4,
-    /* `steps` is UINT64_MAX, which is no limit. Nothing was looked at. */
+    /* `steps` is UINT64_MAX, which is no limit. The call did not look at the texts. */
     SMTCHECK_OPTIONS = 5,
-    /* Of a session: no verdict has come yet. */
+    /* Of a session: the verdict is not decided yet. */
     SMTCHECK_OPEN = 6,
     /* Of a session: a text has more than UINT64_MAX bytes. */
     SMTCHECK_LONG = 7
 };
 
-/* What is said of a dialogue beside its two texts. */
+/* The options of a dialogue, beside its two texts. */
 struct smtcheck_options {
-    /* How many steps the evaluation of a model may take, from 0 to UINT64_MAX - 1. A model that may cost more is told
-       as `too long`, and is not evaluated. */
+    /* How many steps the evaluation of a model may take, from 0 to UINT64_MAX - 1. A model that may cost more is
+       reported as `too long`, and is not evaluated. */
     uint64_t steps;
     /* Whether the solver prints `success`, from the start, for each command that has no answer of its own. */
     bool print_success;
-    /* Whether the language that is taken is that of the profile `wide`, and not that of `base`: docs/LANGUAGE.md has
-       both. An initializer that leaves it out means `base`. */
+    /* Whether the language is that of the profile `wide`, and not that of `base`: docs/LANGUAGE.md has both. An
+       initializer that leaves it out means `base`. */
     bool wide;
 };
 
-/* The limit that the program has, if it is given none. */
+/* The program's limit of steps, if its caller gives none. */
 #define SMTCHECK_STEPS UINT64_C(10000000)
 
 /* How many checks of each kind a report has, and how many lines. */
@@ -70,20 +71,20 @@ struct smtcheck_summary {
     uint64_t confirmed; /* a `sat` with a model or more, each of them confirmed */
     uint64_t refuted;   /* a `sat` with a model that makes an assertion or an assumption false */
     uint64_t undecided; /* a `sat` that is neither */
-    uint64_t unchecked; /* a check that was answered otherwise than `sat` */
-    uint64_t lines;     /* all lines, that of the verdict among them */
+    uint64_t unchecked; /* a check with an answer other than `sat` */
+    uint64_t lines;     /* all lines, with the verdict line */
 };
 
 /*
  * Checks a solver's dialogue: the `script_length` bytes at `script`, which the solver read, and the `answers_length`
  * bytes at `answers`, which it printed, in order.
  *
- * It answers a verdict, or SMTCHECK_MEMORY or SMTCHECK_OPTIONS.
+ * It returns a verdict, or SMTCHECK_MEMORY or SMTCHECK_OPTIONS.
  *
- * With a verdict, `*summary` has the counts of the report, and `*wanted` is the length of its text: the lines that the
- * program prints, each with a line's end behind it, and no byte 0. If that text has at most `room` bytes, the first
- * bytes at `text` are the text, and those behind it stay as they were. If it has more, all `room` bytes stay as they
- * were, and none of the text is there: the caller looks whether `*wanted` is over `room`.
+ * With a verdict, `*summary` has the counts of the report, and `*wanted` is the length of its text in bytes. The text
+ * is the lines that the program prints, each with a line feed after it, and has no byte 0. If it has at most `room`
+ * bytes, the first bytes at `text` are the text, and those after it stay as they were. If it has more, all `room` bytes
+ * stay as they were, and none of the text is there: the caller looks whether `*wanted` is over `room`.
  *
  * Without a verdict, `*summary`, `*wanted` and the bytes at `text` stay as they were.
  */
@@ -92,71 +93,71 @@ uint32_t smtcheck_validate(const char *script, size_t script_length, const char 
                            size_t room, size_t *wanted);
 
 /*
- * Explains the report on a dialogue, as the program does with `--explain`: where each check that is not confirmed
- * stands, and the fault, by line and column, and why. The two texts are called `script` and `answers` in it.
+ * Explains the report on a dialogue, as the program does with `--explain`: each check that is not confirmed, and the
+ * fault, with its line and column, and why. The explanation calls the two texts `script` and `answers`.
  *
- * It answers as smtcheck_validate does. With a verdict, `*wanted` is the length of the explanation, and the bytes at
- * `text` are as there; it is empty where all is confirmed. Each of its lines has at most 200 printable bytes of ASCII
- * and a line's end, and no check has more than 200. What it says is tested, and not proved; that the verdict is the
- * right one is.
+ * It returns a number as smtcheck_validate does. With a verdict, `*wanted` is the length of the explanation in bytes,
+ * and the bytes at `text` are as there; the explanation is empty where all is confirmed. Each of its lines has at most
+ * 200 printable bytes of ASCII and a line feed, and no check has more than 200 lines. Tests check what it says, and no
+ * proof does; that the verdict is the right one is proved.
  */
 uint32_t smtcheck_explain(const char *script, size_t script_length, const char *answers, size_t answers_length,
                           const struct smtcheck_options *options, char *text, size_t room, size_t *wanted);
 
 /*
- * A session, which is told a dialogue piece by piece: the script as it is sent to the solver, and the answers as they
- * come. Or none: `struct smtcheck_session session = {0};`. Only the calls below change it, and it is never copied while
- * it has a session.
+ * A session, which accepts a dialogue piece by piece: the script as the caller sends it to the solver, and the answers
+ * as they come. Or none: `struct smtcheck_session session = {0};`. Only the calls below change it, and nobody copies it
+ * while it has a session.
  */
 struct smtcheck_session {
     void *at;
 };
 
 /*
- * Begins a session of two texts of which nothing has come, in a `*session` that has none. It answers SMTCHECK_OPEN; or
- * SMTCHECK_MEMORY or SMTCHECK_OPTIONS, and `*session` has none then.
+ * Begins a session of two texts of which nothing has come, in a `*session` that has none. It returns SMTCHECK_OPEN, or
+ * SMTCHECK_MEMORY or SMTCHECK_OPTIONS, and then `*session` has none.
  */
 uint32_t smtcheck_session_new(const struct smtcheck_options *options, struct smtcheck_session *session);
 
 /*
- * The four calls that tell something, to a session that was begun. A piece may end anywhere, also inside a token, and
- * may be empty. A text is told its end once, and no piece behind it. The texts come in any order: what is told does
- * not depend on it, nor on how they were cut.
+ * The four calls that feed a session that was begun. A piece may end anywhere, also inside a token, and may be empty.
+ * The caller reports the end of a text once, and passes no piece after it. The texts come in any order: the report does
+ * not depend on it, nor on how the caller cuts them.
  *
- * Each answers the verdict, once it is decided, and SMTCHECK_OPEN before. Once both ends were told there is a verdict.
- * SMTCHECK_MEMORY and SMTCHECK_LONG say that the session goes no further, and every later one of these calls answers
- * the same. The lines that were decided before can still be taken.
+ * Each returns the verdict, once it is decided, and SMTCHECK_OPEN before. Once both ends are reported there is a
+ * verdict. SMTCHECK_MEMORY and SMTCHECK_LONG say that the session goes no further, and every later one of these calls
+ * returns the same. The lines that were decided before can still be taken.
  */
 uint32_t smtcheck_session_script(struct smtcheck_session *session, const char *piece, size_t length);
 uint32_t smtcheck_session_answers(struct smtcheck_session *session, const char *piece, size_t length);
 uint32_t smtcheck_session_end_script(struct smtcheck_session *session);
 uint32_t smtcheck_session_end_answers(struct smtcheck_session *session);
 
-/* The verdict of a session that was begun, once it is decided, and SMTCHECK_OPEN before, also where it has failed. */
+/* The verdict of a session that was begun, once it is decided, and SMTCHECK_OPEN before; also of a failed session. */
 uint32_t smtcheck_session_verdict(struct smtcheck_session *session);
 
 /*
- * Takes the text of the next lines that are decided, of a session that was begun. No line is taken back later.
+ * Takes the text of the next decided lines from a session that was begun. The session withdraws no line later.
  *
- * `*wanted` is the length of that text, 0 where there is no line. If it has at most `room` bytes, the first bytes at
- * `text` are the text, and those behind it stay as they were: these lines are taken. If it has more, all stay as they
- * were, and the next call gives the same lines, and no later ones with them. So a caller that wants all lines calls
- * until `*wanted` is 0. Together the texts are the report's.
+ * `*wanted` is the length of that text in bytes, 0 where there is no line. If it has at most `room` bytes, the first
+ * bytes at `text` are the text, and those after it stay as they were: these lines are taken. If it has more, all stay
+ * as they were, and the next call gives the same lines, and no later ones with them. So a caller that wants all lines
+ * calls until `*wanted` is 0. Together the texts are the report's.
  *
- * It answers as smtcheck_session_verdict does. Or it answers SMTCHECK_MEMORY: then no line is taken, `*wanted` and the
- * bytes at `text` stay as they were, and the next call gives the same lines. The session does not fail by it.
+ * It returns a number as smtcheck_session_verdict does. Or it returns SMTCHECK_MEMORY: then no line is taken, `*wanted`
+ * and the bytes at `text` stay as they were, and the next call gives the same lines. The session does not fail by it.
  */
 uint32_t smtcheck_session_text(struct smtcheck_session *session, char *text, size_t room, size_t *wanted);
 
-/* Gives back the memory of a session that was begun. `*session` has none then. */
+/* Gives back the memory of a session that was begun. Then `*session` has none. */
 void smtcheck_session_free(struct smtcheck_session *session);
 
 /*
- * Tells the version of the library, and the toolchain that proved it, as `smtcheck --version` does behind the program's
- * name: `0.7.2 (rattle-kit-13f ..)`.
+ * Writes the version of the library, and the toolchain that proved it, as `smtcheck --version` prints them after the
+ * program's name: `0.7.3 (rattle-kit-13f ..)`.
  *
- * It answers the length of that text, which has no byte 0. If it has at most `room` bytes, the first bytes at `text` are
- * the text, and those behind it stay as they were; if it has more, all stay as they were.
+ * It returns the length of that text in bytes. The text has no byte 0. If it has at most `room` bytes, the first bytes
+ * at `text` are the text, and those after it stay as they were; if it has more, all stay as they were.
  */
 size_t smtcheck_version(char *text, size_t room);
 

@@ -1,5 +1,5 @@
-//! A session, with the lines that were taken of it and that C was not given: its buffer had no room for their text,
-//! or memory was refused. This file knows no pointer.
+//! A session, with the lines that it has returned and C has not got: C's buffer had no room for their text, or memory
+//! was refused. This file knows no pointer.
 
 ghost use Rattle.std.specs.Prelude.{◌≡◌, ◌≢◌, ◌<◌, ◌⊎◌, None, false, true, IfOk, OnErr};
 ghost use Rattle.smt_dialogue.specs.History.{History, begun, with_answers, with_answers_end, with_script};
@@ -13,7 +13,7 @@ use crate::text::{put_text, text_of_lines};
 use smt_dialogue::{Failed, Line, Memory, Options, Session};
 use std::alloc::Global;
 
-/// A session, with the lines that were taken of it and that C was not given.
+/// A session, with the lines that it has returned and C has not got.
 #[derive(Drop)]
 pub struct Feed {
     pub(crate) session: Session,
@@ -34,7 +34,9 @@ impl Feed {
         }
     }
 
-    /// Takes the next piece of the script, of which the end was not told, and answers what has come of it.
+    /// Accepts the next piece of the script, whose end was not reported before. Returns the number of the verdict if it
+    /// is decided, and 6 if it is not. It returns 4 where memory was refused, and 7 where a text has more than 2^64 - 1
+    /// bytes; then every later call that feeds the session returns the same.
     pub(crate) fn script(&mut self, piece: &[u8]) -> u32
         requires feeds { (h : History) × Feeds self.old h }
         requires open { is_script_over self.old ≡ false }
@@ -49,7 +51,7 @@ impl Feed {
         self.outcome(told)
     }
 
-    /// Takes the next piece of the answers, of which the end was not told.
+    /// Accepts the next piece of the answers, whose end was not reported before. Returns a number as `script` does.
     pub(crate) fn answers(&mut self, piece: &[u8]) -> u32
         requires feeds { (h : History) × Feeds self.old h }
         requires open { is_answers_over self.old ≡ false }
@@ -64,7 +66,7 @@ impl Feed {
         self.outcome(told)
     }
 
-    /// Takes the end of the script, which was not told before.
+    /// Accepts the end of the script, which was not reported before. Returns a number as `script` does.
     pub(crate) fn end_script(&mut self) -> u32
         requires feeds { (h : History) × Feeds self.old h }
         requires open { is_script_over self.old ≡ false }
@@ -79,7 +81,7 @@ impl Feed {
         self.outcome(told)
     }
 
-    /// Takes the end of the answers, which was not told before.
+    /// Accepts the end of the answers, which was not reported before. Returns a number as `script` does.
     pub(crate) fn end_answers(&mut self) -> u32
         requires feeds { (h : History) × Feeds self.old h }
         requires open { is_answers_over self.old ≡ false }
@@ -94,7 +96,7 @@ impl Feed {
         self.outcome(told)
     }
 
-    // What has come of a call that told something.
+    // The number of the outcome of a call that fed the session.
     fn outcome(&self, told: Result<(), Failed>) -> u32
         requires { IsAnswerOf told self.now }
         ensures number { (h : History) → Feeds self.now h → IsNumberOf result self.now h }
@@ -107,7 +109,7 @@ impl Feed {
         }
     }
 
-    /// The number of the verdict, or that there is none yet.
+    /// The number of the verdict, from 0 to 3, if it is decided, and 6 if it is not.
     pub(crate) fn verdict(&self) -> u32
         ensures told { result ≢ 4 }
         ensures range { (result < 4) ⊎ (result ≡ 6) }
@@ -119,7 +121,9 @@ impl Feed {
         }
     }
 
-    /// Gives the text of the next lines, if there is room for all of it, and answers its length.
+    /// Writes the text of the next lines to `room`, if there is room for all of it, and returns its length in bytes.
+    /// Otherwise `room` stays as it was, and the next call has the same lines. It fails with `Memory`; then it gives no
+    /// line, and `room` stays as it was.
     pub(crate) fn give(&mut self, alloc: Global, room: &mut [u8]) -> Result<usize, Memory>
         ensures given { IfOk result (λ wanted.
             AreGivenLines self.old self.new wanted room.old room.new) }
@@ -139,7 +143,7 @@ impl Feed {
         Ok(wanted)
     }
 
-    // Takes the lines of the session, where none waits here.
+    // Takes the lines that wait in the session, where none waits here.
     fn gather(&mut self)
         ensures feeds { FeedsThen self.old self.new (λ h. h) }
         ensures next { AreNextLines self.old self.new.waiting.items }

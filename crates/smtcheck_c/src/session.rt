@@ -1,4 +1,4 @@
-//! Sessions that C tells a dialogue piece by piece, by a handle. This file decides nothing.
+//! Sessions to which C feeds a dialogue piece by piece, through a handle. This file decides nothing.
 
 ghost use Rattle.std.specs.Prelude.{◌≡◌, ◌≢◌, ◌<◌, ◌≤◌, ◌-◌, ◌^◌, ◌⊎◌, ◌↔◌, None, Some, false, true};
 ghost use Rattle.smt_dialogue.specs.History.{History, with_answers, with_answers_end, with_script};
@@ -15,8 +15,9 @@ use crate::session_handle::{SmtcheckSession, put, take};
 use smt_dialogue::Memory;
 use std::alloc::Global;
 
-/// Begins a session of two texts of which nothing has come, in a handle that has none. Answers 6, and the handle
-/// has it; or 4 where memory was refused and 5 where the limit of the options is 2^64 - 1, and it has none.
+/// Begins a session of two texts of which nothing has come, in a handle that has none. It returns 6, and the handle
+/// has the session. Or it returns 5 where the limit of the options is 2^64 - 1, and else 4 where memory was refused;
+/// then the handle has none.
 #[unsafe(no_mangle)]
 pub extern "C" fn smtcheck_session_new(
     alloc: Global,
@@ -44,9 +45,9 @@ pub extern "C" fn smtcheck_session_new(
     }
 }
 
-/// Takes the next piece of the script, of which the end was not told. Answers the number of the verdict, if it is
-/// decided, and 6 if it is not; or 4 where memory was refused, and 7 where a text has more than 2^64 - 1 bytes: then
-/// every later call that tells something answers the same.
+/// Accepts the next piece of the script, whose end was not reported before. It returns the number of the verdict if it
+/// is decided, and 6 if it is not. It returns 4 where memory was refused, and 7 where a text has more than 2^64 - 1
+/// bytes; then every later call that feeds the session returns the same.
 #[unsafe(no_mangle)]
 pub extern "C" fn smtcheck_session_script(
     alloc: Global,
@@ -69,7 +70,8 @@ pub extern "C" fn smtcheck_session_script(
     outcome
 }
 
-/// Takes the next piece of the answers, of which the end was not told. Answers as the call above.
+/// Accepts the next piece of the answers, whose end was not reported before. It returns a number as
+/// `smtcheck_session_script` does.
 #[unsafe(no_mangle)]
 pub extern "C" fn smtcheck_session_answers(
     alloc: Global,
@@ -92,7 +94,7 @@ pub extern "C" fn smtcheck_session_answers(
     outcome
 }
 
-/// Takes the end of the script, which was not told before. Answers as the calls above.
+/// Accepts the end of the script, which was not reported before. It returns a number as `smtcheck_session_script` does.
 #[unsafe(no_mangle)]
 pub extern "C" fn smtcheck_session_end_script(alloc: Global, session: &mut SmtcheckSession) -> u32
     requires feeds { (h : History) × Holds session.old.feed h }
@@ -111,7 +113,8 @@ pub extern "C" fn smtcheck_session_end_script(alloc: Global, session: &mut Smtch
     outcome
 }
 
-/// Takes the end of the answers, which was not told before. Answers as the calls above.
+/// Accepts the end of the answers, which was not reported before. It returns a number as `smtcheck_session_script`
+/// does.
 #[unsafe(no_mangle)]
 pub extern "C" fn smtcheck_session_end_answers(alloc: Global, session: &mut SmtcheckSession) -> u32
     requires feeds { (h : History) × Holds session.old.feed h }
@@ -130,7 +133,7 @@ pub extern "C" fn smtcheck_session_end_answers(alloc: Global, session: &mut Smtc
     outcome
 }
 
-/// The number of the verdict, if it is decided, and 6 if it is not, also where the session has failed.
+/// The number of the verdict, from 0 to 3, if it is decided, and 6 if it is not, also where the session has failed.
 #[unsafe(no_mangle)]
 pub extern "C" fn smtcheck_session_verdict(alloc: Global, session: &mut SmtcheckSession) -> u32
     requires { (f : Fed) × (session.old.feed ≡ Some f) }
@@ -144,11 +147,12 @@ pub extern "C" fn smtcheck_session_verdict(alloc: Global, session: &mut Smtcheck
     outcome
 }
 
-/// Gives the text of the next lines that are decided and were not given: `wanted` is its length, and it stands at the
-/// front of `text`, and is given, if there is room for all of it; else `text` stays as it was, and the next call
-/// gives the same lines. Where `wanted` is 0 there is none. Answers as `smtcheck_session_verdict`, or 4 where memory
-/// was refused: then nothing is given, `text` and `wanted` stay as they were, and the next call gives the same lines.
-/// The session does not fail by it.
+/// Gives the text of the next decided lines that no earlier call gave; `wanted` becomes its length in bytes, 0 where
+/// there is no line. If `text` has room for all of it, the text is at the front of `text`, and its lines are given.
+/// Otherwise `text` stays as it was, and the next call has the same lines.
+///
+/// It returns a number as `smtcheck_session_verdict` does, or 4 where memory was refused. Then it gives nothing, `text`
+/// and `wanted` stay as they were, and the next call has the same lines. The session does not fail by it.
 #[unsafe(no_mangle)]
 pub extern "C" fn smtcheck_session_text(
     alloc: Global,
@@ -184,7 +188,7 @@ pub extern "C" fn smtcheck_session_text(
     }
 }
 
-/// Gives the memory of a session back. The handle has none then.
+/// Gives the memory of a session back. The handle then has no session.
 #[unsafe(no_mangle)]
 pub extern "C" fn smtcheck_session_free(alloc: Global, session: &mut SmtcheckSession)
     requires { (f : Fed) × (session.old.feed ≡ Some f) }

@@ -1,10 +1,10 @@
-//! What the lines of a report come to, as C is told it. This file finds no line.
+//! The counts of the lines of a report, as C gets them. This file finds no line.
 
 ghost use Rattle.smtcheck_c.specs.Told.{IsSummaryOf};
 
 use smt_dialogue::{Line, Tally};
 
-/// `struct smtcheck_summary`: how many checks there are of each kind, and how many lines.
+/// `struct smtcheck_summary`: how many checks of each kind a report has, and how many lines.
 #[repr(C)]
 #[derive(Clone, Copy)]
 pub struct SmtcheckSummary {
@@ -14,13 +14,13 @@ pub struct SmtcheckSummary {
     pub refuted: u64,
     /// How many `sat` are neither.
     pub undecided: u64,
-    /// How many checks were answered otherwise than `sat`.
+    /// How many checks have an answer other than `sat`.
     pub unchecked: u64,
-    /// How many lines the report has, that of the verdict among them.
+    /// How many lines the report has, with the verdict line.
     pub lines: u64,
 }
 
-/// What the lines come to.
+/// The counts of these lines.
 pub(crate) fn summary_of(lines: &[Line]) -> SmtcheckSummary
     ensures { IsSummaryOf result lines.now }
 {

@@ -18,7 +18,7 @@ use smt_theory::Profile;
 use std::alloc::{AllocError, Global};
 
 /// The version of the program and the kit that proves it, which `--version` prints after the program's name.
-const VERSION: &str = "0.7.2 (rattle-kit-13f logic dac8208d650f15bf)";
+const VERSION: &str = "0.7.3 (rattle-kit-13f logic dac8208d650f15bf)";
 
 const ABOUT: &str = "Checks the models that an SMT solver printed.
 
@@ -44,7 +44,8 @@ a model that repeat a label or a definition of the script, as z3 prints them";
 
 const STEPS: &str =
     "How many steps the evaluation of a model may take, from 0 to 18446744073709551614. All assertions in \
-force count together, and a model that costs more is told as `too long`, and is not evaluated.
+force and all assumptions count together, and a model that costs more is told as `too long`, and is not \
+evaluated.
 
 A step is one term that is evaluated. Its parts count as well, the body of a name counts at each use of the \
 name, and each annotation `!` is one step more.
@@ -54,8 +55,8 @@ enough for some 25 to 70 MB of usual script.";
 
 const EXPLAIN: &str =
     "After the report, say of each check that is not confirmed, and of the fault, where it stands in the files, by \
-line and column, and why: of an assertion that is false the part that makes it so, with the values of what stands \
-in it.
+line and column, and why: of an assertion or an assumption that is false the part that makes it so, with the values \
+of what stands in it.
 
 The report and the status stay the same. Both texts are kept in memory until then.";
 
@@ -66,7 +67,7 @@ is no check. The report stays the same.";
 const VERDICTS: &str =
     "The last line of the report is the verdict, and the exit status says the same:
   0  valid: every `sat` is confirmed by the models printed for it
-  1  invalid: some model makes an assertion false
+  1  invalid: some model makes an assertion or an assumption false
   2  not decided: no model refutes a `sat`, and some `sat` is not confirmed
   3  refused: the script or the answers have a fault
   4  a file could not be opened, read or written, or memory was refused: standard error says which

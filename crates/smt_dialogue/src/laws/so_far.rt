@@ -1,5 +1,5 @@
-//! What holds of the lines of two texts so far, of which more may come. Nothing here does anything: each
-//! contract is a law, and each call is of a law that it rests on.
+//! Laws of the lines of two texts so far, of which more may come. Each law is a theorem about definitions, stated as
+//! the contract of a function without effect; a call in its body is of a law that its proof uses.
 
 ghost use Rattle.std.specs.Prelude.{◌≡◌, ◌++◌, ◌∷◌, ℕ, List, Bool, Some, true};
 ghost use Rattle.smt_trees.specs.Sexp.{Sexp};
@@ -21,7 +21,7 @@ ghost use Rattle.smt_report.specs.declared.line.Line.{Line};
 
 use smt_text::laws::{every_text_reads, one_reading, read_faults_stay, read_trees_stay};
 
-/// Two texts so far, with their ends told or not, have lines, and these are one answer.
+/// Two texts so far, with their ends reported or not, have exactly one list of lines.
 pub fn lines_so_far_are_one_answer()
     ensures some { (options : Options) (script_told answers_told : Bool) (script answers : List ℕ)
         → (ls : List Line) × IsSoFar options script_told script answers_told answers ls }
@@ -33,7 +33,7 @@ pub fn lines_so_far_are_one_answer()
     one_reading();
 }
 
-/// Where both ends were told, the lines so far are the report.
+/// Where both ends are reported, the lines so far are the report.
 pub fn told_lines_are_the_report()
     ensures report { (options : Options) (script answers : List ℕ) (ls : List Line)
         → IsSoFar options true script true answers ls → IsReport options script answers ls }
@@ -41,7 +41,7 @@ pub fn told_lines_are_the_report()
         → IsReport options script answers ls → IsSoFar options true script true answers ls }
 {}
 
-/// Lines that are decided stay, in their order, whatever trees, ends and faults come.
+/// Decided lines stay, in their order, whatever trees, ends and faults come.
 pub fn decided_lines_stay()
     ensures { (options : Options) (script answers grown_script grown_answers : TextSoFar)
         (ls ms : List Line) → IsGrown script grown_script → IsGrown answers grown_answers
@@ -50,7 +50,8 @@ pub fn decided_lines_stay()
         → IsBeginning ls ms }
 {}
 
-/// The same of bytes: the lines so far are the first of those of more of both texts.
+/// The lines so far of two texts of bytes stay, in their order: they are the first lines so far of any two texts that
+/// continue these.
 pub fn lines_so_far_stay()
     ensures { (options : Options) (script_told answers_told grown_script_told grown_answers_told :
         Bool)
@@ -67,9 +68,9 @@ pub fn lines_so_far_stay()
     decided_lines_stay();
 }
 
-/// Where a dialogue waits, each check that is decided has its line among the lines so far: one that was answered
-/// otherwise than `sat`, a `sat` with a model that is not confirmed, and each `sat` whose window has ended or is
-/// closed where it waits.
+/// Where a dialogue waits, each decided check has its line among the lines so far. These checks are decided: one with
+/// an answer other than `sat`, a `sat` with a model that is not confirmed, and a `sat` whose window has ended or is
+/// closed where the dialogue waits.
 pub fn decided_checks_have_their_lines()
     ensures answered { (options : Options) (script answers : TextSoFar) (before after : List Pair)
         (check : Pair) (closed : Bool) (ls : List Line) (answer : Sexp) (other : CheckAnswer)

@@ -7,6 +7,7 @@ ghost use Rattle.smt_trees.specs.Tree.{sexp_of};
 ghost use Rattle.smt_values.specs.Element.{Element, known_element, known_elements};
 ghost use Rattle.smt_forms.specs.Identifier.{Plain};
 ghost use Rattle.smt_forms.specs.IdentifierView.{identifier_view};
+ghost use Rattle.smt_eval.specs.Cost.{body_cost, costs_after, no_costs};
 ghost use Rattle.smt_eval.specs.Internal.PlainEvaluation.{Gives, bodies_weight, meaning_of};
 ghost use Rattle.smt_eval.specs.Known.{KnownMeaning, known_after, known_defined, known_of_op};
 ghost use Rattle.smt_eval.specs.PlainTerm.{entries_of, origin_of};
@@ -83,8 +84,8 @@ fn known_body(
     known_value(earlier, variables.as_slice(), definition.body)
 }
 
-// The last definition of a name, with the definitions before it.
-fn last_named<'a>(
+/// The last definition of a name, with the definitions before it.
+pub(crate) fn last_named<'a>(
     definitions: &'a [Definition<'a>],
     name: &[u8],
 ) -> Option<(&'a Definition<'a>, &'a [Definition<'a>])>
@@ -92,6 +93,9 @@ fn last_named<'a>(
         (known_after m (entries_of definitions.now) (Plain name.now) args ≡ m (Plain name.now) args)
         (λ found. known_after m (entries_of definitions.now) (Plain name.now) args
         ≡ known_defined (known_after m (entries_of found.1.now)) (origin_of found.0.now) args) }
+    ensures costs { MatchOption result (costs_after no_costs (entries_of definitions.now) name.now ≡ 0)
+        (λ found. costs_after no_costs (entries_of definitions.now) name.now
+        ≡ body_cost (costs_after no_costs (entries_of found.1.now)) (origin_of found.0.now)) }
     ensures lighter { IfSome result (λ found. bodies_weight found.1.now + weight (sexp_of found.0.now.body.now)
         ≤ bodies_weight definitions.now) }
 {

@@ -8,6 +8,7 @@ use Rattle.smt_values.specs.Element.{Element}
 use Rattle.smt_values.specs.KnownOperations.{known_choice, known_step}
 use Rattle.smt_machine.specs.Given.{given}
 use Rattle.smt_machine.specs.Costs.{around_at, cost, last_cost, part_cost}
+use Rattle.smt_machine.specs.Least.{least, part_least}
 use Rattle.smt_machine.specs.Internal.KeptView.{kept_at}
 use Rattle.smt_machine.specs.Internal.States.{State, first_of, frame_of, last_of, state_of, with_frames}
 use Rattle.smt_machine.specs.Internal.States.{with_last, with_value}
@@ -112,6 +113,21 @@ abbrev pub tasks_cost : List Node → (ℕ → ℕ) → List Task → ℕ
 tasks_cost nodes c [] = 0
 tasks_cost nodes c (t ∷ ts) = task_cost nodes c t + tasks_cost nodes c ts
 
+-- of the body that node i binds values for
+abbrev pub body_least : ℕ → (ℕ → ℕ) → Option Node → ℕ
+body_least i k (Some (Let values body)) = part_least i k body
+body_least i k _ = 0
+
+-- what is counted at least until a task is done, and all that it plans
+abbrev pub task_least : List Node → (ℕ → ℕ) → Task → ℕ
+task_least nodes k (Visit i) = k i
+task_least nodes k (Finish i) = body_least i k (slice_get nodes i)
+task_least nodes k _ = 0
+
+abbrev pub tasks_least : List Node → (ℕ → ℕ) → List Task → ℕ
+tasks_least nodes k [] = 0
+tasks_least nodes k (t ∷ ts) = task_least nodes k t + tasks_least nodes k ts
+
 -- three for each node that is visited, and up to two for what is done with it besides
 abbrev pub task_work : List Node → Task → ℕ
 task_work nodes (Visit i) = 3 * cost nodes [] i
@@ -161,7 +177,7 @@ pub record IsKeeping (number : ℕ) (before after : Machine) : Type 0 where
       then Some (first_of (last_of 1 (state_of before).values)) else kept_at before.kept other)
 
 -- a machine has done a task that was taken off already: what is left to do leads to the same, is less, and
--- costs no more with what was counted
+-- with what was counted costs no more, and takes no less
 pub record IsDone (nodes : List Node) (task : Task) (before after : Machine) : Type 0 where
   pub answer : run_all nodes after.tasks.items (state_of after)
       ≡ run_all nodes before.tasks.items (run nodes task (state_of before))
@@ -169,6 +185,9 @@ pub record IsDone (nodes : List Node) (task : Task) (before after : Machine) : T
   pub falls : work nodes after.tasks.items < work nodes before.tasks.items + task_work nodes task
   pub pays : (arounds : List ℕ) → tasks_cost nodes (cost nodes arounds) after.tasks.items + charge arounds task
       ≤ tasks_cost nodes (cost nodes arounds) before.tasks.items + task_cost nodes (cost nodes arounds) task
+  pub owes : (arounds : List ℕ)
+      → tasks_least nodes (least nodes arounds) before.tasks.items + task_least nodes (least nodes arounds) task
+      ≤ tasks_least nodes (least nodes arounds) after.tasks.items + charge arounds task
   pub remembers : Remembers after nodes
   pub due : AreDue nodes before.tasks.items (run nodes task (state_of before))
       → AreDue nodes after.tasks.items (state_of after)
@@ -185,9 +204,11 @@ pub record IsRunning (nodes : List Node) (v : Option Element) (m : Machine) : Ty
   pub remembers : Remembers m nodes
   pub due : AreDue nodes m.tasks.items (state_of m)
 
--- of so many at first so many are left: enough for the tasks, and not more than the cost was taken
+-- of so many at first so many are left: enough for the tasks; not more was taken than the cost, and with the
+-- tasks not less than the least
 pub record IsPaid (nodes : List Node) (arounds : List ℕ) (root first left : ℕ) (m : Machine) : Type 0 where
   pub enough : tasks_cost nodes (cost nodes arounds) m.tasks.items ≤ left
   pub paid : first + tasks_cost nodes (cost nodes arounds) m.tasks.items ≤ left + cost nodes arounds root
+  pub counted : left + least nodes arounds root ≤ first + tasks_least nodes (least nodes arounds) m.tasks.items
   pub within : left ≤ first
   pub fewer : (m.tasks.items ≡ Visit root ∷ []) ⊎ (left < first)

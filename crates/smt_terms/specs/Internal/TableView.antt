@@ -10,6 +10,7 @@ use Rattle.smt_trees.specs.Tree.{sexp_of}
 use Rattle.smt_terms.specs.Denotes.{Denotes, Head, Slots, Table}
 use Rattle.smt_terms.specs.Internal.DraftView.{inside, seen_by}
 use Rattle.smt_terms.specs.declared.labels.Label.{Label}
+use Rattle.smt_terms.specs.declared.library.Definition.{Definition}
 use Rattle.smt_terms.specs.declared.library.Entry.{Entry}
 use Rattle.smt_terms.specs.declared.library.Found.{Found}
 use Rattle.smt_terms.specs.declared.library.Found.TheVariants as place
@@ -24,17 +25,23 @@ head_of e = record { place = e.place; arity = length e.parameters.items }
 abbrev pub heads_of_library : Library → List (List ℕ × Head)
 heads_of_library library = map (λ p. (p.0, head_of p.1)) (entries_of library.names)
 
+-- the names of definitions, in order
+abbrev pub names_of_definitions : List Definition → List (List ℕ)
+names_of_definitions definitions = map (λ d. d.name.items) definitions
+
 abbrev pub table_of : Library → Table
 table_of library = record {
   theories = library.sorts.theories;
   heads = heads_of_library library;
+  names = names_of_definitions library.definitions.items;
   bodies = library.bodies.items;
   rows = rows_of library.nodes;
 }
 
--- the same with these nodes, where the labels that were given have the bodies behind the library's
+-- the same with these nodes, where the labels that were given are definitions behind the library's
 abbrev pub table_with : Library → List Label → List Row → Table
 table_with library given rows = record (table_of library) {
+  names = names_of_definitions library.definitions.items ++ map (λ l. l.name.items) given;
   bodies = library.bodies.items ++ map (λ l. l.node) given;
   rows = rows;
 }

@@ -1,5 +1,5 @@
-//! Laws of first faults: which of two faults of a term or an item is reported. The order is a choice of this project.
-//! Nothing here does anything.
+//! Laws of first faults: which of two faults of a term or an item the checker reports. The order is a choice of this
+//! project. Each law is a theorem about definitions, stated as the contract of an empty function.
 
 ghost use Rattle.std.specs.Prelude.{◌≡◌, ◌∷◌, ◌++◌, ℕ, List, [], true, false, Ok, Err, None, Some};
 ghost use Rattle.std.specs.Prelude.{is_some, map};
@@ -26,7 +26,8 @@ ghost use Rattle.smt_faults.specs.declared.term_flaw.TermFlaw.{TermFlaw};
 ghost use Rattle.smt_faults.specs.declared.term_flaw.TermFlaw.TheVariants.{BoundTwice, Form, IllSorted, Label};
 ghost use Rattle.smt_faults.specs.declared.term_flaw.TermFlaw.TheVariants.{NotFresh, Unknown};
 
-/// The first faulty argument of an application is reported, whatever is applied and whatever comes after it.
+/// The fault of an application is that of its first faulty argument, whatever symbol is applied and whatever comes
+/// after that argument.
 pub fn first_faulty_arguments_are_reported()
     ensures first { (names : Names) (scope : List (List ℕ × Sort)) (f : List ℕ) (x : Sexp) (xs : Sexps)
         (flaw : TermFlaw) → sort_in names scope x ≡ Err flaw
@@ -39,8 +40,9 @@ pub fn first_faulty_arguments_are_reported()
         → sort_in names scope x ≡ Err flaw → sorts_in names scope (Cons x xs) ≡ Err flaw }
 {}
 
-/// After its arguments the name of an application is looked at: a variable's is ill sorted, that of nothing is
-/// unknown, and one of other parameters is ill sorted.
+/// In an application a fault of the name comes after the faults of its arguments. The name of a variable is ill
+/// sorted. A name that is neither in force nor an operator's is unknown. A name in force with other parameters is ill
+/// sorted.
 pub fn applied_names_come_after_their_arguments()
     ensures variable { (names : Names) (scope : List (List ℕ × Sort)) (f : List ℕ) (x : Sexp) (xs : Sexps)
         (sorts : List Sort) (sort : Sort) → sorts_in names scope (Cons x xs) ≡ Ok sorts
@@ -57,8 +59,8 @@ pub fn applied_names_come_after_their_arguments()
         → sort_in names scope (Items (Cons (Atom Symbol f) (Cons x xs))) ≡ Err IllSorted }
 {}
 
-/// Of a `let` its form is looked at first (SMT-LIB 2.6, section 3.6.1). Then come its bindings, from the left: a name
-/// that an earlier one has, and else the term. The body comes last.
+/// In a `let` a fault of its form comes first, then those of its bindings, from the left, then that of its body
+/// (SMT-LIB 2.6, section 3.6.1). In a binding, a name that an earlier binding has comes before a fault of the term.
 pub fn lets_are_checked_from_the_left()
     ensures form { (names : Names) (scope : List (List ℕ × Sort)) (bindings : Sexps) (body : Sexp)
         → are_bindings bindings ≡ false
@@ -83,9 +85,9 @@ pub fn lets_are_checked_from_the_left()
         → sort_in names scope (Items (Cons (Reserved Let) (Cons (Items bindings) (Cons body Nil)))) ≡ Err flaw }
 {}
 
-/// Of an annotated term the form of its attributes is looked at first (SMT-LIB 2.6, section 3.6.5), then the term, and
-/// then its labels. Where none may be given, or the term uses a variable from outside, that is reported of the first
-/// label, whatever its name.
+/// In an annotated term a fault of the form of its attributes comes first, then that of the term, then those of its
+/// labels (SMT-LIB 2.6, section 3.6.5). Where no label is allowed, or the term uses a variable from outside, the first
+/// label has the fault `Label`, whatever its name.
 pub fn annotations_are_checked_after_their_form()
     ensures form { (names : Names) (scope : List (List ℕ × Sort)) (term : Sexp) (attributes : Sexps)
         → are_attributes attributes ≡ false
@@ -104,8 +106,9 @@ pub fn annotations_are_checked_after_their_form()
         → sort_in names scope (Items (Cons (Reserved Bang) (Cons term attributes))) ≡ Err Label }
 {}
 
-/// Of an item that is not set aside its name is looked at first (SMT-LIB 2.6, section 4.2.6): that an earlier item
-/// has it, and then that the script uses it otherwise. Then come its parameters, its sort, and its rank.
+/// In an item that is not set aside the faults of its name come first, then those of its parameters, its sort and its
+/// rank (SMT-LIB 2.6, section 4.2.6). The first fault of a name is that an earlier item has it. The next is that the
+/// script does not declare it, and that it is in use or a plain operator's.
 pub fn items_are_checked_from_the_left()
     ensures twice { (script : Signature) (earlier : List Entry) (form : ItemForm)
         → is_set_aside script form.name ≡ false → is_some (entry_named earlier form.name) ≡ true

@@ -1,5 +1,5 @@
-//! The arguments that were checked of terms that are not yet: their sorts and their nodes. This file knows no
-//! trees and no names.
+//! The checked arguments of terms that are not yet checked themselves: their sorts and their nodes. This file knows
+//! no trees and no names.
 
 ghost use Rattle.std.specs.Prelude.{◌≡◌, length};
 ghost use Rattle.std.proofs.Props.{props};
@@ -9,10 +9,11 @@ use smt_nodes::TermId;
 use smt_theory::Sort;
 use std::alloc::Global;
 
-// How many arguments memory is kept for between terms.
+// The most arguments for which a clear keeps memory.
 const FEW: usize = 1024;
 
-/// Sorts and nodes of arguments, those of the innermost term last. A term that is checked takes its own away.
+/// The sorts and the nodes of arguments, those of the innermost term last. The checker removes the arguments of a
+/// term once it has checked the term.
 #[derive(Drop)]
 pub(crate) struct Arguments {
     sorts: Vec<Sort>,
@@ -34,7 +35,7 @@ impl Arguments {
         }
     }
 
-    /// How many there are.
+    /// The number of arguments.
     #[inline(always)]
     pub(crate) fn len(&self) -> usize
         ensures { result ≡ length (argument_sorts self.now) }
@@ -42,7 +43,7 @@ impl Arguments {
         self.sorts.len()
     }
 
-    /// The sorts of those from this one on.
+    /// The sorts of the arguments from this place on, from 0; the place is at most the number of arguments.
     #[inline(always)]
     pub(crate) fn sorts(&self, start: usize) -> &[Sort]
         requires { start ≤ length (argument_sorts self.now) }
@@ -51,7 +52,7 @@ impl Arguments {
         &self.sorts.as_slice()[start..]
     }
 
-    /// The nodes of those from this one on.
+    /// The nodes of the arguments from this place on, from 0; the place is at most the number of arguments.
     #[inline(always)]
     pub(crate) fn terms(&self, start: usize) -> &[TermId]
         requires { start ≤ length (argument_sorts self.now) }
@@ -60,7 +61,7 @@ impl Arguments {
         &self.terms.as_slice()[start..]
     }
 
-    /// Adds one at the end.
+    /// Adds an argument of this sort and node at the end, or fails with `Memory`.
     #[inline(always)]
     pub(crate) fn push(&mut self, sort: Sort, term: TermId) -> Result<(), Memory>
         ensures sorts { OnOk result (argument_sorts self.new ≡ argument_sorts self.old ++ sort ∷ []) }
@@ -72,7 +73,7 @@ impl Arguments {
         Ok(())
     }
 
-    /// Leaves the first so many.
+    /// Keeps the first `count` arguments, or all of them if there are fewer.
     #[inline(always)]
     pub(crate) fn truncate(&mut self, count: usize)
         ensures sorts { argument_sorts self.new ≡ take count (argument_sorts self.old) }
@@ -82,7 +83,7 @@ impl Arguments {
         self.terms.truncate(count);
     }
 
-    /// Leaves none, and not much memory.
+    /// Removes all arguments, and gives their memory back where it has room for more than 1,024.
     pub(crate) fn clear(&mut self, alloc: Global)
         ensures { argument_sorts self.new ≡ [] }
     {

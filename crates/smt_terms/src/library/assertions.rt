@@ -1,5 +1,5 @@
-//! Assertions: a term that is checked with its labels, which become names. Which level it stands at is not
-//! known here.
+//! Assertions: this file checks a term with its labels, and makes the labels names. It does not know the level of
+//! an assertion.
 
 ghost use Rattle.std.specs.Prelude.{◌≡◌, ◌⊎◌, ◌∷◌, ◌++◌, ℕ, List, [], None, Ok, Err, map, IfErr, IfOk, OnErr};
 ghost use Rattle.std.specs.Prelude.{OnOk};
@@ -7,9 +7,10 @@ ghost use Rattle.smt_trees.specs.Tree.{sexp_of};
 ghost use Rattle.smt_theory.specs.Words.{look_up};
 ghost use Rattle.smt_terms.specs.Assertions.{asserted_in};
 ghost use Rattle.smt_terms.specs.Contents.{Extends, contents_of};
-ghost use Rattle.smt_terms.specs.Internal.Growing.{AreFitUnder, HoldsUnder, IsFitUnder};
+ghost use Rattle.smt_terms.specs.Internal.Growing.{AreFitUnder, Bodies, HoldsUnder, IsFitUnder};
 ghost use Rattle.smt_terms.specs.Internal.LabelsView.{AreNew, label_entry};
 ghost use Rattle.smt_terms.specs.Internal.LibraryView.{ranks_of_library};
+ghost use Rattle.smt_terms.specs.Internal.TableView.{names_of_definitions};
 ghost use Rattle.smt_terms.specs.Library.{IsTermOf, IsUnchanged, StandsFor, transient_of};
 ghost use Rattle.smt_terms.specs.Signature as signature;
 ghost use Rattle.smt_terms.specs.Signature.{Signature, names_of, rank_of_entry, with_entries, with_entry};
@@ -24,14 +25,13 @@ use smt_theory::Sort;
 use smt_trees::Tree;
 
 impl Library {
-    /// Checks a term that is asserted, and adds the labels in it, which stand for their terms from then on
-    /// (SMT-LIB 2.6, sections 3.6.5 and 4.2.4): the number of the term. No term sees a label of its own
-    /// assertion.
+    /// Checks a term that is asserted, and adds the labels in it as names of their terms (SMT-LIB 2.6, sections 3.6.5
+    /// and 4.2.4). It returns the number of the term's node. No term sees a label of its own assertion.
     ///
-    /// Refused is a term with a fault, with the first; for a label that is a term that uses a variable bound
-    /// outside it (`Label`), and then a name that is in use, a plain operator's, or that of an earlier label
-    /// of the assertion (`NotFresh`). Then a term that is no formula (`IllSorted`). Then, and where memory is
-    /// refused (`Memory`), nothing changes.
+    /// It refuses, in this order: a term with a fault, with its first fault; a term that is no formula (`IllSorted`).
+    /// A label has a fault where its term uses a variable bound outside it (`Label`), and then where its name is in
+    /// use, a plain operator's, or that of an earlier label of the assertion (`NotFresh`). Where it refuses a term,
+    /// and where memory is refused (`Memory`), nothing changes.
     pub fn assert(&mut self, term: &Tree) -> Result<TermId, TermFault>
         ensures asserted { OnOk result
             ((s : Signature) → StandsFor self.old s → (labels : List signature.Entry)
@@ -56,7 +56,8 @@ impl Library {
         }
     }
 
-    // The same, but a refusal may leave nodes, and for want of memory some of the labels.
+    // Checks an asserted term and adds its labels, as `assert` does. But a refusal may leave nodes, and for want of
+    // memory some of the labels.
     #[tactic(auto, using(crate::proofs::ContentsLemmas::extends_itself))]
     fn assert_checked(&mut self, term: &Tree) -> Result<TermId, TermFault>
         ensures asserted { OnOk result
@@ -78,14 +79,15 @@ impl Library {
         Ok(checked.node)
     }
 
-    // Adds labels, each as a constant that its term defines. Where memory is refused, some of them may have
-    // been added.
+    // Adds labels, each as a constant that its term defines. Where memory is refused, it may have added some of them.
     fn add_labels(&mut self, labels: &[Label<'_>]) -> Result<(), Memory>
         requires { AreNew (ranks_of_library self.old) labels.now }
-        ensures added { OnOk result ((bodies : List ℕ) (s : Signature)
+        ensures added { OnOk result ((bodies : Bodies) (s : Signature)
             → HoldsUnder bodies (contents_of self.old) s
             → AreFitUnder bodies (contents_of self.old) s labels.now
             → HoldsUnder bodies (contents_of self.new) (with_entries s (map label_entry labels.now))) }
+        ensures names { OnOk result (names_of_definitions self.new.definitions.items
+            ≡ names_of_definitions self.old.definitions.items ++ map (λ l. l.name.items) labels.now) }
         ensures bodies { OnOk result
             (self.new.bodies.items ≡ self.old.bodies.items ++ map (λ l. l.node) labels.now) }
         ensures grown { Extends (contents_of self.old) (contents_of self.new) }
@@ -99,7 +101,7 @@ impl Library {
 
     fn add_label(&mut self, label: &Label<'_>) -> Result<(), Memory>
         requires { look_up (ranks_of_library self.old) label.now.name.items ≡ None }
-        ensures added { OnOk result ((bodies : List ℕ) (s : Signature)
+        ensures added { OnOk result ((bodies : Bodies) (s : Signature)
             → HoldsUnder bodies (contents_of self.old) s
             → IsFitUnder bodies (contents_of self.old) s label.now
             → HoldsUnder bodies (contents_of self.new) (with_entry s (label_entry label.now))) }
@@ -107,6 +109,8 @@ impl Library {
             (ranks_of_library self.new
             ≡ ranks_of_library self.old ++ (label.now.name.items, rank_of_entry (label_entry label.now))
             ∷ []) }
+        ensures names { OnOk result (names_of_definitions self.new.definitions.items
+            ≡ names_of_definitions self.old.definitions.items ++ label.now.name.items ∷ []) }
         ensures bodies { OnOk result (self.new.bodies.items ≡ self.old.bodies.items ++ label.now.node ∷ []) }
         ensures grown { Extends (contents_of self.old) (contents_of self.new) }
         ensures transient { self.new.transient ≡ self.old.transient }

@@ -1,4 +1,4 @@
-//! The sorts and the nodes of terms that bind variables, and of annotated ones, whose labels are kept. This
+//! The sorts and the nodes of terms that bind variables, and of annotated terms, whose labels the draft keeps. This
 //! file adds no name to a library.
 
 ghost use Rattle.std.specs.Prelude.{◌≡◌, ◌+◌, ◌++◌, ◌∷◌, ℕ, List, [], true, length, map, IfOk, OnOk};
@@ -19,6 +19,7 @@ ghost use Rattle.smt_terms.specs.Internal.LibraryView.{names_for, names_of_libra
 ghost use Rattle.smt_terms.specs.Denotes.{Denotes, Table};
 ghost use Rattle.smt_terms.specs.Internal.NodesView.{BindingsStand, GrowsTo, Stands, nodes_given};
 ghost use Rattle.smt_terms.specs.Internal.TableView.{AreNamed};
+ghost use Rattle.smt_terms.specs.declared.labels.Label.{Label};
 ghost use Rattle.smt_faults.specs.Outcome.{IsOutcome};
 
 use crate::labels::Labels;
@@ -32,8 +33,8 @@ use smt_theory::Sort;
 use smt_trees::{Tree, split_first};
 
 impl Library {
-    // The sort and the node of a `let` (SMT-LIB 2.6, section 3.6.1), by what stands behind its word. Its
-    // variables come before those around it.
+    // The sort and the node of a `let`, by the trees after its word (SMT-LIB 2.6, section 3.6.1). Its variables come
+    // before those around it.
     #[cycle(check)]
     pub(super) fn sort_of_let<'a>(
         &self,
@@ -69,8 +70,8 @@ impl Library {
         Ok(checked)
     }
 
-    // The variables that bindings bring, with the sorts of their terms, which do not see these variables; and
-    // whether one of the terms uses a variable from outside. The terms then wait as arguments.
+    // The variables of bindings with the sorts of their terms, which do not see these variables, and whether one of
+    // the terms uses a variable from outside. The terms then wait as arguments.
     #[cycle(check)]
     fn bound_by<'a>(
         &self,
@@ -111,8 +112,8 @@ impl Library {
         Ok((bound, is_open))
     }
 
-    // The sort and the node of an annotated term (SMT-LIB 2.6, section 3.6.5), by what stands behind the `!`:
-    // those of the term, with one annotation more round it, unless that has a label.
+    // The sort and the node of an annotated term, by the trees after the `!` (SMT-LIB 2.6, section 3.6.5). Unless the
+    // annotation has a label, the node is the term's with one more annotation around it.
     #[cycle(check)]
     pub(super) fn sort_of_annotated<'a>(
         &self,
@@ -145,8 +146,8 @@ impl Library {
         }
     }
 
-    // The sort of a term whose attributes give it a label: it may use no variable that stands outside it. Its
-    // node is the name that the first label gives to it.
+    // The sort and the node of a term whose attributes give it a label. The term may use no variable bound outside it.
+    // Its node is the name that the first label gives to it.
     #[cycle(check)]
     fn sort_of_labelled<'a>(
         &self,
@@ -183,7 +184,7 @@ impl Library {
         )?)
     }
 
-    // Gives the labels among attributes to a term that was checked, in order, or answers their first fault.
+    // Gives the labels among attributes to a checked term, in order, or returns their first fault.
     fn give_labels<'a>(
         &self,
         labels: &mut Labels<'a>,
@@ -199,7 +200,7 @@ impl Library {
             (map (λ x. (x, sexp_of term.now)) (labels_among (sexps_of attributes.now)))) }
         ensures nodes { OnOk result (nodes_given labels.new ≡ nodes_given labels.old
             ++ map (λ x. checked.now.node) (labels_among (sexps_of attributes.now))) }
-        ensures longer { (more : List ℕ) × (nodes_given labels.new ≡ nodes_given labels.old ++ more) }
+        ensures longer { (more : List Label) × (labels.new.given.items ≡ labels.old.given.items ++ more) }
         ensures named { OnOk result ((t : Table) → AreNamed t labels.old.given.items
             → Denotes t [] 0 0 checked.now.node (sexp_of term.now) → AreNamed t labels.new.given.items) }
     {
@@ -211,8 +212,8 @@ impl Library {
         Ok(())
     }
 
-    // Gives a term that was checked the label that a tree with what stands behind it is, if it is one, or
-    // answers its fault.
+    // Gives a checked term the label that a tree and the trees after it make, if they make one. Returns the fault of
+    // the label.
     fn give_label_at<'a>(
         &self,
         labels: &mut Labels<'a>,
@@ -229,7 +230,7 @@ impl Library {
             (map (λ x. (x, sexp_of term.now)) (label_of_tree (sexp_of tree.now) (sexps_of rest.now)))) }
         ensures nodes { OnOk result (nodes_given labels.new ≡ nodes_given labels.old
             ++ map (λ x. checked.now.node) (label_of_tree (sexp_of tree.now) (sexps_of rest.now))) }
-        ensures longer { (more : List ℕ) × (nodes_given labels.new ≡ nodes_given labels.old ++ more) }
+        ensures longer { (more : List Label) × (labels.new.given.items ≡ labels.old.given.items ++ more) }
         ensures named { OnOk result ((t : Table) → AreNamed t labels.old.given.items
             → Denotes t [] 0 0 checked.now.node (sexp_of term.now) → AreNamed t labels.new.given.items) }
     {
@@ -239,7 +240,7 @@ impl Library {
         }
     }
 
-    // Gives a label to a term that was checked, or answers its fault.
+    // Gives a label to a checked term, or returns the fault of the label.
     fn give_label<'a>(
         &self,
         labels: &mut Labels<'a>,
@@ -254,7 +255,7 @@ impl Library {
             (AreGiven (names_of_library self.now) labels.old labels.new ((name.now, sexp_of term.now) ∷ [])) }
         ensures nodes { OnOk result (nodes_given labels.new ≡ nodes_given labels.old
             ++ map (λ x. checked.now.node) (name.now ∷ [])) }
-        ensures longer { (more : List ℕ) × (nodes_given labels.new ≡ nodes_given labels.old ++ more) }
+        ensures longer { (more : List Label) × (labels.new.given.items ≡ labels.old.given.items ++ more) }
         ensures named { OnOk result ((t : Table) → AreNamed t labels.old.given.items
             → Denotes t [] 0 0 checked.now.node (sexp_of term.now) → AreNamed t labels.new.given.items) }
     {

@@ -38,8 +38,9 @@ use smt_theory::{Op, OpFault, Sort, Width, op_of, plain_op_of, plain_rank, rank}
 use smt_trees::{Tree, Trees, split_first};
 
 impl Library {
-    /// The sort and the node of a term over these names and the variables that it sees, or its first fault. The
-    /// variables that it sees are then the same. There may be more nodes, and more labels, at a fault too.
+    /// The sort and the node of a term over these names and the variables that it sees, or its first fault. Unless it
+    /// fails, the draft then has the variables and the arguments of before. The draft may gain nodes and labels, at a
+    /// fault too.
     #[cycle(check)]
     #[inline(always)]
     pub(crate) fn sort_of<'a>(
@@ -62,7 +63,7 @@ impl Library {
         }
     }
 
-    // The same, out of line: most terms are symbols.
+    // The sort and the node of a term, as `sort_of` finds them, but out of line: most terms are symbols.
     #[cycle(check)]
     fn sort_of_other<'a>(
         &self,
@@ -89,7 +90,7 @@ impl Library {
         }
     }
 
-    // The sort of a numeral, whose node is added. (The toolchain proves a function that lends a node only if it
+    // Adds the node of a numeral and finds its sort. (The toolchain proves a function that lends a node only if it
     // names the type of nodes' numbers: hence the empty list, here and below.)
     fn push_numeral(&self, draft: &mut Draft<'_>, digits: &[u8]) -> Result<CheckedTerm, TermFault>
         ensures sort { IsOutcome (λ c. c.sort) (integers (names_of_library self.now).theories) result }
@@ -110,7 +111,7 @@ impl Library {
         )
     }
 
-    // The sort of a hexadecimal literal, whose node is added.
+    // Adds the node of a hexadecimal literal and finds its sort.
     fn push_hex(&self, draft: &mut Draft<'_>, digits: &[u8]) -> Result<CheckedTerm, TermFault>
         ensures sort { IsOutcome (λ c. c.sort) (bit_vectors (names_of_library self.now).theories
             (width_of (4 * length digits.now))) result }
@@ -131,7 +132,7 @@ impl Library {
         )
     }
 
-    // The sort of a binary literal, whose node is added.
+    // Adds the node of a binary literal and finds its sort.
     fn push_bin(&self, draft: &mut Draft<'_>, digits: &[u8]) -> Result<CheckedTerm, TermFault>
         ensures sort { IsOutcome (λ c. c.sort) (bit_vectors (names_of_library self.now).theories
             (width_of (1 * length digits.now))) result }
@@ -162,7 +163,7 @@ impl Library {
         }
     }
 
-    // The sort of digits that stand for so many bits each.
+    // The bit-vector sort of digits of this number of bits each, if there is one.
     fn sort_of_digits(&self, bits: u64, digits: &[u8]) -> Result<Sort, TermFlaw>
         ensures { result ≡ bit_vectors (names_of_library self.now).theories
             (width_of (bits * length digits.now)) }
@@ -170,7 +171,7 @@ impl Library {
         sorts::bit_vectors(self.sorts.theories, width_of_digits(bits, digits))
     }
 
-    // The sort and the node of the term that is a list of these parts.
+    // The sort and the node of a term that is a list of these parts, or its first fault.
     #[cycle(check)]
     fn sort_of_list<'a>(
         &self,
@@ -208,8 +209,8 @@ impl Library {
         Ok(checked)
     }
 
-    // Finds the sorts of terms, in order, and their nodes, which then wait as arguments; and whether one of the
-    // terms uses a variable from outside.
+    // Adds the sorts and the nodes of terms to the waiting arguments, in order. Returns whether one of the terms uses
+    // a variable from outside, or the first fault.
     #[cycle(check)]
     fn sorts_of<'a>(&self, draft: &mut Draft<'a>, terms: &'a [Tree]) -> Result<bool, TermFault>
         requires { IsPlaced (seen_by draft.old) draft.old.base }
@@ -237,8 +238,8 @@ impl Library {
         Ok(is_open)
     }
 
-    // The sort and the node of a symbol alone: those of a variable, or else of a name or an operator without
-    // arguments.
+    // The sort and the node of a symbol alone: of the variable that it names, or else of a name or an operator
+    // without arguments.
     #[inline(always)]
     fn sort_of_symbol(&self, draft: &mut Draft<'_>, name: &[u8]) -> Result<CheckedTerm, TermFault>
         requires { IsPlaced (seen_by draft.old) draft.old.base }
@@ -265,8 +266,8 @@ impl Library {
         }
     }
 
-    // The sort and the node of an identifier applied to the arguments from this one on, where it may be a
-    // variable, which takes none.
+    // The sort and the node of an identifier applied to the arguments from this one on. An identifier that is a
+    // variable is ill sorted, as a variable accepts no arguments.
     #[inline(always)]
     fn sort_of_call(
         &self,
@@ -294,7 +295,7 @@ impl Library {
         self.sort_applied(draft, identifier, start, is_open)
     }
 
-    // The sort and the node of an identifier that is no variable, applied to such arguments.
+    // The sort and the node of an identifier that is no variable, applied to the arguments from this one on.
     #[inline(always)]
     fn sort_applied(
         &self,
@@ -324,7 +325,8 @@ impl Library {
         }
     }
 
-    // The same of a symbol: a name in force, or else an operator.
+    // The sort and the node of a symbol that is no variable, applied to the arguments from this one on. The symbol is
+    // a name in force, or else an operator.
     #[inline(always)]
     fn sort_of_plain(
         &self,
@@ -356,7 +358,7 @@ impl Library {
         }
     }
 
-    // The same of a symbol that is no name in force.
+    // The sort and the node of a symbol that is no name in force, applied to the arguments from this one on.
     #[inline(always)]
     fn sort_of_operator(
         &self,
@@ -388,7 +390,8 @@ impl Library {
         Ok(draft.push_plain(&self.nodes, op, start, sort, is_open)?)
     }
 
-    // The same of what an identifier with indexes is.
+    // The sort and the node of the operator that an identifier with indexes is, applied to the arguments from this
+    // one on; or the fault of the identifier.
     fn sort_of_indexed(
         &self,
         draft: &mut Draft<'_>,
@@ -421,14 +424,14 @@ impl Library {
     }
 }
 
-// Whether the sorts of the arguments are those of the parameters.
+// Whether the sorts of the arguments are exactly those of the parameters.
 pub(super) fn are_same(parameters: &[Sort], args: &[Sort]) -> bool
     ensures { result ≡ are_exactly parameters.now args.now }
 {
     args == parameters
 }
 
-// Whether an identifier is a plain name of a variable.
+// Whether an identifier is the plain name of a variable in scope.
 #[tactic(auto, using(crate::proofs::DraftLemmas::found_sorts))]
 fn is_variable(scope: &Scope<'_, Bound>, identifier: &Identifier<'_>) -> bool
     ensures { result ≡ names_variable (sorts_of (scope_of scope.now)) (identifier_view identifier.now) }
@@ -439,7 +442,7 @@ fn is_variable(scope: &Scope<'_, Bound>, identifier: &Identifier<'_>) -> bool
     }
 }
 
-// Adds the node of a literal of this sort behind others, or answers what is wrong with that.
+// Adds the node of a literal of this sort after other nodes, or returns the flaw of its sort.
 fn push_literal(
     before: &Nodes,
     draft: &mut Draft<'_>,
@@ -459,7 +462,7 @@ fn push_literal(
     Ok(draft.push(before, node, &sort, false)?)
 }
 
-// The width of digits that stand for so many bits each.
+// The width of digits of this number of bits each, if it is a width.
 fn width_of_digits(bits: u64, digits: &[u8]) -> Option<Width>
     ensures { result ≡ width_of (bits * length digits.now) }
 {

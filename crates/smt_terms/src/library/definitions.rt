@@ -1,5 +1,5 @@
-//! Definitions of names, by a script or by a model: the body is checked, and the name added. Whether a name
-//! is fresh is said in `freshness`; this file knows nothing of commands and models.
+//! Definitions of names, by a script or by a model: this file checks the body and adds the name. It does not decide
+//! whether a name is fresh, which `freshness` does, and knows nothing of commands and models.
 
 ghost use Rattle.std.specs.Prelude.{◌≡◌, ◌⊎◌, ◌∷◌, ◌++◌, ◌-◌, ℕ, List, [], None, Ok, Err, length, map, take};
 ghost use Rattle.std.specs.Prelude.{OnOk, OnErr, IfErr, false};
@@ -8,14 +8,16 @@ ghost use Rattle.smt_trees.specs.Tree.{sexp_of};
 ghost use Rattle.smt_theory.specs.Operators.{is_plain_operator};
 ghost use Rattle.smt_theory.specs.Words.{look_up};
 ghost use Rattle.smt_terms.specs.Contents.{Extends, contents_of};
-ghost use Rattle.smt_terms.specs.Definitions.{defined_in, definition, definition_in};
-ghost use Rattle.smt_terms.specs.Internal.Growing.{HoldsUnder, IsBodyUnder, KeepsNames};
+ghost use Rattle.smt_terms.specs.Definitions.{defined_in, definition};
+ghost use Rattle.smt_terms.specs.Internal.Growing.{AddsDefinition, Bodies, HoldsUnder, IsBodyUnder};
+ghost use Rattle.smt_terms.specs.Internal.Growing.{KeepsNames, RefusesDefinition};
 ghost use Rattle.smt_terms.specs.Internal.LibraryView.{names_of_library, ranks_of_library};
+ghost use Rattle.smt_terms.specs.Internal.TableView.{names_of_definitions};
 ghost use Rattle.smt_terms.specs.Library.{IsUnchanged, StandsFor, transient_of};
 ghost use Rattle.smt_forms.specs.ParamView.{param_view};
 ghost use Rattle.smt_forms.specs.ScopeView.{scope_view};
 ghost use Rattle.smt_terms.specs.Signature as signature;
-ghost use Rattle.smt_terms.specs.Signature.{Signature, names_of, with_entry};
+ghost use Rattle.smt_terms.specs.Signature.{Signature, with_entry};
 ghost use Rattle.smt_faults.specs.Outcome.{Tells};
 
 use crate::labels::Labels;
@@ -29,14 +31,18 @@ use smt_theory::Sort;
 use smt_trees::Tree;
 
 impl Library {
-    /// Defines a name (SMT-LIB 2.6, section 4.2.3) by its parameters, the tree of its sort, and its body,
-    /// which sees the earlier names and the parameters, and not the name itself.
+    /// Defines a name by its parameters, the tree of its sort, and its body (SMT-LIB 2.6, section 4.2.3). The body
+    /// sees the earlier names and the parameters, and not the name itself.
     ///
-    /// Refused are, in this order: a name that is in use or is a plain operator's (`NotFresh`); of each
-    /// parameter a tree that names no sort, with its fault, and then a name that an earlier parameter has
-    /// (`BoundTwice`); for the result a tree that names no sort, with its fault; a body with a fault, with
-    /// the first; a body of another sort (`IllSorted`). Then, and where memory is refused (`Memory`), nothing
-    /// changes.
+    /// It refuses, in this order:
+    /// 1. a name that is in use or is a plain operator's (`NotFresh`);
+    /// 2. for each parameter, a tree that names no sort, with its fault, and then a name that an earlier parameter has
+    ///    (`BoundTwice`);
+    /// 3. for the result, a tree that names no sort, with its fault;
+    /// 4. a body with a fault, with its first fault;
+    /// 5. a body of another sort (`IllSorted`).
+    ///
+    /// Then, and where memory is refused (`Memory`), nothing changes.
     #[tactic(auto, using(crate::proofs::ContentsLemmas::extends_itself))]
     pub fn define(
         &mut self,
@@ -64,8 +70,8 @@ impl Library {
         self.add_definition(name, parameters.as_slice(), sort, body)
     }
 
-    // Adds the definition of a new name with these parameters, where its body has this sort over the names
-    // and the parameters, or changes nothing.
+    // Adds the definition of a new name with these parameters, if its body has this sort over the names and the
+    // parameters. Otherwise it returns the fault and changes nothing.
     pub(super) fn add_definition(
         &mut self,
         name: &[u8],
@@ -74,12 +80,10 @@ impl Library {
         body: &Tree,
     ) -> Result<(), TermFault>
         requires { look_up (names_of_library self.old).ranks name.now ≡ None }
-        ensures added { OnOk result ((s : Signature) → StandsFor self.old s → (e : signature.Entry)
-            × (definition_in (names_of s) name.now (scope_view parameters.now) sort (sexp_of body.now) ≡ Ok e)
-            × (is_plain_operator s.theories name.now ≡ false → StandsFor self.new (with_entry s e))) }
-        ensures refused { IfErr result (λ fault. (s : Signature) → StandsFor self.old s
-            → Tells (definition_in (names_of s) name.now (scope_view parameters.now) sort (sexp_of body.now))
-            fault) }
+        ensures added { AddsDefinition self.old self.new name.now (scope_view parameters.now) sort
+            (sexp_of body.now) result }
+        ensures refused { RefusesDefinition self.old name.now (scope_view parameters.now) sort
+            (sexp_of body.now) result }
         ensures restored { OnErr result (contents_of self.new ≡ contents_of self.old) }
         ensures grown { Extends (contents_of self.old) (contents_of self.new) }
         ensures theories { self.new.sorts.theories ≡ self.old.sorts.theories }
@@ -95,7 +99,7 @@ impl Library {
         }
     }
 
-    // The same, but a refusal may leave nodes.
+    // Adds the definition of a new name, as `add_definition` does, but a refusal may leave nodes.
     #[tactic(auto, using(crate::proofs::ContentsLemmas::extends_itself))]
     fn add_checked(
         &mut self,
@@ -105,12 +109,10 @@ impl Library {
         body: &Tree,
     ) -> Result<(), TermFault>
         requires { look_up (names_of_library self.old).ranks name.now ≡ None }
-        ensures added { OnOk result ((s : Signature) → StandsFor self.old s → (e : signature.Entry)
-            × (definition_in (names_of s) name.now (scope_view parameters.now) sort (sexp_of body.now) ≡ Ok e)
-            × (is_plain_operator s.theories name.now ≡ false → StandsFor self.new (with_entry s e))) }
-        ensures refused { IfErr result (λ fault. (s : Signature) → StandsFor self.old s
-            → Tells (definition_in (names_of s) name.now (scope_view parameters.now) sort (sexp_of body.now))
-            fault) }
+        ensures added { AddsDefinition self.old self.new name.now (scope_view parameters.now) sort
+            (sexp_of body.now) result }
+        ensures refused { RefusesDefinition self.old name.now (scope_view parameters.now) sort
+            (sexp_of body.now) result }
         ensures grown { Extends (contents_of self.old) (contents_of self.new) }
         ensures sorts { self.new.sorts ≡ self.old.sorts }
         ensures transient { self.new.transient ≡ self.old.transient }
@@ -122,7 +124,8 @@ impl Library {
         Ok(self.insert_definition(name, parameters, sort, checked.node)?)
     }
 
-    // Adds the definition of a new name at the end, whose body has this node, or changes no name.
+    // Adds the definition of a new name at the end; its body has this node. Where memory is refused, it changes no
+    // name.
     #[tactic(auto, using(crate::proofs::ContentsLemmas::extends_itself))]
     pub(super) fn insert_definition(
         &mut self,
@@ -133,7 +136,7 @@ impl Library {
     ) -> Result<(), Memory>
         requires { look_up (names_of_library self.old).ranks name.now ≡ None }
         ensures added { OnOk result
-            ((bodies : List ℕ) (s : Signature) (t : Sexp) → HoldsUnder bodies (contents_of self.old) s
+            ((bodies : Bodies) (s : Signature) (t : Sexp) → HoldsUnder bodies (contents_of self.old) s
             → is_plain_operator s.theories name.now ≡ false
             → IsBodyUnder bodies (contents_of self.old) (scope_view parameters.now) node t
             → HoldsUnder bodies (contents_of self.new)
@@ -143,6 +146,8 @@ impl Library {
             ≡ ranks_of_library self.old
             ++ (name.now, record { parameters = map (λ p. p.1) (scope_view parameters.now); sort = sort })
             ∷ []) }
+        ensures names { OnOk result (names_of_definitions self.new.definitions.items
+            ≡ names_of_definitions self.old.definitions.items ++ name.now ∷ []) }
         ensures bodies { OnOk result (self.new.bodies.items ≡ self.old.bodies.items ++ node ∷ []) }
         ensures unchanged { OnErr result (KeepsNames (contents_of self.old) (contents_of self.new)) }
         ensures grown { Extends (contents_of self.old) (contents_of self.new) }
@@ -169,7 +174,7 @@ impl Library {
         }
     }
 
-    // Adds a definition and the node of its body, or neither.
+    // Adds a definition and the node of its body; where memory is refused, it adds neither.
     fn push_definition(&mut self, definition: Definition, node: TermId) -> Result<(), Memory>
         ensures definitions { OnOk result
             (self.new.definitions.items ≡ self.old.definitions.items ++ definition ∷ []) }
@@ -191,7 +196,7 @@ impl Library {
         Ok(())
     }
 
-    // Takes the last definition away, and the node of its body.
+    // Removes the last definition, and its body from the list of bodies.
     fn pop_definition(&mut self)
         ensures definitions { self.new.definitions.items ≡ take (length self.old.definitions.items - 1)
             self.old.definitions.items }

@@ -1,5 +1,5 @@
-//! What is kept of a term while it is checked: the variables that its parts see, and the labels that they
-//! gave. This file knows no trees.
+//! The state of the check of a term: the variables that its parts see, the labels in it, its nodes, and the
+//! arguments that wait. This file knows no trees.
 
 ghost use Rattle.std.specs.Prelude.{◌≡◌, ◌||◌, ◌<◌, ◌≤◌, ◌+◌, ◌++◌, ◌∷◌, [], length, slice_get, Some, IfOk, OnOk};
 ghost use Rattle.std.specs.Prelude.{OnErr};
@@ -23,16 +23,16 @@ use smt_nodes::{Node, Nodes, TermId};
 use smt_theory::{Op, PlainOp, Sort};
 use std::alloc::Global;
 
-/// A variable's sort, and its place among those that are seen, the outermost at 0.
+/// A variable's sort, and its place among the variables in scope; the outermost has place 0.
 #[derive(Clone, Copy)]
 pub(crate) struct Bound {
     pub(crate) sort: Sort,
     pub(crate) place: usize,
 }
 
-/// The variables that are seen, of which the outermost `base` are outside the innermost term with a label; the
-/// labels so far; the nodes of terms, of this draft and perhaps of those before it, which come after the nodes of
-/// a table that stays as it is; and the arguments that were checked of terms that are not yet.
+/// The state of the check of a term. It has the variables in scope, of which the outermost `base` are outside the
+/// innermost term with a label, and the labels so far. Its nodes are those of this draft and perhaps of earlier ones;
+/// they come after the nodes of a table that stays unchanged. Its arguments are checked, and their terms are not yet.
 #[derive(Drop)]
 pub(crate) struct Draft<'a> {
     pub(crate) scope: Scope<'a, Bound>,
@@ -42,8 +42,8 @@ pub(crate) struct Draft<'a> {
     pub(crate) arguments: Arguments,
 }
 
-/// What was found of a term: its sort, its node, and whether it uses a variable that stands outside; then the
-/// node stands for nothing.
+/// The result of a check: the term's sort, its node, and whether it uses a variable from outside. If it does, its node
+/// means nothing.
 #[derive(Clone, Copy)]
 pub(crate) struct CheckedTerm {
     pub(crate) sort: Sort,
@@ -52,7 +52,7 @@ pub(crate) struct CheckedTerm {
 }
 
 impl<'a> Draft<'a> {
-    /// No variables, with these labels, nodes and arguments.
+    /// A draft without variables, with these labels, nodes and arguments.
     pub(crate) fn new(alloc: Global, labels: Labels<'a>, nodes: Nodes, arguments: Arguments) -> Self
         ensures variables { seen_by result ≡ [] }
         ensures base { result.base ≡ 0 }
@@ -68,7 +68,7 @@ impl<'a> Draft<'a> {
         }
     }
 
-    /// Puts variables before those that are seen, the last outermost.
+    /// Puts variables before those in scope, the last one outermost, or fails with `Memory`.
     pub(crate) fn bind(&mut self, variables: &[Variable<'a, Sort>]) -> Result<(), Memory>
         ensures bound { OnOk result (seen_by self.new
             ≡ placed_from (length (seen_by self.old)) (scope_view variables.now) ++ seen_by self.old) }
@@ -90,7 +90,7 @@ impl<'a> Draft<'a> {
         Ok(())
     }
 
-    // Puts a variable of this place before those that are seen.
+    // Puts a variable of this place before those in scope.
     fn put(&mut self, name: &'a [u8], sort: Sort, place: usize) -> Result<(), Memory>
         ensures put { OnOk result (seen_by self.new
             ≡ (name.now, record { sort = sort; place = place }) ∷ seen_by self.old) }
@@ -102,8 +102,8 @@ impl<'a> Draft<'a> {
         self.scope.push(name, Bound { sort, place })
     }
 
-    /// Adds the node of a term of this sort, which uses a variable from outside or doesn't, behind the nodes
-    /// of a table.
+    /// Adds the node of a term of this sort after the nodes of a table, or fails with `Memory`. `is_open` says whether
+    /// the term uses a variable from outside.
     #[inline(always)]
     pub(crate) fn push(
         &mut self,
@@ -130,7 +130,7 @@ impl<'a> Draft<'a> {
         })
     }
 
-    /// The same of an operator that holds no number, with the arguments from this one on.
+    /// Adds the node of an operator that holds no number, with the arguments from `start` on, as `push` does.
     #[inline(always)]
     pub(crate) fn push_plain(
         &mut self,
@@ -160,7 +160,8 @@ impl<'a> Draft<'a> {
         })
     }
 
-    /// The same of an operator that holds a number.
+    /// Adds the node of an operator, also of one that holds a number, with the arguments from `start` on, as `push`
+    /// does.
     pub(crate) fn push_numbered(
         &mut self,
         before: &Nodes,
@@ -190,7 +191,8 @@ impl<'a> Draft<'a> {
         })
     }
 
-    /// The same of a `let` with this body, whose terms are the arguments from this one on.
+    /// Adds the node of a `let` with this body, as `push` does. The terms of its bindings are the arguments from
+    /// `start` on. Its sort is the body's.
     pub(crate) fn push_let(
         &mut self,
         before: &Nodes,
@@ -222,7 +224,7 @@ impl<'a> Draft<'a> {
         })
     }
 
-    /// The same of a name in force, by its place.
+    /// Adds the node of a name in force, by its place, with the arguments from `start` on, as `push` does.
     #[inline(always)]
     pub(crate) fn push_named(
         &mut self,
@@ -253,7 +255,8 @@ impl<'a> Draft<'a> {
         })
     }
 
-    /// Adds the node of a term of this draft with one annotation more round it, behind the nodes of a table.
+    /// Adds the node of a term of this draft with one more annotation around it, after the nodes of a table. It fails
+    /// with `Memory`.
     pub(crate) fn annotate(
         &mut self,
         before: &Nodes,
@@ -281,7 +284,7 @@ impl<'a> Draft<'a> {
     }
 }
 
-// The node of the name that stands at this place, with arguments.
+// The node of the name at this place, with arguments.
 fn node_at<'b>(place: Found, args: &'b [TermId]) -> Node<'b>
     ensures { node_view result ≡ denotes.node_at place args.now }
 {

@@ -1,5 +1,5 @@
-//! Items of models: what an item may define beside the names of a script. This file knows no values, and not
-//! which names a model lacks.
+//! Items of models: which definitions an item may add to those of a model, beside the names of a script. This file
+//! knows no values, and does not know which names a model lacks.
 
 ghost use Rattle.std.specs.Prelude.{◌≡◌, ◌&&◌, map, option_map, None, Some, Ok, Err, Option, OnOk, OnErr, IfErr};
 ghost use Rattle.std.specs.Prelude.{IfOk};
@@ -27,8 +27,8 @@ use smt_theory::Sort;
 use smt_trees::Tree;
 
 impl Library {
-    /// A library for the items of a model of these names (SMT-LIB 2.6, section 4.2.6): of the same theories,
-    /// and without names.
+    /// A library for the items of a model of these names (SMT-LIB 2.6, section 4.2.6). It has the theories of this
+    /// library and no names.
     pub fn for_model(&self) -> Result<Library, Memory>
         ensures names { IfOk result
             (λ library. (s : Signature) → StandsFor self.now s → StandsFor library (no_names s.theories)) }
@@ -37,20 +37,25 @@ impl Library {
         Ok(Library::new(self.alloc, self.sorts.theories))
     }
 
-    /// Adds what an item of a model of the script's names defines (SMT-LIB 2.6, section 4.2.6), behind the
-    /// items that were added before. Its body sees these and the theories, and no name of the script; its
-    /// sorts may be abbreviations of the script.
+    /// Adds the definition of an item of a model of the script's names, after the earlier items (SMT-LIB 2.6, section
+    /// 4.2.6). Its body sees the earlier items and the theories, and no name of the script. Its sorts may be
+    /// abbreviations of the script.
     ///
-    /// Refused are, in this order: an item out of form (`Form`), or a recursive one (`Unsupported`); a name
-    /// that an earlier item has (`BoundTwice`); one that the script does not declare and that is in use or a
-    /// plain operator's (`NotFresh`); of each parameter a tree that names no sort, with its fault, and then a
-    /// name that an earlier parameter has (`BoundTwice`); for the result a tree that names no sort, with its
-    /// fault; another rank than the declared one (`IllSorted`); a body with a fault over the earlier items
-    /// and the parameters, with the first (any label is one); a body of another sort (`IllSorted`). Then, and
-    /// where memory is refused (`Memory`), nothing changes.
+    /// It refuses, in this order:
+    /// 1. an item out of form (`Form`), or a recursive one (`Unsupported`);
+    /// 2. a name that an earlier item has (`BoundTwice`);
+    /// 3. a name that the script does not declare and that is in use or a plain operator's (`NotFresh`);
+    /// 4. for each parameter, a tree that names no sort, with its fault, and then a name that an earlier parameter has
+    ///    (`BoundTwice`);
+    /// 5. for the result, a tree that names no sort, with its fault;
+    /// 6. another rank than the declared one (`IllSorted`);
+    /// 7. a body with a fault over the earlier items and the parameters, with its first fault (any label is one);
+    /// 8. a body of another sort (`IllSorted`).
     ///
-    /// In the wide profile an item of a name that the script defines, by a definition or a label, is set aside:
-    /// nothing is added, and its body is not looked at. It is refused for its form, its parameters and its sort
+    /// Then, and where memory is refused (`Memory`), nothing changes.
+    ///
+    /// In the wide profile it sets aside an item of a name that the script defines, by a definition or a label: it
+    /// adds nothing and does not look at the body. It refuses such an item for its form, its parameters and its sort
     /// like others, and for another rank than the definition's (`IllSorted`).
     #[tactic(auto, using(crate::proofs::ContentsLemmas::extends_itself))]
     pub fn define_item(&mut self, script: &Library, item: &Tree) -> Result<(), TermFault>
@@ -74,7 +79,8 @@ impl Library {
         }
     }
 
-    // Adds what an item of these parts defines, or changes nothing.
+    // Adds the definition of an item of these parts. Where the item has a fault, or memory is refused, it changes
+    // nothing.
     #[tactic(auto, using(crate::proofs::ContentsLemmas::extends_itself))]
     fn add_item(&mut self, script: &Library, form: ItemForm<'_>) -> Result<(), TermFault>
         requires { HasTheoriesOf self.old script.now }
@@ -98,7 +104,7 @@ impl Library {
         self.add_definition(form.name, parameters.as_slice(), sort, form.body)
     }
 
-    // Whether the script declares the name with this rank, if it declares it.
+    // Whether the script declares the name with this rank, or does not declare it.
     fn has_declared_rank(
         &self,
         script: &Library,
@@ -114,7 +120,7 @@ impl Library {
         Ok(script.keeps_rank(name, sorts.as_slice(), sort))
     }
 
-    // What a name stands for, if a command declared it.
+    // What a name means, if a command declared it.
     pub(super) fn get_declared(&self, name: &[u8]) -> Option<&Entry>
         ensures { (s : Signature) → StandsFor self.now s
             → option_map (λ e. rank_of e.now) result
@@ -129,7 +135,7 @@ impl Library {
         }
     }
 
-    // Whether the name is declared with this rank, if it is declared.
+    // Whether this library declares the name with this rank, or does not declare it.
     fn keeps_rank(&self, name: &[u8], parameters: &[Sort], sort: Sort) -> bool
         ensures { (s : Signature) → StandsFor self.now s
             → result ≡ has_rank_of (declared_named s.entries name.now) parameters.now sort }
@@ -141,7 +147,7 @@ impl Library {
     }
 }
 
-// Whether a name stands for a function of this rank.
+// Whether the function that a name means has exactly this rank.
 pub(super) fn has_rank(entry: &Entry, parameters: &[Sort], sort: Sort) -> bool
     ensures { result ≡ are_exactly entry.now.parameters.items parameters.now
         && is_same_sort entry.now.sort sort }

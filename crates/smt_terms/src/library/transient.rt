@@ -1,5 +1,5 @@
-//! Transient terms: they are no part of what a library holds, and go when they are taken away. This file adds no
-//! name to a library.
+//! Transient terms: they are no part of the contents of a library, and stay until `take_transient` removes them.
+//! This file adds no name to a library.
 
 ghost use Rattle.std.specs.Prelude.{◌≡◌, ◌++◌, ℕ, [], List, Ok, MatchResult, OnErr};
 ghost use Rattle.smt_nodes.specs.Node.{Row};
@@ -23,9 +23,9 @@ use smt_trees::Tree;
 use std::mem;
 
 impl Library {
-    /// Checks a term without labels over the names, as `check` does, whose nodes are transient: its number and
-    /// its sort, or its first fault (SMT-LIB 2.6, sections 3.6 and 5.2); then the transient terms are those of
-    /// before. The number means something until the library changes in another way.
+    /// Checks a term without labels over the names, as `check` does, and makes its nodes transient (SMT-LIB 2.6,
+    /// sections 3.6 and 5.2). It returns the number of the term's node and its sort, or its first fault; then nothing
+    /// changes. The number has a meaning until the library changes otherwise than by this call.
     pub fn check_transient(&mut self, term: &Tree) -> Result<(TermId, Sort), TermFault>
         ensures answer { (s : Signature) → StandsFor self.old s
             → MatchResult result (λ p. (sort_in (names_of s) [] (sexp_of term.now) ≡ Ok p.1)
@@ -54,14 +54,15 @@ impl Library {
         }
     }
 
-    /// The nodes of the transient terms, which stand behind the others: the first has the number that these are.
+    /// The nodes of the transient terms. Their numbers come after those of the other nodes: the number of the first
+    /// is the number of the others.
     pub fn transient(&self) -> &Nodes
         ensures { rows_of result.now ≡ transient_of self.now }
     {
         &self.transient
     }
 
-    /// Takes the transient terms away.
+    /// Removes the transient terms and returns their nodes.
     pub fn take_transient(&mut self) -> Nodes
         ensures taken { rows_of result ≡ transient_of self.old }
         ensures none { transient_of self.new ≡ [] }
@@ -70,7 +71,7 @@ impl Library {
         mem::replace(&mut self.transient, Nodes::new(self.alloc))
     }
 
-    /// Puts nodes in the place of the transient terms.
+    /// Replaces the nodes of the transient terms by these nodes.
     pub fn put_transient(&mut self, nodes: Nodes)
         ensures put { transient_of self.new ≡ rows_of nodes }
         ensures held { contents_of self.new ≡ contents_of self.old }

@@ -1,4 +1,4 @@
-//! Whole terms: a term is checked with its nodes, or leaves none. This file adds no name to a library.
+//! Whole terms: this file checks a term and adds its nodes, or leaves none of them. It adds no name to a library.
 
 ghost use Rattle.std.specs.Prelude.{◌≡◌, ◌++◌, [], List, length, map, IfOk, OnOk, OnErr};
 ghost use Rattle.smt_nodes.specs.Node.{Row};
@@ -27,9 +27,9 @@ use smt_trees::Tree;
 use std::mem;
 
 impl Library {
-    // The sort and the node of a term over the names and these variables, the first innermost, whose places
-    // are those of a frame; and the labels that it gave; or its first fault. The nodes are added to the
-    // library's; a term with a fault leaves none.
+    // Checks a term over the names and these variables, the first innermost, whose places are those of a frame. It
+    // returns the term's sort and node and the labels in it, or its first fault. It adds the nodes to the library's;
+    // a term with a fault leaves none.
     pub(super) fn check_whole<'a>(
         &mut self,
         variables: &[Variable<'a, Sort>],
@@ -75,7 +75,8 @@ impl Library {
         }
     }
 
-    // The same over a draft without variables, where the nodes go that are made, at a fault too.
+    // Checks a term over the names and these variables, as `check_whole` does, with a draft that has no variables
+    // before. The draft gets the new nodes, at a fault too.
     pub(super) fn check_over<'a>(
         &self,
         draft: &mut Draft<'a>,

@@ -3,7 +3,7 @@ use Rattle.smt_machine.specs.Given.{given}
 use Rattle.smt_machine.specs.Tables.{nodes_of}
 use Rattle.smt_terms.specs.Library.{held_terms_of, terms_of}
 use Rattle.smt_eval.proofs.EvaluatorLemmas.{if_known}
-use Rattle.smt_eval.proofs.TermCostLemmas.{AreTablesOf, cost_is, cost_within, paid_is}
+use Rattle.smt_eval.proofs.TermCostLemmas.{AreTablesOf, cost_is, cost_within, counted_is, paid_is}
 use Rattle.smt_eval.proofs.closed.eval_by.Goals as goal
 
 pub eval-requires-clause-enough : goal.eval-requires-clause-enough
@@ -28,6 +28,18 @@ returns-clause-paid c = λ script definitions t names holds term.
     paid_is c.eval.result _ _ _ _ c.eval.ensures.paid
     (cost_is c.nodes_have_the_costs_of_their_terms.ensures c.tables_of.result c.args.library.now
     c.args.interpretation.now c.args.term script definitions t are names holds term)
+
+pub returns-clause-counted : goal.returns-clause-counted
+returns-clause-counted c = λ script definitions t names holds term.
+    let are : AreTablesOf c.tables_of.result c.args.library.now c.args.interpretation.now = record {
+      nodes = c.tables_of.ensures.nodes;
+      arounds = c.tables_of.ensures.arounds;
+      count = c.tables_of.ensures.count;
+      named = c.tables_of.ensures.named;
+    } in
+    counted_is c.eval.result _ _ c.nodes_take_the_least_of_their_terms.ensures c.tables_of.result
+    c.args.library.now c.args.interpretation.now c.args.term script definitions t are names holds term
+    c.eval.ensures.counted
 
 pub returns-clause-known : goal.returns-clause-known
 returns-clause-known c = λ script definitions t names holds term.

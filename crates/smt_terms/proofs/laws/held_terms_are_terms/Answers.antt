@@ -9,6 +9,7 @@ returns c = λ library i t is.
     denotes_kept (held_terms_of library) (terms_of library) (record {
       theories = refl;
       heads = nothing_more _ _ refl;
+      names = nothing_more _ _ refl;
       bodies = nothing_more _ _ refl;
       rows = (transient_of library, refl);
     }) [] 0 0 i t is

@@ -10,9 +10,11 @@ returns c = λ library s stands. record {
   theories = stands.terms.theories;
   heads = stands.terms.heads;
   free = stands.terms.free;
+  names = stands.terms.names;
   bodies = bodies_longer (held_terms_of library) (terms_of library) 0 (contents_of library).bodies s.entries (record {
     theories = refl;
     heads = nothing_more _ _ refl;
+    names = nothing_more _ _ refl;
     bodies = nothing_more _ _ refl;
     rows = (transient_of library, refl);
   }) stands.terms.bodies;

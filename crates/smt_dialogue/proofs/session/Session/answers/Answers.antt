@@ -1,9 +1,4 @@
-use Rattle.std.proofs.Common.{◌≡◌, List, subst}
-use Rattle.std.specs.Prelude.{OnErr}
-use Rattle.std.specs.List.{list_any}
-use Rattle.smt_dialogue.specs.Session.{is_verdict_waiting}
-use Rattle.smt_dialogue.specs.SoFar.{is_verdict_line}
-use Rattle.smt_report.specs.declared.line.Line.{Line}
+use Rattle.smt_dialogue.proofs.SessionTurnLemmas.{none_before}
 use Rattle.smt_dialogue.proofs.session.Session.answers.Goals as goal
 
 pub rest-requires : goal.rest-requires
@@ -11,5 +6,5 @@ rest-requires c = record { fed = (_, c.take_in.ensures.fed c.requires.stands.0 c
 
 pub returns-clause-no_verdict : goal.returns-clause-no_verdict
 returns-clause-no_verdict c =
-    subst (λ (ls : List Line). OnErr c.rest.result (is_verdict_waiting c.rest.new.self ≡ list_any is_verdict_line ls))
-    c.take_in.ensures.waiting c.rest.ensures.no_verdict
+    none_before c.rest.result c.args.self.now c.take_in.new.self c.rest.new.self c.take_in.ensures.waiting
+    c.rest.ensures.no_verdict

@@ -1,6 +1,5 @@
-use Rattle.std.proofs.Common.{◌≡◌, ◌≤◌, ◌<◌, ℕ, List, [], ◌∷◌, ◌++◌, length, slice_get, get_or, Some, refl}
-use Rattle.std.proofs.Common.{ap, sym}
-use Rattle.std.proofs.Common.{◌∙◌, arith}
+use Rattle.std.proofs.Common.{◌≡◌, ◌≤◌, ◌<◌, ℕ, List, [], ◌∷◌, ◌++◌, length, slice_get, get_or, Some, refl, ap, ◌∙◌}
+use Rattle.std.proofs.Common.{arith}
 use Rattle.std.proofs.lemmas.List.{length-map}
 use Rattle.std.proofs.lemmas.Option.{slice_get_read}
 use Rattle.smt_nodes.specs.Internal.Lists.{Lists, lengths, lists_of, rows_in}
@@ -9,9 +8,9 @@ use Rattle.smt_nodes.specs.Nodes.{rows_of}
 use Rattle.smt_nodes.specs.declared.rows.Stored.{Stored}
 use Rattle.smt_nodes.specs.declared.rows.Stored.TheVariants.{Same}
 use Rattle.smt_nodes.specs.declared.rows.StoredRow.{StoredRow}
-use Rattle.smt_nodes.specs.declared.tables.Tables.{Tables}
-use Rattle.smt_nodes.proofs.OutcomeLemmas.{if_ok, on_err, on_ok}
+use Rattle.smt_nodes.proofs.OutcomeLemmas.{on_err, on_ok}
 use Rattle.smt_nodes.proofs.TableLemmas.{annotated_pushed, row_found}
+use Rattle.smt_nodes.proofs.PushLemmas.{number_seen, rows_with}
 use Rattle.smt_nodes.proofs.table.Nodes.annotate.Goals as goal
 
 -- a number of a row that contracts see is one of a row that is stored
@@ -79,24 +78,17 @@ returns-clause-pushed c =
     (λ is. (
       row_view nodes.rows.items (lists_of nodes.tables) row,
       row_found nodes.rows.items (lists_of nodes.tables) c.args.id row at,
-      ap (λ (rows : List StoredRow). views rows (lists_of after.tables)) is
-          ∙ ap (λ (t : Tables). views (nodes.rows.items ++ new ∷ []) (lists_of t)) c.push_row.ensures.tables
+      rows_with after (nodes.rows.items ++ new ∷ []) nodes.tables c.push_row.ensures.tables is
           ∙ annotated_pushed nodes.rows.items (lists_of nodes.tables) c.args.id row new nodes.sound at
           c.in_ok-stored.ensures,
     ))
 
 pub returns-clause-number : goal.returns-clause-number
-unfolding rows_of
 returns-clause-number c =
-    let nodes = c.args.self.now in
-    if_ok c.push_row.result c.push_row.ensures.number
-    (λ id is. is ∙ sym (length-map nodes.rows.items (row_view nodes.rows.items (lists_of nodes.tables))))
+    number_seen c.args.self.now c.push_row.result c.push_row.ensures.number
 
 pub returns-clause-unchanged : goal.returns-clause-unchanged
 unfolding rows_of
 returns-clause-unchanged c =
-    let nodes = c.args.self.now in
-    let after = c.push_row.new.self in
     on_err c.push_row.result c.push_row.ensures.unchanged
-    (λ is. ap (λ (rows : List StoredRow). views rows (lists_of after.tables)) is
-    ∙ ap (λ (t : Tables). views nodes.rows.items (lists_of t)) c.push_row.ensures.tables)
+    (rows_with c.push_row.new.self c.args.self.now.rows.items c.args.self.now.tables c.push_row.ensures.tables)

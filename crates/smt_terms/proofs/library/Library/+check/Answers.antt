@@ -1,5 +1,4 @@
-use Rattle.std.proofs.Common.{◌||◌, ℕ, List, Result, ◌++◌, [], Ok, ◌∷◌, length, map, take, refl, ap, sym, subst}
-use Rattle.std.proofs.Common.{◌∙◌, arith, inr, append-nil}
+use Rattle.std.proofs.Common.{◌||◌, ◌++◌, [], Ok, ◌∷◌, map, take, refl, ap, sym, subst, ◌∙◌, arith, inr, append-nil}
 use Rattle.std.proofs.lemmas.List.{map-append}
 use Rattle.std.proofs.lemmas.Result.{err_from_is_err_and}
 use Rattle.smt_trees.specs.Sexp.{Cons, Items, Reserved, weight_all}
@@ -11,15 +10,13 @@ use Rattle.smt_forms.specs.Labels.{labels_among, labels_in, labels_in_all, label
 use Rattle.smt_forms.specs.ScopeOf.{scope_of}
 use Rattle.smt_forms.specs.ScopeView.{scope_view}
 use Rattle.smt_forms.specs.Variables.{is_among}
-use Rattle.smt_theory.specs.declared.sort.Sort.{Sort}
 use Rattle.smt_faults.specs.declared.term_fault.TermFault.{TermFault}
-use Rattle.smt_faults.specs.declared.term_flaw.TermFlaw.{TermFlaw}
-use Rattle.smt_terms.specs.Checking.{bound_in, sort_applied, sort_in, sort_of_call}
+use Rattle.smt_terms.specs.Checking.{bound_in, sort_applied, sort_in}
 use Rattle.smt_terms.specs.Internal.Calls.{HasSort}
-use Rattle.smt_terms.specs.Internal.DraftView.{IsPlaced, are_open, are_open_bindings, argument_sorts}
-use Rattle.smt_terms.specs.Internal.DraftView.{argument_terms, is_open, seen_by, sorts_from, sorts_seen, terms_from}
-use Rattle.smt_terms.proofs.ArgumentLemmas.{applied_alone, no_sorts, sees_with, since_more, since_none, since_within}
-use Rattle.smt_terms.proofs.ArgumentLemmas.{so_far_with, sorts_since, sorts_start, stands_with, start_counted}
+use Rattle.smt_terms.specs.Internal.DraftView.{IsPlaced, are_open, are_open_bindings, argument_sorts, argument_terms}
+use Rattle.smt_terms.specs.Internal.DraftView.{is_open, seen_by, sorts_from, sorts_seen, terms_from}
+use Rattle.smt_terms.proofs.ArgumentLemmas.{applied_alone, called_from, no_sorts, sees_with, since_more, since_none}
+use Rattle.smt_terms.proofs.ArgumentLemmas.{since_within, so_far_with, sorts_since, stands_with, start_counted}
 use Rattle.smt_terms.proofs.ArgumentLemmas.{taken_away, terms_since, terms_start}
 use Rattle.smt_terms.specs.Internal.LabelsView.{AreGiven, labels_view}
 use Rattle.smt_terms.specs.Internal.LibraryView.{names_for, names_of_library}
@@ -28,22 +25,22 @@ use Rattle.smt_nodes.specs.Node as node
 use Rattle.smt_terms.specs.Denotes.{AreBound, AreDenoted}
 use Rattle.smt_terms.specs.Internal.NodesView.{AddsApplied, AddsNode, Stands, TermsStand}
 use Rattle.smt_terms.proofs.BinderLemmas.{annotated, bang_in, bound_in-fault, bound_in-next, bound_in-twice}
-use Rattle.smt_terms.proofs.BinderLemmas.{fault_of_annotated, fault_of_annotation, fault_of_bindings, let_in, let_of_body}
-use Rattle.smt_terms.proofs.CheckerLemmas.{bang_head, fault_of_args, indexed_ok, let_head}
+use Rattle.smt_terms.proofs.BinderLemmas.{fault_of_annotated, fault_of_annotation, fault_of_bindings, let_in}
+use Rattle.smt_terms.proofs.CheckerLemmas.{bang_head, fault_of_args, indexed_ok, let_head, plain_head}
 use Rattle.smt_terms.proofs.CheckerLemmas.{sorts_behind-end, sorts_behind-next, sorts_behind-start}
 use Rattle.smt_terms.proofs.ClosedLemmas.{bound-names, closed}
-use Rattle.smt_terms.proofs.DraftLemmas.{among, annotated_alone, bound_sorts, carried_open, carried_sort}
-use Rattle.smt_terms.proofs.DraftLemmas.{closed_by_labels, closed_within, kept_on, no_labels, open_args}
-use Rattle.smt_terms.proofs.DraftLemmas.{open_kept, open_let, open_whole, opened_next, placed_kept}
-use Rattle.smt_terms.proofs.DraftLemmas.{placed_more, sorts_kept, tells_same}
+use Rattle.smt_terms.proofs.DraftLemmas.{among, annotated_alone, carried_open, carried_sort, closed_by_labels}
+use Rattle.smt_terms.proofs.DraftLemmas.{closed_within, kept_on, let_sorted, no_labels, open_args, open_kept}
+use Rattle.smt_terms.proofs.DraftLemmas.{open_let, open_whole, opened_next, placed_kept, placed_more, sorts_kept}
+use Rattle.smt_terms.proofs.DraftLemmas.{tells_same}
 use Rattle.smt_terms.proofs.KeptLemmas.{Keeps-unlabelled, kept-sort}
-use Rattle.smt_terms.proofs.LabelLemmas.{AreGivenOf-next, AreGivenOf-none, given_by_args, given_by_indexed}
-use Rattle.smt_terms.proofs.LabelLemmas.{applied_without_labels, called, names_behind}
+use Rattle.smt_terms.proofs.LabelLemmas.{AreGivenOf-next, AreGivenOf-none, applied_without_labels, given_by_args}
+use Rattle.smt_terms.proofs.LabelLemmas.{given_by_indexed, names_behind}
 use Rattle.smt_terms.proofs.BinderNodeLemmas.{annotated_stands, labelled_stands, let_stands}
 use Rattle.smt_terms.proofs.NodeLemmas.{call_stands, if_answered, indexed_stands}
 use Rattle.smt_terms.proofs.PartNodeLemmas.{binding_first, no_binding, no_term, none_left, so_far-all, so_far-next}
 use Rattle.smt_terms.proofs.PartNodeLemmas.{so_far-none, term_first}
-use Rattle.smt_terms.proofs.TableLemmas.{grows_given, grows_on, grows_same}
+use Rattle.smt_terms.proofs.TableLemmas.{grows_bound, grows_given, grows_labelled, grows_on, grows_same}
 use Rattle.smt_terms.proofs.library.Library.+check.Goals as goal
 
 pub bound_by-returns-then-contains-clause-bound : goal.bound_by-returns-then-contains-clause-bound
@@ -332,21 +329,13 @@ sort_of_labelled-returns-in_err-give_labels-clause-longer t c =
 pub sort_of_labelled-returns-in_err-push-clause-longer :
     goal.sort_of_labelled-returns-in_err-push-clause-longer
 sort_of_labelled-returns-in_err-push-clause-longer t c =
-    let mid = c.sort_of.new.draft in
-    let given = record mid { labels = c.give_labels.new.labels } in
-    grows_on c.args.draft.now given c.push.new.self
-    (grows_on c.args.draft.now mid given c.sort_of.ensures.longer
-    (grows_given mid given c.give_labels.ensures.longer.0 refl c.give_labels.ensures.longer.1))
-    c.push.ensures.longer
+    grows_labelled c.args.draft.now c.sort_of.new.draft c.push.new.self c.give_labels.new.labels
+    c.sort_of.ensures.longer c.give_labels.ensures.longer c.push.ensures.longer
 
 pub sort_of_labelled-returns-clause-longer : goal.sort_of_labelled-returns-clause-longer
 sort_of_labelled-returns-clause-longer t c =
-    let mid = c.sort_of.new.draft in
-    let given = record mid { labels = c.give_labels.new.labels } in
-    grows_on c.args.draft.now given c.push.new.self
-    (grows_on c.args.draft.now mid given c.sort_of.ensures.longer
-    (grows_given mid given c.give_labels.ensures.longer.0 refl c.give_labels.ensures.longer.1))
-    c.push.ensures.longer
+    grows_labelled c.args.draft.now c.sort_of.new.draft c.push.new.self c.give_labels.new.labels
+    c.sort_of.ensures.longer c.give_labels.ensures.longer c.push.ensures.longer
 
 pub sort_of_labelled-returns-clause-node : goal.sort_of_labelled-returns-clause-node
 sort_of_labelled-returns-clause-node t c =
@@ -360,9 +349,10 @@ sort_of_labelled-returns-clause-node t c =
     (labels_among (sexps_of c.args.attributes.now)) c.requires.labelled
     (c.in_ok-give_labels.ensures.fault (sorts_seen d) (sym whole ∙ sym c.in_ok-checked.ensures.open)) in
     labelled_stands c.args.self.now d (record d { base = c.len-draft.result }) mid given c.push.new.self term
-    (sexps_of c.args.attributes.now) _ c.in_ok-checked.checked _ refl refl c.len-draft.ensures
+    (sexps_of c.args.attributes.now) _ c.in_ok-checked.checked _ _ refl refl c.len-draft.ensures
     c.sort_of.ensures.longer c.in_ok-checked.ensures.node (c.in_ok-checked.ensures.open ∙ whole ∙ unused) unused
-    (omega (arith, c.len.ensures, c.len-2.ensures)) c.requires.labelled refl c.in_ok-give_labels.ensures.nodes c.in_ok-give_labels.ensures.named
+    (omega (arith, c.len.ensures, c.len-2.ensures)) c.requires.labelled refl c.give_labels.ensures.longer.1
+    c.in_ok-give_labels.ensures.labels.given c.in_ok-give_labels.ensures.nodes c.in_ok-give_labels.ensures.named
     c.push.ensures.longer c.in_ok-push.ensures.added
 
 -- ---- lets
@@ -389,40 +379,22 @@ pub sort_of_let-returns-in_err-inner-clause-sort : goal.sort_of_let-returns-in_e
 sort_of_let-returns-in_err-inner-clause-sort t c =
     let p =
     err_from_is_err_and c.from_residual-in_err-inner.result c.from_residual-in_err-inner.ensures.1 in
-    let names = names_for c.args.self.now (labels_view c.args.draft.now.labels) in
-    let mid = c.bound_by.new.draft in
-    let inner = c.bind.new.self in
-    let bound = scope_view c.as_slice.result.now in
     rw (p.1, p.2)
     (tells_same _ _ _
-    (let_of_body names (names_for c.args.self.now (labels_view inner.labels)) (sorts_seen c.args.draft.now)
-    (sorts_seen inner) bound (sexps_of c.args.args.now) (sexps_of c.in-Some.bindings.now)
-    (sexp_of c.in-Some.body.now)
-    (ap (λ ls. names_for c.args.self.now (labels_view ls)) c.bind.ensures.labels
-    ∙ names_behind c.args.self.now (names_of_library c.args.self.now) c.args.draft.now.labels mid.labels
-    (labels_in_bindings (sexps_of c.in-Some.bindings.now)) c.in_ok-bound.ensures.labels) c.in-Some.ensures
+    (let_sorted c.args.self.now c.args.draft.now c.bound_by.new.draft c.bind.new.self (scope_view c.as_slice.result.now)
+    (sexps_of c.args.args.now) (sexps_of c.in-Some.bindings.now) (sexp_of c.in-Some.body.now) c.in-Some.ensures
     (sym c.are_bindings.ensures ∙ c.if-not-are_bindings.false)
     (c.in_ok-bound.ensures.bound ∙ ap (λ vs. Ok (scope_view vs)) (sym c.as_slice.ensures.value))
-    (bound_sorts (length (seen_by mid)) bound (sorts_seen c.args.draft.now) (seen_by mid) (seen_by inner)
-    c.in_ok-bind.ensures.bound (sorts_kept c.args.draft.now mid c.in_ok-bound.ensures.kept)))
+    c.in_ok-bound.ensures.labels c.in_ok-bound.ensures.kept c.in_ok-bind.ensures.bound c.bind.ensures.labels)
     c.in_err-inner.ensures.sort)
 
 pub sort_of_let-returns-clause-sort : goal.sort_of_let-returns-clause-sort
 sort_of_let-returns-clause-sort t c =
-    let names = names_for c.args.self.now (labels_view c.args.draft.now.labels) in
-    let mid = c.bound_by.new.draft in
-    let inner = c.bind.new.self in
-    let bound = scope_view c.as_slice.result.now in
-    let_of_body names (names_for c.args.self.now (labels_view inner.labels)) (sorts_seen c.args.draft.now)
-    (sorts_seen inner) bound (sexps_of c.args.args.now) (sexps_of c.in-Some.bindings.now)
-    (sexp_of c.in-Some.body.now)
-    (ap (λ ls. names_for c.args.self.now (labels_view ls)) c.bind.ensures.labels
-    ∙ names_behind c.args.self.now (names_of_library c.args.self.now) c.args.draft.now.labels mid.labels
-    (labels_in_bindings (sexps_of c.in-Some.bindings.now)) c.in_ok-bound.ensures.labels) c.in-Some.ensures
+    let_sorted c.args.self.now c.args.draft.now c.bound_by.new.draft c.bind.new.self (scope_view c.as_slice.result.now)
+    (sexps_of c.args.args.now) (sexps_of c.in-Some.bindings.now) (sexp_of c.in-Some.body.now) c.in-Some.ensures
     (sym c.are_bindings.ensures ∙ c.if-not-are_bindings.false)
     (c.in_ok-bound.ensures.bound ∙ ap (λ vs. Ok (scope_view vs)) (sym c.as_slice.ensures.value))
-    (bound_sorts (length (seen_by mid)) bound (sorts_seen c.args.draft.now) (seen_by mid) (seen_by inner)
-    c.in_ok-bind.ensures.bound (sorts_kept c.args.draft.now mid c.in_ok-bound.ensures.kept))
+    c.in_ok-bound.ensures.labels c.in_ok-bound.ensures.kept c.in_ok-bind.ensures.bound c.bind.ensures.labels
     ∙ c.in_ok-inner.ensures.sort ∙ ap (λ s. Ok s) (sym c.in_ok-checked.ensures.sort)
 
 pub sort_of_let-returns-clause-open : goal.sort_of_let-returns-clause-open
@@ -491,33 +463,20 @@ sort_of_let-returns-in_err-bind-clause-longer t c =
 
 pub sort_of_let-returns-in_err-inner-clause-longer : goal.sort_of_let-returns-in_err-inner-clause-longer
 sort_of_let-returns-in_err-inner-clause-longer t c =
-    let mid = c.bound_by.new.draft in
-    let inner = c.bind.new.self in
-    grows_on c.args.draft.now inner c.sort_of.new.draft
-    (grows_on c.args.draft.now mid inner c.bound_by.ensures.longer
-    (grows_same mid inner c.bind.ensures.labels c.bind.ensures.nodes)) c.sort_of.ensures.longer
+    grows_bound c.args.draft.now c.bound_by.new.draft c.bind.new.self c.sort_of.new.draft c.bound_by.ensures.longer
+    c.bind.ensures.labels c.bind.ensures.nodes c.sort_of.ensures.longer
 
 pub sort_of_let-returns-in_err-checked-clause-longer : goal.sort_of_let-returns-in_err-checked-clause-longer
 sort_of_let-returns-in_err-checked-clause-longer t c =
-    let mid = c.bound_by.new.draft in
-    let inner = c.bind.new.self in
-    let last = c.sort_of.new.draft in
-    grows_on c.args.draft.now last c.push_let.new.self
-    (grows_on c.args.draft.now inner last
-    (grows_on c.args.draft.now mid inner c.bound_by.ensures.longer
-    (grows_same mid inner c.bind.ensures.labels c.bind.ensures.nodes)) c.sort_of.ensures.longer)
-    c.push_let.ensures.longer
+    grows_on c.args.draft.now c.sort_of.new.draft c.push_let.new.self
+    (grows_bound c.args.draft.now c.bound_by.new.draft c.bind.new.self c.sort_of.new.draft c.bound_by.ensures.longer
+    c.bind.ensures.labels c.bind.ensures.nodes c.sort_of.ensures.longer) c.push_let.ensures.longer
 
 pub sort_of_let-returns-clause-longer : goal.sort_of_let-returns-clause-longer
 sort_of_let-returns-clause-longer t c =
-    let mid = c.bound_by.new.draft in
-    let inner = c.bind.new.self in
-    let last = c.sort_of.new.draft in
-    grows_on c.args.draft.now last c.push_let.new.self
-    (grows_on c.args.draft.now inner last
-    (grows_on c.args.draft.now mid inner c.bound_by.ensures.longer
-    (grows_same mid inner c.bind.ensures.labels c.bind.ensures.nodes)) c.sort_of.ensures.longer)
-    c.push_let.ensures.longer
+    grows_on c.args.draft.now c.sort_of.new.draft c.push_let.new.self
+    (grows_bound c.args.draft.now c.bound_by.new.draft c.bind.new.self c.sort_of.new.draft c.bound_by.ensures.longer
+    c.bind.ensures.labels c.bind.ensures.nodes c.sort_of.ensures.longer) c.push_let.ensures.longer
 
 -- ---- lists
 
@@ -564,11 +523,8 @@ sort_of_list-returns-in_err-is_open-clause-sort t c =
     (sexp_of c.in-Some.head.now) (sexps_of c.in-Some.args.now) c.args.parts.now
     (identifier_view c.in_ok-identifier-2.identifier) _
     (sym c.as_slice.ensures ∙ c.in-Some.ensures)
-    (record {
-      no_index = sym c.if-is_underscore.ensures;
-      no_let = sym c.if-is_let.ensures;
-      no_bang = sym c.if-is_bang.ensures;
-    }) c.in_ok-identifier-2.ensures c.in_err-is_open.ensures.sorts)
+    (plain_head (sexp_of c.in-Some.head.now) c.if-is_underscore.ensures c.if-is_let.ensures c.if-is_bang.ensures)
+    c.in_ok-identifier-2.ensures c.in_err-is_open.ensures.sorts)
 
 pub sort_of_list-returns-then-is_underscore-clause-sort :
     goal.sort_of_list-returns-then-is_underscore-clause-sort
@@ -619,42 +575,23 @@ sort_of_list-sort_of_call-requires t c =
 pub sort_of_list-returns-in_err-checked-clause-sort : goal.sort_of_list-returns-in_err-checked-clause-sort
 sort_of_list-returns-in_err-checked-clause-sort t c =
     let p = err_from_is_err_and c.from_residual-in_err-checked.result c.from_residual-in_err-checked.ensures.1 in
-    let d = c.args.draft.now in
-    let mid = c.sorts_of.new.draft in
-    let start = c.len-start-2.result in
     let found = c.in_ok-is_open.ensures.sorts in
-    let call : List (List ℕ × Sort) → Result Sort TermFlaw = λ vs. sort_of_call (names_of_library c.args.self.now) vs
-    (identifier_view c.in_ok-identifier-2.identifier) (sorts_from start mid.arguments) in
     rw (p.1, p.2)
-    (tells_same _ _ _ (called c.args.self.now (labels_view d.labels) (sorts_seen d)
-    (sexp_of c.in-Some.head.now) (sexps_of c.in-Some.args.now) c.args.parts.now
-    (identifier_view c.in_ok-identifier-2.identifier) found.0 (sorts_from start mid.arguments)
-    (call (sorts_seen mid)) (sym c.as_slice.ensures ∙ c.in-Some.ensures)
-    (record {
-      no_index = sym c.if-is_underscore.ensures;
-      no_let = sym c.if-is_let.ensures;
-      no_bang = sym c.if-is_bang.ensures;
-    }) c.in_ok-identifier-2.ensures found.1 (sorts_start d mid start found.0 c.len-start-2.ensures found.2)
-    (ap call (sorts_kept d mid c.in_ok-is_open.ensures.kept))) c.in_err-checked.ensures.sort)
+    (tells_same _ _ _ (called_from c.args.self.now c.args.draft.now c.sorts_of.new.draft (sexp_of c.in-Some.head.now)
+    (sexps_of c.in-Some.args.now) c.args.parts.now (identifier_view c.in_ok-identifier-2.identifier)
+    c.len-start-2.result found.0 (sym c.as_slice.ensures ∙ c.in-Some.ensures)
+    (plain_head (sexp_of c.in-Some.head.now) c.if-is_underscore.ensures c.if-is_let.ensures c.if-is_bang.ensures)
+    c.in_ok-identifier-2.ensures found.1 found.2 c.len-start-2.ensures c.in_ok-is_open.ensures.kept)
+    c.in_err-checked.ensures.sort)
 
 pub sort_of_list-returns-clause-sort : goal.sort_of_list-returns-clause-sort
 sort_of_list-returns-clause-sort t c =
-    let d = c.args.draft.now in
-    let mid = c.sorts_of.new.draft in
-    let start = c.len-start-2.result in
     let found = c.in_ok-is_open.ensures.sorts in
-    let call : List (List ℕ × Sort) → Result Sort TermFlaw = λ vs. sort_of_call (names_of_library c.args.self.now) vs
-    (identifier_view c.in_ok-identifier-2.identifier) (sorts_from start mid.arguments) in
-    called c.args.self.now (labels_view d.labels) (sorts_seen d)
-    (sexp_of c.in-Some.head.now) (sexps_of c.in-Some.args.now) c.args.parts.now
-    (identifier_view c.in_ok-identifier-2.identifier) found.0 (sorts_from start mid.arguments)
-    (call (sorts_seen mid)) (sym c.as_slice.ensures ∙ c.in-Some.ensures)
-    (record {
-      no_index = sym c.if-is_underscore.ensures;
-      no_let = sym c.if-is_let.ensures;
-      no_bang = sym c.if-is_bang.ensures;
-    }) c.in_ok-identifier-2.ensures found.1 (sorts_start d mid start found.0 c.len-start-2.ensures found.2)
-    (ap call (sorts_kept d mid c.in_ok-is_open.ensures.kept))
+    called_from c.args.self.now c.args.draft.now c.sorts_of.new.draft (sexp_of c.in-Some.head.now)
+    (sexps_of c.in-Some.args.now) c.args.parts.now (identifier_view c.in_ok-identifier-2.identifier)
+    c.len-start-2.result found.0 (sym c.as_slice.ensures ∙ c.in-Some.ensures)
+    (plain_head (sexp_of c.in-Some.head.now) c.if-is_underscore.ensures c.if-is_let.ensures c.if-is_bang.ensures)
+    c.in_ok-identifier-2.ensures found.1 found.2 c.len-start-2.ensures c.in_ok-is_open.ensures.kept
     ∙ c.in_ok-checked.ensures.sort
 
 pub sort_of_list-returns-clause-labels : goal.sort_of_list-returns-clause-labels
@@ -663,8 +600,8 @@ sort_of_list-returns-clause-labels t c =
     let d = c.args.draft.now in
     given_by_args {E = TermFault} (Ok c.in_ok-checked.checked) names d.labels
     c.sort_of_call.new.draft.labels (sexp_of c.in-Some.head.now) (sexps_of c.in-Some.args.now) c.args.parts.now
-    (sym c.as_slice.ensures ∙ c.in-Some.ensures) (sym c.if-is_underscore.ensures) (sym c.if-is_let.ensures)
-    (sym c.if-is_bang.ensures)
+    (sym c.as_slice.ensures ∙ c.in-Some.ensures)
+    (plain_head (sexp_of c.in-Some.head.now) c.if-is_underscore.ensures c.if-is_let.ensures c.if-is_bang.ensures)
     (subst (λ ls. AreGiven names d.labels ls (labels_in_all (sexps_of c.in-Some.args.now)))
     (sym c.in_ok-checked.ensures.labels) c.in_ok-is_open.ensures.labels)
 
@@ -673,11 +610,7 @@ sort_of_list-returns-clause-open t c =
     c.in_ok-checked.ensures.open ∙ c.in_ok-is_open.ensures.open
     ∙ sym (open_args c.args.draft.now (sexp_of c.in-Some.head.now) (sexps_of c.in-Some.args.now)
     c.args.parts.now (sym c.as_slice.ensures ∙ c.in-Some.ensures)
-    (record {
-      no_index = sym c.if-is_underscore.ensures;
-      no_let = sym c.if-is_let.ensures;
-      no_bang = sym c.if-is_bang.ensures;
-    }))
+    (plain_head (sexp_of c.in-Some.head.now) c.if-is_underscore.ensures c.if-is_let.ensures c.if-is_bang.ensures))
 
 pub sort_of_list-returns-clause-node : goal.sort_of_list-returns-clause-node
 sort_of_list-returns-clause-node t c =
@@ -695,11 +628,8 @@ sort_of_list-returns-clause-node t c =
     (call_stands c.args.self.now d mid new (sexp_of c.in-Some.head.now) args
     c.args.parts.now f (sorts_from start mid.arguments) (terms_from start mid.arguments) is_open checked
     (sym c.as_slice.ensures ∙ c.in-Some.ensures)
-    (record {
-      no_index = sym c.if-is_underscore.ensures;
-      no_let = sym c.if-is_let.ensures;
-      no_bang = sym c.if-is_bang.ensures;
-    }) c.in_ok-identifier-2.ensures c.in_ok-checked.ensures.open c.sorts_of.ensures.longer
+    (plain_head (sexp_of c.in-Some.head.now) c.if-is_underscore.ensures c.if-is_let.ensures c.if-is_bang.ensures)
+    c.in_ok-identifier-2.ensures c.in_ok-checked.ensures.open c.sorts_of.ensures.longer
     (subst (λ js. TermsStand c.args.self.now d mid args js is_open)
     (sym (terms_start d mid start nodes.0 c.len-start-2.ensures nodes.1)) nodes.2)
     (start_counted mid start) c.sort_of_call.ensures.longer c.in_ok-checked.ensures.added)

@@ -6,14 +6,17 @@ use Rattle.smt_forms.specs.ScopeView.{scope_view}
 use Rattle.smt_terms.specs.Checking.{sort_in}
 use Rattle.smt_terms.specs.Contents.{contents_of, terms_in}
 use Rattle.smt_terms.specs.Definitions.{definition}
+use Rattle.smt_terms.specs.Internal.Growing.{bodies_in}
 use Rattle.smt_terms.specs.Internal.LabelsView.{labels_view}
 use Rattle.smt_terms.specs.Internal.LibraryView.{names_for, names_of_library}
+use Rattle.smt_terms.specs.Internal.TableView.{names_of_definitions}
 use Rattle.smt_terms.specs.Signature.{names_of, with_entry}
+use Rattle.smt_terms.specs.declared.library.Definition.{Definition}
 use Rattle.smt_terms.proofs.BodyLemmas.{ready}
 use Rattle.smt_terms.proofs.ContentsLemmas.{extends_on, grown_by, nothing_more}
 use Rattle.smt_terms.proofs.DefinitionLemmas.{definition_by, fault_of_body, same_fault}
 use Rattle.smt_terms.proofs.ItemLemmas.{names_as}
-use Rattle.smt_terms.proofs.StandsLemmas.{stands_kept, under, under_more, whole}
+use Rattle.smt_terms.proofs.StandsLemmas.{and_more, stands_kept, under, under_more, whole}
 use Rattle.smt_terms.proofs.KeptTermLemmas.{body_checked, checked_keeps, checked_longer, none_given, none_more}
 use Rattle.smt_terms.proofs.KeptTermLemmas.{without_labels}
 use Rattle.smt_terms.proofs.library.Library.add_checked.Goals as goal
@@ -80,7 +83,8 @@ returns-clause-added c = λ s stands.
     let given = c.in_ok-checked.field-0-1.items in
     let node = c.in_ok-checked.checked.node in
     let rows = rows_of c.check_whole.new.self.nodes in
-    let bodies : List ℕ = old.bodies.items ++ node ∷ [] in
+    let before = bodies_in (contents_of old) in
+    let bodies = and_more before (c.args.name.now ∷ []) (node ∷ []) in
     let kept =
     (checked_keeps c.check_whole.result c.args.self.now c.check_whole.new.self e.grown e.unchanged e.names e.sorts
     e.declared e.definitions e.bodies) in
@@ -89,7 +93,8 @@ returns-clause-added c = λ s stands.
     c.in_ok-checked.ensures.sort c.in_ok-checked.ensures.given.0 in
     let longer =
     checked_longer old now given rows bodies kept.theories (nothing_more _ _ kept.heads)
-    (none_more old.bodies.items given bodies none (node ∷ [], refl)) (nothing_more _ _ refl) in (
+    (none_more (λ l. l.name.items) before.names given bodies.names none (c.args.name.now ∷ [], refl))
+    (none_more (λ l. l.node) before.nodes given bodies.nodes none (node ∷ [], refl)) (nothing_more _ _ refl) in (
       definition c.args.name.now ps c.args.sort t,
       definition_by (names_of s) (names_of_library old) c.args.name.now ps c.args.sort
           c.in_ok-checked.checked.sort t true (names_as old s stands)
@@ -99,9 +104,11 @@ returns-clause-added c = λ s stands.
       λ free. whole bodies (contents_of c.insert_definition.new.self)
           (with_entry s (definition c.args.name.now ps c.args.sort t))
           (c.in_ok-insert_definition.ensures.bodies ∙ ap (λ (bs : List ℕ). bs ++ node ∷ []) kept.bodies)
+          (c.in_ok-insert_definition.ensures.names
+          ∙ ap (λ (ds : List Definition). names_of_definitions ds ++ c.args.name.now ∷ []) kept.definitions)
           (c.in_ok-insert_definition.ensures.added bodies s t
-          (under_more old.bodies.items (node ∷ []) now s
-          (stands_kept old.bodies.items (contents_of old) now s kept (under (contents_of old) s stands)))
+          (under_more before (c.args.name.now ∷ []) (node ∷ []) now s
+          (stands_kept before (contents_of old) now s kept (under (contents_of old) s stands)))
           free
           (body_checked old now given rows bodies c.args.parameters.now node t longer
           (c.in_ok-checked.ensures.node (ready (terms_in (contents_of old)) s stands.terms)).0)),

@@ -7,6 +7,7 @@ use Rattle.smt_terms.specs.Definitions.{definition}
 use Rattle.smt_terms.specs.Internal.Growing.{HoldsUnder}
 use Rattle.smt_terms.specs.Internal.LabelsView.{label_entry}
 use Rattle.smt_terms.specs.Internal.LibraryView.{ranks_of_library}
+use Rattle.smt_terms.specs.Internal.TableView.{names_of_definitions}
 use Rattle.smt_terms.specs.Signature.{rank_of_entry, with_entry}
 use Rattle.smt_terms.proofs.library.Library.add_label.Goals as goal
 
@@ -28,3 +29,10 @@ returns-clause-ranks c =
     (λ ranks. ranks ∙ ap
     (λ x. ranks_of_library c.args.self.now ++ (x, rank_of_entry (label_entry l)) ∷ []) c.as_slice.ensures.value)
     c.insert_definition.ensures.ranks
+
+pub returns-clause-names : goal.returns-clause-names
+returns-clause-names c =
+    on_ok_weaker c.insert_definition.result
+    (λ names. names ∙ ap
+    (λ x. names_of_definitions c.args.self.now.definitions.items ++ x ∷ []) c.as_slice.ensures.value)
+    c.insert_definition.ensures.names

@@ -21,8 +21,8 @@ loop-label-preserved c =
     (drop c.loop-label.label-index c.args.labels.now) _ c.label-item.result c.loop-label.invariant
     (next_left c.args.labels.now c.loop-label.label-index c.label-item.result
     (omega (arith, c.loop-label-test.true)) c.label-item.is)
-    c.in_ok-add_label.ensures.added c.in_ok-add_label.ensures.ranks c.in_ok-add_label.ensures.bodies
-    c.in_ok-add_label.ensures.grown c.add_label.ensures.transient
+    c.in_ok-add_label.ensures.added c.in_ok-add_label.ensures.ranks c.in_ok-add_label.ensures.names
+    c.in_ok-add_label.ensures.bodies c.in_ok-add_label.ensures.grown c.add_label.ensures.transient
 
 pub returns-in_err-add_label-clause-transient : goal.returns-in_err-add_label-clause-transient
 returns-in_err-add_label-clause-transient c =

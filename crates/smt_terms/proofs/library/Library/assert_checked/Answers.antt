@@ -1,20 +1,19 @@
-use Rattle.std.proofs.Common.{ℕ, List, ◌++◌, [], map, refl, ap, sym, subst, ◌∙◌, inr}
+use Rattle.std.proofs.Common.{[], map, refl, ap, sym, subst, ◌∙◌, inr}
 use Rattle.std.proofs.lemmas.Result.{err_from_is_err_and}
 use Rattle.smt_nodes.specs.Nodes.{rows_of}
 use Rattle.smt_trees.specs.Tree.{sexp_of}
 use Rattle.smt_terms.specs.Contents.{contents_of, terms_in}
-use Rattle.smt_terms.specs.Internal.Growing.{AreFitUnder, HoldsUnder}
+use Rattle.smt_terms.specs.Internal.Growing.{AreFitUnder, HoldsUnder, bodies_in}
 use Rattle.smt_terms.specs.Internal.LabelsView.{AreNew, label_entry, labels_view}
 use Rattle.smt_terms.specs.Internal.LibraryView.{ranks_of_library}
-use Rattle.smt_terms.specs.Internal.TableView.{table_with}
+use Rattle.smt_terms.specs.Internal.TableView.{names_of_definitions, table_with}
 use Rattle.smt_terms.specs.Signature.{with_entries}
-use Rattle.smt_terms.specs.declared.labels.Label.{Label}
 use Rattle.smt_terms.proofs.AssertionLemmas.{asserted_by, asserted_fault, asserted_ill, given_are_new}
-use Rattle.smt_terms.proofs.AssertionLemmas.{given_named}
+use Rattle.smt_terms.proofs.AssertionLemmas.{given_named, labels_added}
 use Rattle.smt_terms.proofs.BodyLemmas.{ready}
 use Rattle.smt_terms.proofs.ContentsLemmas.{extends_on, grown_by, nothing_more}
 use Rattle.smt_terms.proofs.DenotesLemmas.{denotes_kept}
-use Rattle.smt_terms.proofs.StandsLemmas.{stands_kept, under, under_more, whole}
+use Rattle.smt_terms.proofs.StandsLemmas.{and_more, stands_kept, under, under_more, whole}
 use Rattle.smt_terms.proofs.KeptTermLemmas.{checked_keeps, checked_longer}
 use Rattle.smt_terms.proofs.library.Library.assert_checked.Goals as goal
 
@@ -67,12 +66,15 @@ returns-clause-asserted c = λ s stands.
     let given = c.in_ok-checked.given.items in
     let sort = c.in_ok-checked.checked.sort in
     let rows = rows_of c.check_whole.new.self.nodes in
-    let bodies : List ℕ = old.bodies.items ++ map (λ l. l.node) given in
+    let before = bodies_in (contents_of old) in
+    let names = map (λ l. l.name.items) given in
+    let nodes = map (λ l. l.node) given in
+    let bodies = and_more before names nodes in
     let kept =
     (checked_keeps c.check_whole.result c.args.self.now c.check_whole.new.self e.grown e.unchanged e.names e.sorts
     e.declared e.definitions e.bodies) in
     let longer =
-    checked_longer old now given rows bodies kept.theories (nothing_more _ _ kept.heads)
+    checked_longer old now given rows bodies kept.theories (nothing_more _ _ kept.heads) (nothing_more _ _ refl)
     (nothing_more _ _ refl) (nothing_more _ _ refl) in
     let fits =
     given_named old labels given term sort rows bodies now s stands c.new.ensures.view
@@ -83,13 +85,15 @@ returns-clause-asserted c = λ s stands.
           (sym c.are_equal.ensures ∙ c.if-not-are_equal.false) c.in_ok-checked.ensures.given.0
           c.in_ok-checked.ensures.given.1,
       whole bodies (contents_of c.add_labels.new.self) (with_entries s (map label_entry given))
-          (c.in_ok-add_labels.ensures.bodies ∙ ap (λ (bs : List ℕ). bs ++ map (λ l. l.node) c.as_slice.result.now) kept.bodies
-          ∙ ap (λ (ls : List Label). old.bodies.items ++ map (λ l. l.node) ls) c.as_slice.ensures.value)
+          (labels_added (λ l. l.node) before.nodes _ given c.in_ok-add_labels.ensures.bodies kept.bodies
+          c.as_slice.ensures.value)
+          (labels_added (λ l. l.name.items) before.names _ given c.in_ok-add_labels.ensures.names
+          (ap names_of_definitions kept.definitions) c.as_slice.ensures.value)
           (subst (λ ls. HoldsUnder bodies (contents_of c.add_labels.new.self)
           (with_entries s (map label_entry ls))) c.as_slice.ensures.value
           (c.in_ok-add_labels.ensures.added bodies s
-          (under_more old.bodies.items (map (λ l. l.node) given) now s
-          (stands_kept old.bodies.items (contents_of old) now s kept (under (contents_of old) s stands)))
+          (under_more before names nodes now s
+          (stands_kept before (contents_of old) now s kept (under (contents_of old) s stands)))
           (subst (λ ls. AreFitUnder bodies now s ls) (sym c.as_slice.ensures.value) fits))),
     )
 
@@ -105,10 +109,13 @@ returns-clause-term c = λ s stands.
     e.declared e.definitions e.bodies) in
     let more = extends_on _ _ _ (grown_by _ _ kept) c.add_labels.ensures.grown in
     let longer =
-    checked_longer old new given rows new.bodies more.theories more.heads
+    checked_longer old new given rows (bodies_in new) more.theories more.heads
     (nothing_more _ _
-    (c.in_ok-add_labels.ensures.bodies ∙ ap (λ (bs : List ℕ). bs ++ map (λ l. l.node) c.as_slice.result.now) kept.bodies
-    ∙ ap (λ (ls : List Label). old.bodies.items ++ map (λ l. l.node) ls) c.as_slice.ensures.value))
+    (labels_added (λ l. l.name.items) _ _ given c.in_ok-add_labels.ensures.names
+    (ap names_of_definitions kept.definitions) c.as_slice.ensures.value))
+    (nothing_more _ _
+    (labels_added (λ l. l.node) old.bodies.items _ given c.in_ok-add_labels.ensures.bodies kept.bodies
+    c.as_slice.ensures.value))
     c.add_labels.ensures.grown.rows in
     denotes_kept (table_with old given rows) (terms_in (contents_of c.add_labels.new.self)) longer [] 0 0
     c.in_ok-checked.checked.node (sexp_of c.args.term.now)

@@ -4,7 +4,8 @@ use Rattle.smt_trees.specs.Tree.{sexp_of}
 use Rattle.smt_terms.specs.Checking.{sort_in}
 use Rattle.smt_terms.specs.Contents.{contents_of, terms_in}
 use Rattle.smt_terms.specs.Internal.LabelsView.{labels_view}
-use Rattle.smt_terms.specs.Internal.TableView.{table_with}
+use Rattle.smt_terms.specs.Internal.Growing.{bodies_in}
+use Rattle.smt_terms.specs.Internal.TableView.{names_of_definitions, table_with}
 use Rattle.smt_terms.proofs.BodyLemmas.{ready}
 use Rattle.smt_terms.proofs.ContentsLemmas.{grown_by, nothing_more}
 use Rattle.smt_terms.proofs.DenotesLemmas.{denotes_kept}
@@ -58,8 +59,10 @@ returns-clause-answer c = λ s stands.
     none_given old (labels_view c.refused.result) [] t c.in_ok-checked.checked.sort given c.refused.ensures.view
     c.in_ok-checked.ensures.sort c.in_ok-checked.ensures.given.0 in
     let longer =
-    checked_longer old (contents_of new) given rows new.bodies.items kept.theories (nothing_more _ _ kept.heads)
-    (none_more old.bodies.items given new.bodies.items none (nothing_more _ _ kept.bodies))
+    checked_longer old (contents_of new) given rows (bodies_in (contents_of new)) kept.theories
+    (nothing_more _ _ kept.heads)
+    (none_more (λ l. l.name.items) _ given _ none (nothing_more _ _ (ap names_of_definitions kept.definitions)))
+    (none_more (λ l. l.node) old.bodies.items given new.bodies.items none (nothing_more _ _ kept.bodies))
     (nothing_more _ _ refl) in (
       ap (λ n. sort_in n [] t) (sym (names_as old s stands))
           ∙ without_labels old (labels_view c.refused.result) [] t _ c.refused.ensures.view

@@ -16,7 +16,7 @@ use Rattle.smt_terms.proofs.ContentsLemmas.{nothing_more}
 use Rattle.smt_terms.proofs.DenotesLemmas.{denotes_kept}
 use Rattle.smt_terms.proofs.ItemLemmas.{names_as}
 use Rattle.smt_terms.proofs.TableLemmas.{ready_longer, rows_grow}
-use Rattle.smt_terms.proofs.KeptTermLemmas.{none_given, without_labels}
+use Rattle.smt_terms.proofs.KeptTermLemmas.{none_given, none_more, without_labels}
 use Rattle.smt_terms.proofs.library.Library.check_transient.Goals as goal
 
 pub returns-in-Ok-clause-grown : goal.returns-in-Ok-clause-grown
@@ -36,6 +36,7 @@ returns-in-Ok-clause-kept c = λ i t is.
     denotes_kept (terms_of old) (terms_of new) (record {
       theories = refl;
       heads = nothing_more _ _ refl;
+      names = nothing_more _ _ refl;
       bodies = nothing_more _ _ refl;
       rows = (
         grown.0,
@@ -86,6 +87,7 @@ returns-in-Ok-clause-answer c = λ s stands.
     let is_ready = ready_longer (held_terms_of old) (table_in old draft) (record {
       theories = refl;
       heads = nothing_more _ _ refl;
+      names = (_, refl);
       bodies = (_, refl);
       rows = (_, refl);
     }) refl (ready (held_terms_of old) s stands.terms) in (
@@ -94,11 +96,8 @@ returns-in-Ok-clause-answer c = λ s stands.
       denotes_kept (table_in old last) (terms_of new) (record {
         theories = refl;
         heads = nothing_more _ _ refl;
-        bodies = (
-          [],
-          sym (append-nil old.bodies.items) ∙ ap (λ ls. old.bodies.items ++ map (λ l. l.node) ls) (sym no_more)
-              ∙ sym (append-nil (table_in old last).bodies),
-        );
+        names = none_more (λ l. l.name.items) _ last.labels.given.items _ no_more (nothing_more _ _ refl);
+        bodies = none_more (λ l. l.node) old.bodies.items last.labels.given.items _ no_more (nothing_more _ _ refl);
         rows = nothing_more _ _
             (ap (λ ns. rows_of old.nodes ++ rows_of ns) c.replace.ensures.value);
       }) [] 0 0 c.in-Ok.checked.node t (e.node is_ready),

@@ -2,7 +2,7 @@ use Rattle.std.proofs.Common.{rules, [], ◌∷◌}
 use Rattle.smt_trees.specs.Tree.{sexp_of}
 use Rattle.smt_terms.specs.Internal.LibraryView.{names_of_library}
 use Rattle.smt_terms.proofs.LabelLemmas.{AreGiven-push}
-use Rattle.smt_terms.proofs.LabelNodeLemmas.{named_pushed, nodes_pushed}
+use Rattle.smt_terms.proofs.LabelNodeLemmas.{named_pushed}
 use Rattle.smt_terms.proofs.library.Library.give_label.Goals as goal
 
 pub returns-clause-labels : goal.returns-clause-labels
@@ -14,10 +14,7 @@ returns-clause-labels c =
 
 pub returns-clause-longer : goal.returns-clause-longer
 returns-clause-longer c =
-    let p = c.in_ok-push.ensures.pushed in (
-      c.args.checked.now.node ∷ [],
-      nodes_pushed c.args.labels.now c.push.new.self p.0 c.args.checked.now.node p.1 p.5,
-    )
+    let p = c.in_ok-push.ensures.pushed in (p.0 ∷ [], p.1)
 
 pub returns-clause-named : goal.returns-clause-named
 returns-clause-named c =

@@ -52,8 +52,8 @@ loop-tree-preserved c =
           c.loop-tree.invariant.nodes split c.in_ok-give_label_at.ensures.nodes;
       longer = (
         _,
-        behind_behind (nodes_given c.args.labels.now) (nodes_given c.loop-tree.labels)
-            (nodes_given c.give_label_at.new.labels) c.loop-tree.invariant.longer.0
+        behind_behind c.args.labels.now.given.items c.loop-tree.labels.given.items
+            c.give_label_at.new.labels.given.items c.loop-tree.invariant.longer.0
             c.give_label_at.ensures.longer.0 c.loop-tree.invariant.longer.1 c.give_label_at.ensures.longer.1,
       );
       named = λ t h d. c.in_ok-give_label_at.ensures.named t (c.loop-tree.invariant.named t h d) d;
@@ -62,8 +62,8 @@ loop-tree-preserved c =
 pub returns-in_err-give_label_at-clause-longer : goal.returns-in_err-give_label_at-clause-longer
 returns-in_err-give_label_at-clause-longer c = (
   _,
-  behind_behind (nodes_given c.args.labels.now) (nodes_given c.loop-tree.labels)
-      (nodes_given c.give_label_at.new.labels) c.loop-tree.invariant.longer.0
+  behind_behind c.args.labels.now.given.items c.loop-tree.labels.given.items
+      c.give_label_at.new.labels.given.items c.loop-tree.invariant.longer.0
       c.give_label_at.ensures.longer.0 c.loop-tree.invariant.longer.1 c.give_label_at.ensures.longer.1,
 )
 

@@ -10,6 +10,7 @@ use Rattle.smt_forms.specs.Variables.{uses_variable}
 use Rattle.smt_terms.specs.Denotes.{Denotes, Table}
 use Rattle.smt_terms.specs.Internal.NodesView.{nodes_given}
 use Rattle.smt_terms.specs.Internal.TableView.{AreNamed}
+use Rattle.smt_terms.specs.declared.labels.Label.{Label}
 use Rattle.smt_terms.proofs.LabelLemmas.{AreGivenOf, with_term}
 use Rattle.smt_terms.proofs.library.Library.give_labels.Given as goal
 
@@ -25,7 +26,7 @@ invariant-loop-tree l = record {
       (with_term (sexp_of l.term) (labels_among (sexps_of l.left)));
   nodes : nodes_given l.fn.labels ++ map (λ x. l.checked.node) (labels_among (sexps_of l.attributes))
       ≡ nodes_given l.labels ++ map (λ x. l.checked.node) (labels_among (sexps_of l.left));
-  longer : (more : List ℕ) × (nodes_given l.labels ≡ nodes_given l.fn.labels ++ more);
+  longer : (more : List Label) × (l.labels.given.items ≡ l.fn.labels.given.items ++ more);
   named : (t : Table) → AreNamed t l.fn.labels.given.items → Denotes t [] 0 0 l.checked.node (sexp_of l.term)
       → AreNamed t l.labels.given.items;
 }

@@ -1,11 +1,13 @@
 -- The new name goes last, among the names and among the definitions, with the node of its body.
 use Rattle.std.proofs.Common.{◌≡◌, ℕ, List, ◌++◌, ◌∷◌, [], length, map, refl, ap, ◌∙◌}
+use Rattle.std.proofs.lemmas.List.{map-append}
 use Rattle.smt_nodes.specs.Nodes.{rows_of}
 use Rattle.smt_theory.specs.declared.sort.Sort.{Sort}
 use Rattle.smt_terms.specs.Contents.{contents_of, declaration_view}
 use Rattle.smt_terms.specs.Denotes.{Head}
 use Rattle.smt_terms.specs.Internal.LibraryView.{abbreviations_of, ranks_of_library}
-use Rattle.smt_terms.specs.Internal.TableView.{heads_of_library}
+use Rattle.smt_terms.specs.Internal.TableView.{heads_of_library, names_of_definitions}
+use Rattle.smt_terms.specs.declared.library.Definition.{Definition}
 use Rattle.smt_terms.specs.declared.library.Found.TheVariants as place
 use Rattle.smt_terms.specs.declared.sorts.SortNames.{SortNames}
 use Rattle.smt_terms.proofs.ContentsLemmas.{grown_by, nothing_more}
@@ -102,6 +104,13 @@ returns-in-Ok-clause-added c = λ bodies s t stands free node.
     (then.definitions ∙ c.in_ok-push_definition.ensures.definitions)
     (then.bodies ∙ c.in_ok-push_definition.ensures.bodies)
     (nothing_more _ _ (ap rows_of (then.nodes ∙ first.nodes))) stands
+
+pub returns-in-Ok-clause-names : goal.returns-in-Ok-clause-names
+returns-in-Ok-clause-names c =
+    let before = c.args.self.now.definitions.items in
+    ap names_of_definitions (c.insert.ensures.definitions ∙ c.in_ok-push_definition.ensures.definitions)
+    ∙ map-append (λ (d : Definition). d.name.items) before _
+    ∙ ap (λ (x : List ℕ). names_of_definitions before ++ x ∷ []) c.in_ok-from_slice.ensures.items
 
 pub returns-in-Ok-clause-bodies : goal.returns-in-Ok-clause-bodies
 returns-in-Ok-clause-bodies c = c.insert.ensures.bodies ∙ c.in_ok-push_definition.ensures.bodies
