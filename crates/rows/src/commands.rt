@@ -9,7 +9,7 @@ use crate::trees::{split_profile, tree_of};
 use anyhow::{Result, bail};
 use row_texts::{Field, is_on, want_key};
 use smt_script::{Assertion, Command, CommandFault, Stack, Start, read_command};
-use smt_trees::Tree;
+use smt_trees::view::{Tree, view_of};
 use std::alloc::Global;
 use std::io;
 use std::io::Write;
@@ -55,7 +55,7 @@ fn print_command<W: Write>(
 {
     want_key(field, "command")?;
     let tree = tree_of(alloc, field)?;
-    let outcome = take(stack, number, tree);
+    let outcome = take(stack, number, view_of(&tree));
     print_outcome(out, number, field, outcome)?;
     Ok(())
 }
@@ -88,18 +88,16 @@ fn split_print_success<'a, 'b>(fields: &'b [Field<'a>]) -> Result<(bool, &'b [Fi
 }
 
 // Reads a command, and applies it to the stack.
-fn take(stack: &mut Stack, number: u64, tree: Tree) -> Result<(), CommandFault>
+fn take(stack: &mut Stack, number: u64, tree: Tree<'_>) -> Result<(), CommandFault>
     requires { last_of stack.old < number }
     ensures { last_of stack.new ≤ number }
 {
     let command = read_command(stack.profile(), tree)?;
-    let outcome = apply(stack, number, &command);
-    drop(command);
-    outcome
+    apply(stack, number, &command)
 }
 
 // Applies a command to the stack, and once more where memory was refused: the first time has then changed nothing.
-fn apply(stack: &mut Stack, number: u64, command: &Command) -> Result<(), CommandFault>
+fn apply(stack: &mut Stack, number: u64, command: &Command<'_>) -> Result<(), CommandFault>
     requires { last_of stack.old < number }
     ensures { last_of stack.new ≤ number }
 {

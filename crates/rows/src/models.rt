@@ -5,13 +5,13 @@ ghost use Rattle.smt_eval.specs.Interpretation.{Fits};
 ghost use Rattle.smt_terms.specs.Library.{HasTheoriesOf, StandsFor};
 ghost use Rattle.smt_terms.specs.Signature.{Signature};
 
-use crate::trees::{assert, declare, define, parts_of};
+use crate::trees::{assert, declare, define, parts_of, trees_of};
 use anyhow::{Result, bail};
 use row_texts::{Field, refuse};
 use smt_eval::{Interpretation, ModelFault, ModelFlaw};
 use smt_faults::TermFault;
 use smt_terms::Library;
-use smt_trees::Trees;
+use smt_trees::view::Trees;
 use std::alloc::Global;
 use std::io;
 use std::io::Write;
@@ -60,9 +60,10 @@ pub(crate) fn print_model<W: Write>(
     requires { (s : Signature) × StandsFor declared.now s }
     ensures { IfOk result (λ found. MatchOption found (Unit {0}) (λ model. Fits model declared.now)) }
 {
-    let parts = parts_of(alloc, field)?;
-    let read = Interpretation::read(declared, &parts);
-    print_read(out, declared, field, &parts, &read)?;
+    let trees = trees_of(alloc, field)?;
+    let parts = parts_of(field, Trees::of(trees.as_slice()))?;
+    let read = Interpretation::read(declared, parts);
+    print_read(out, declared, field, parts, &read)?;
     Ok(read.ok())
 }
 
@@ -70,7 +71,7 @@ fn print_read<W: Write>(
     out: &mut W,
     declared: &Library,
     field: &Field,
-    parts: &Trees,
+    parts: Trees<'_>,
     read: &Result<Interpretation, ModelFault>,
 ) -> Result<()> {
     let text = &field.text;
@@ -95,14 +96,14 @@ fn print_read<W: Write>(
 }
 
 // Prints the names that a model without a fault defines, in order, each after a space, and ends the line.
-fn print_names<W: Write>(out: &mut W, declared: &Library, model: &Trees) -> Result<()> {
+fn print_names<W: Write>(out: &mut W, declared: &Library, model: Trees<'_>) -> Result<()> {
     let definitions = definitions_of(declared, model)?;
     write_names(out, &definitions)?;
     Ok(())
 }
 
 /// A library of what the items of a model without a fault define.
-pub(crate) fn definitions_of(declared: &Library, model: &Trees) -> Result<Library> {
+pub(crate) fn definitions_of(declared: &Library, model: Trees<'_>) -> Result<Library> {
     let Ok(mut definitions) = declared.for_model() else {
         bail!("out of memory");
     };
@@ -115,10 +116,12 @@ pub(crate) fn definitions_of(declared: &Library, model: &Trees) -> Result<Librar
     }
 }
 
-fn define_items(declared: &Library, definitions: &mut Library, model: &Trees) -> Result<()>
+fn define_items(declared: &Library, definitions: &mut Library, model: Trees<'_>) -> Result<()>
     requires { HasTheoriesOf definitions.old declared.now }
 {
-    for item in model.as_slice() {
+    let mut left = model;
+    while let Some((item, rest)) = left.split_first() {
+        left = rest;
         if item.is_symbol(b"model") {
             continue;
         }

@@ -11,12 +11,12 @@ use smt_forms::{are_named, params_of};
 use smt_terms::Library;
 use smt_text::read_trees;
 use smt_theory::{Profile, Theories, all_theories, theories_of};
-use smt_trees::{Tree, Trees};
+use smt_trees::view::{Tree, Trees, view_of};
 use std::alloc::Global;
 use std::io::Write;
 
 /// The trees in a field.
-pub(crate) fn trees_of(alloc: Global, field: &Field) -> Result<Trees> {
+pub(crate) fn trees_of(alloc: Global, field: &Field) -> Result<smt_trees::Trees> {
     let bytes = field.bytes(alloc)?;
     match read_trees(alloc, bytes.as_slice()) {
         Ok(trees) => Ok(trees),
@@ -26,17 +26,17 @@ pub(crate) fn trees_of(alloc: Global, field: &Field) -> Result<Trees> {
 }
 
 /// The one tree in a field; any other number of trees is an error.
-pub(crate) fn tree_of(alloc: Global, field: &Field) -> Result<Tree> {
+pub(crate) fn tree_of(alloc: Global, field: &Field) -> Result<smt_trees::Tree> {
     match trees_of(alloc, field)?.as_slice() {
         [tree] => Ok(tree.copy(alloc)?),
         _ => bail!("line {}: this is not one S-expression", field.line),
     }
 }
 
-/// The parts of the list in a field; any other tree is an error.
-pub(crate) fn parts_of(alloc: Global, field: &Field) -> Result<Trees> {
-    match trees_of(alloc, field)?.as_slice() {
-        [Tree::List(parts)] => Ok(parts.copy(alloc)?),
+/// The parts of the list that the trees in a field are; any other trees are an error.
+pub(crate) fn parts_of<'a>(field: &Field, trees: Trees<'a>) -> Result<Trees<'a>> {
+    match trees.split_first() {
+        Some((Tree::List(parts), rest)) if rest.split_first().is_none() => Ok(parts),
         _ => bail!("line {}: this is no list", field.line),
     }
 }
@@ -86,18 +86,31 @@ pub(crate) fn declare<W: Write>(
     ensures { (s : Signature) → StandsFor library.old s → (later : Signature) × StandsFor library.new later }
 {
     let trees = trees_of(alloc, field)?;
-    let (name, params, sort): (&[u8], &[Tree], &Tree) = match trees.as_slice() {
-        [Tree::Symbol(name), sort] => (name.as_slice(), &[], sort),
-        [Tree::Symbol(name), Tree::List(params), sort] => {
-            (name.as_slice(), params.as_slice(), sort)
-        }
-        _ => bail!(
+    let Some((name, params, sort)) = declaration(Trees::of(trees.as_slice())) else {
+        bail!(
             "line {}: a declaration is a symbol, sorts in a list and a sort",
             field.line
-        ),
+        );
     };
     let answer = library.declare(command, name, params, sort);
     print_answer(out, field, "declared", answer.err())
+}
+
+// The name, the sorts of the parameters and the sort of the result that these trees declare.
+fn declaration(trees: Trees<'_>) -> Option<(&[u8], Trees<'_>, Tree<'_>)> {
+    let Some((Tree::Symbol(name), rest)) = trees.split_first() else {
+        return None;
+    };
+    let Some((first, rest)) = rest.split_first() else {
+        return None;
+    };
+    let Some((second, rest)) = rest.split_first() else {
+        return Some((name, Trees::of(&[]), first));
+    };
+    match first {
+        Tree::List(params) if rest.split_first().is_none() => Some((name, params, second)),
+        _ => None,
+    }
 }
 
 /// Defines the name in a field, and prints the result. After the name the field has the parameters, the sort and
@@ -111,23 +124,40 @@ pub(crate) fn define<W: Write>(
     ensures { (s : Signature) → StandsFor library.old s → (later : Signature) × StandsFor library.new later }
 {
     let trees = trees_of(alloc, field)?;
-    let [Tree::Symbol(name), Tree::List(params), sort, body] = trees.as_slice() else {
+    let Some((name, params, sort, body)) = definition(Trees::of(trees.as_slice())) else {
         bail!(
             "line {}: a definition is a symbol, parameters in a list, a sort and a body",
             field.line
         );
     };
-    if !are_named(params.as_slice()) {
+    if !are_named(params) {
         bail!(
             "line {}: a parameter is a list of a symbol and a sort",
             field.line
         );
     }
-    let Ok(params) = params_of(alloc, params.as_slice()) else {
+    let Ok(params) = params_of(alloc, params) else {
         bail!("out of memory");
     };
-    let answer = library.define(name.as_slice(), params.as_slice(), sort, body);
+    let answer = library.define(name, params.as_slice(), sort, body);
     print_answer(out, field, "defined", answer.err())
+}
+
+// The name, the parameters, the sort and the body that these trees define.
+fn definition(trees: Trees<'_>) -> Option<(&[u8], Trees<'_>, Tree<'_>, Tree<'_>)> {
+    let Some((Tree::Symbol(name), rest)) = trees.split_first() else {
+        return None;
+    };
+    let Some((Tree::List(params), rest)) = rest.split_first() else {
+        return None;
+    };
+    let Some((sort, rest)) = rest.split_first() else {
+        return None;
+    };
+    match rest.split_first() {
+        Some((body, rest)) if rest.split_first().is_none() => Some((name, params, sort, body)),
+        _ => None,
+    }
 }
 
 /// Asserts the term in a field, and prints the result.
@@ -140,7 +170,7 @@ pub(crate) fn assert<W: Write>(
     ensures { (s : Signature) → StandsFor library.old s → (later : Signature) × StandsFor library.new later }
 {
     let term = tree_of(alloc, field)?;
-    print_answer(out, field, "asserted", library.assert(&term).err())
+    print_answer(out, field, "asserted", library.assert(view_of(&term)).err())
 }
 
 /// Prints the flaw of what a field holds; without a fault, what was done with it.

@@ -17,7 +17,7 @@ use row_texts::{Field, want_key};
 use smt_eval::plain::{Closed, Definition};
 use smt_faults::TermFlaw;
 use smt_terms::Library;
-use smt_trees::{Tree, Trees};
+use smt_trees::view::{Tree, Trees, view_of};
 use smt_values::Value;
 use std::alloc::Global;
 use std::io;
@@ -38,9 +38,10 @@ pub(crate) fn print<W: Write>(
         bail!("line {}: a row of values has a model", title.line);
     };
     want_key(first, "model")?;
-    let model = parts_of(alloc, first)?;
-    declare_items(alloc, script, &model)?;
-    print_values(alloc, out, script, first, &model, terms)
+    let trees = trees_of(alloc, first)?;
+    let model = parts_of(first, Trees::of(trees.as_slice()))?;
+    declare_items(alloc, script, model)?;
+    print_values(alloc, out, script, first, model, terms)
 }
 
 fn print_values<W: Write>(
@@ -48,7 +49,7 @@ fn print_values<W: Write>(
     out: &mut W,
     script: &mut Library,
     first: &Field,
-    model: &Trees,
+    model: Trees<'_>,
     terms: &[Field],
 ) -> Result<()>
     requires { (s : Signature) × StandsFor script.old s }
@@ -63,7 +64,7 @@ fn print_over<W: Write>(
     alloc: Global,
     out: &mut W,
     script: &mut Library,
-    model: &Trees,
+    model: Trees<'_>,
     terms: &[Field],
 ) -> Result<()>
     requires { (s : Signature) × StandsFor script.old s }
@@ -79,7 +80,7 @@ fn print_terms<W: Write>(
     alloc: Global,
     out: &mut W,
     script: &mut Library,
-    model: &Trees,
+    model: Trees<'_>,
     definitions: &[Definition<'_>],
     fields: &[Field],
 ) -> Result<()>
@@ -101,14 +102,14 @@ fn print_left<W: Write>(
     alloc: Global,
     out: &mut W,
     script: &mut Library,
-    model: &Trees,
+    model: Trees<'_>,
     field: &Field,
 ) -> Result<()>
     requires { (s : Signature) × StandsFor script.old s }
     ensures { (s : Signature) → StandsFor script.old s → StandsFor script.new s }
 {
     let (steps, tree) = steps_of(alloc, field)?;
-    match left_of(script, model, &tree, steps)? {
+    match left_of(script, model, view_of(&tree), steps)? {
         Some(left) => writeln!(out, "{} => {left} left", field.text)?,
         None => writeln!(out, "{} => too long", field.text)?,
     }
@@ -116,7 +117,7 @@ fn print_left<W: Write>(
 }
 
 // The number of steps and the term in a field.
-fn steps_of(alloc: Global, field: &Field) -> Result<(u64, Tree)>
+fn steps_of(alloc: Global, field: &Field) -> Result<(u64, smt_trees::Tree)>
     ensures { IfOk result (λ found. found.0 < 2 ^ 64 - 1) }
 {
     let Some((steps, _)) = field.text.split_once(' ') else {
@@ -135,7 +136,7 @@ fn print_value<W: Write>(
     alloc: Global,
     out: &mut W,
     script: &mut Library,
-    model: &Trees,
+    model: Trees<'_>,
     definitions: &[Definition<'_>],
     field: &Field,
 ) -> Result<()>
@@ -143,8 +144,8 @@ fn print_value<W: Write>(
     ensures { (s : Signature) → StandsFor script.old s → StandsFor script.new s }
 {
     let tree = tree_of(alloc, field)?;
-    let by_tree = known_by_tree(alloc, script, definitions, &tree)?;
-    let by_node = known_by_node(script, model, &tree)?;
+    let by_tree = known_by_tree(alloc, script, definitions, view_of(&tree))?;
+    let by_node = known_by_node(script, model, view_of(&tree))?;
     write_value(out, field, &by_tree, &by_node)?;
     Ok(())
 }
@@ -154,7 +155,7 @@ fn known_by_tree(
     alloc: Global,
     script: &Library,
     definitions: &[Definition<'_>],
-    tree: &Tree,
+    tree: Tree<'_>,
 ) -> Result<Option<Value>> {
     let term = Closed {
         alloc,

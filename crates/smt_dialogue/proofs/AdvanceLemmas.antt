@@ -10,8 +10,8 @@ use Rattle.smt_text.specs.Reader.{bytes_fed}
 use Rattle.smt_text.specs.Reading.{Reads}
 use Rattle.smt_trees.specs.Sexp.{Sexp, Sexps, Nil, Cons, count}
 use Rattle.smt_faults.specs.declared.text_flaw.TextFlaw.{TextFlaw}
-use Rattle.smt_script.specs.CommandView.{command_view}
-use Rattle.smt_script.specs.declared.command.Command.{Command}
+use Rattle.smt_trees.specs.Tree.{sexp_of}
+use Rattle.smt_trees.specs.declared.tree.Tree.{Tree}
 use Rattle.smt_dialogue.proofs.AcceptedLemmas.{begins_trans, decided_first, lines_silent}
 use Rattle.smt_dialogue.proofs.PairingLemmas.{early_closed}
 use Rattle.smt_dialogue.proofs.LinesStayLemmas.{begins_so}
@@ -148,7 +148,7 @@ turn_kept x y texts pairs later rest same =
 pub settled : (x y : Pairing) (texts : Texts) (pairs : List Pair) (later rest : Sexps) (closed : Bool)
     → y.script ≡ x.script → y.answers ≡ x.answers → y.command ≡ x.command
     → options_of y.dialogue ≡ options_of x.dialogue
-    → Fits closed (state_behind texts.taken y.dialogue) pairs → (closed ≡ true → IsClosing x.command texts later)
+    → Fits closed (state_behind texts.taken y.dialogue) pairs → (closed ≡ true → IsClosing (profile_of x.dialogue.stack) x.command texts later)
     → IsUnderWay x texts pairs later rest → IsUnderWay y texts pairs later rest
 settled x y texts pairs later rest closed script answers command start stands closing h = record {
   left = h.left;
@@ -158,7 +158,8 @@ settled x y texts pairs later rest closed script answers command start stands cl
   answers_front = subst (λ f. HasQueue f texts.answers_bytes texts.answers rest) (sym answers) h.answers_front;
   early = closed;
   stands = stands;
-  closing = λ e. subst (λ o. IsClosing o texts later) (sym command) (closing e);
+  closing = λ e. subst (λ (o : Options). IsClosing o.profile y.command texts later) (sym start)
+      (subst (λ o. IsClosing (profile_of x.dialogue.stack) o texts later) (sym command) (closing e));
   paired = subst (λ (o : Options). ArePaired (start_by o) texts.script texts.answers pairs later rest)
       (sym start) h.paired;
 }
@@ -205,16 +206,16 @@ ends_at old new texts pairs later rest options fault begun h t = record {
 
 -- ---- where memory was refused
 
-next_pair : (start : Start) (texts : Texts) (o : Option Command) (pairs : List Pair) (later left rest : Sexps)
-    → IsInTurn start.profile o pairs later left → IsClosing o texts later
+next_pair : (start : Start) (texts : Texts) (o : Option Tree) (pairs : List Pair) (later left rest : Sexps)
+    → IsInTurn start.profile o pairs later left → IsClosing start.profile o texts later
     → (w : Way start pairs texts.script.told later texts.script.fault texts.answers.told rest texts.answers.fault)
     → ClosesNext w.pairs w.turn
 next_pair start texts None pairs later left rest turn h w =
     at_end start pairs w.pairs texts.script.told later w.later texts.script.fault texts.answers.told w.rest
     texts.answers.fault w.turn h.0 h.1 h.2 w.commands w.turn_is
-next_pair start texts (Some c) pairs later left rest turn h w =
-    at_tree start pairs w.pairs turn.0 left w.later (command_view c) texts.answers.told w.rest texts.answers.fault
-    w.turn turn.3 turn.2 h (subst (λ ts. AreCommands start.profile w.pairs ts w.later) turn.1 w.commands)
+next_pair start texts (Some t) pairs later left rest turn h w =
+    at_tree start pairs w.pairs (sexp_of t) left w.later turn.0 texts.answers.told w.rest texts.answers.fault
+    w.turn turn.3 turn.2 (h turn.0 turn.2) (subst (λ ts. AreCommands start.profile w.pairs ts w.later) turn.1 w.commands)
     texts.script.told texts.script.fault w.turn_is w.rests
 
 -- what is decided begins the lines so far
@@ -237,7 +238,8 @@ cut_at x texts pairs later rest ls options begun is h =
     ∙ ap (λ xs. (texts.taken ++ xs) ++ first.0) (sym is) in
     let all = begins_so options.profile steps pairs w.pairs w.turn h.early w.rests
     (λ e. next_pair start texts x.command pairs later h.left rest
-    (subst (λ (o : Options). IsInTurn o.profile x.command pairs later h.left) begun h.in_turn) (h.closing e) w) in (
+    (subst (λ (o : Options). IsInTurn o.profile x.command pairs later h.left) begun h.in_turn)
+    (subst (λ (o : Options). IsClosing o.profile x.command texts later) begun (h.closing e)) w) in (
       lines_at options.profile steps (pairs ++ w.pairs) w.turn,
       record { pairs = pairs ++ w.pairs; turn = w.turn; rests = w.rests; turn_is = turn; lines_are = refl },
       begins_trans (texts.taken ++ ls) (lines_in options.profile steps h.early [] pairs [])

@@ -7,7 +7,7 @@ use Rattle.smt_text.specs.Reader.{is_finished}
 use Rattle.smt_text.specs.Reading.{Reads}
 use Rattle.smt_text.specs.declared.reader.Reader.{Reader}
 use Rattle.smt_trees.specs.Sexp.{Sexps, Nil, append}
-use Rattle.smt_script.specs.declared.command.Command.{Command}
+use Rattle.smt_trees.specs.declared.tree.Tree.{Tree}
 use Rattle.smt_dialogue.proofs.SoFarLemmas.{paired_more}
 use Rattle.smt_dialogue.proofs.TreesLemmas.{append_assoc, append_nil}
 use Rattle.smt_dialogue.specs.FirstFault.{TextSoFar, is_over}
@@ -52,7 +52,7 @@ front_more f g bytes more_bytes text grown rest s same stands read h = record {
       ∙ ap (λ o. append (next_trees o) (append h.behind s.later)) (sym same);
 }
 
-in_turn_more : (profile : Profile) (o : Option Command) (pairs : List Pair) (later left more : Sexps)
+in_turn_more : (profile : Profile) (o : Option Tree) (pairs : List Pair) (later left more : Sexps)
     → IsInTurn profile o pairs later left
     → IsInTurn profile o pairs (append later more) (append left more)
 in_turn_more profile None pairs later left more h = ap (λ ts. append ts more) h
@@ -61,10 +61,11 @@ in_turn_more profile (Some c) pairs later left more h = (h.0, ap (λ ts. append 
 over_told : (text : TextSoFar) → text.told ≡ true → is_over text ≡ true
 over_told text told = ap (λ b. b || is_some text.fault) told
 
-closing_more : (o : Option Command) (texts grown : Texts) (later : Sexps) (s : IsGrown texts.script grown.script)
-    → IsClosing o texts later → IsClosing o grown (append later s.later)
-closing_more (Some c) texts grown later s h = h
-closing_more None texts grown later s h =
+closing_more : (profile : Profile) (o : Option Tree) (texts grown : Texts) (later : Sexps)
+    (s : IsGrown texts.script grown.script)
+    → IsClosing profile o texts later → IsClosing profile o grown (append later s.later)
+closing_more profile (Some t) texts grown later s h = h
+closing_more profile None texts grown later s h =
     let over = s.over (over_told texts.script h.2) in
     (ap (λ ts. append ts s.later) h.0 ∙ over.0, over.1 ∙ h.1, s.told h.2)
 
@@ -88,8 +89,9 @@ both_more x y texts grown pairs later rest taken dialogue command h s a script_f
   early = h.early;
   stands = subst (λ ls. Fits h.early (state_behind ls y.dialogue) pairs) (sym taken)
       (subst (λ d. Fits h.early (state_behind texts.taken d) pairs) (sym dialogue) h.stands);
-  closing = λ e. subst (λ o. IsClosing o grown (append later s.later)) (sym command)
-      (closing_more x.command texts grown later s (h.closing e));
+  closing = λ e. subst (λ d. IsClosing (profile_of d.stack) y.command grown (append later s.later)) (sym dialogue)
+      (subst (λ o. IsClosing (profile_of x.dialogue.stack) o grown (append later s.later)) (sym command)
+      (closing_more (profile_of x.dialogue.stack) x.command texts grown later s (h.closing e)));
   paired = subst (λ d. ArePaired (start_of d.stack) grown.script grown.answers pairs
       (append later s.later) (append rest a.later)) (sym dialogue)
       (paired_more (start_of x.dialogue.stack) texts.script texts.answers grown.script grown.answers

@@ -1,16 +1,17 @@
 -- What the turns of an exchange come to, by what stands ready of both texts.
 use Rattle.std.proofs.Common.{◌≡◌, ℕ, ◌+◌, Bool, true, false, cond, ◌||◌, List, [], ◌∷◌, ◌++◌, length, Option}
-use Rattle.std.proofs.Common.{Some, None, is_some, Ok, refl, ap, sym, ◌∙◌, subst}
+use Rattle.std.proofs.Common.{Some, None, is_some, Result, Ok, Err, MatchResult, refl, ap, sym, ◌∙◌, subst}
 use Rattle.smt_script.specs.StackView.{profile_of, start_of}
 use Rattle.smt_trees.specs.Sexp.{Sexp, Sexps, Nil, Cons, append}
 use Rattle.smt_trees.specs.Tree.{sexp_of}
 use Rattle.smt_trees.specs.declared.tree.Tree.{Tree}
 use Rattle.smt_faults.specs.declared.text_flaw.TextFlaw.{TextFlaw}
+use Rattle.smt_faults.specs.declared.command_flaw.CommandFlaw.{CommandFlaw}
 use Rattle.smt_faults.specs.declared.command_flaw.CommandFlaw.TheVariants.{AfterExit}
 use Rattle.smt_script.specs.Command as commands
 use Rattle.smt_script.specs.Command.{command_of}
 use Rattle.smt_script.specs.CommandView.{command_view}
-use Rattle.smt_script.specs.declared.command.Command.{Command}
+use Rattle.smt_script.specs.declared.command.Command as code
 use Rattle.smt_dialogue.proofs.PairLemmas.{AllTake-append, AreFaultless-append, answers_then-append}
 use Rattle.smt_dialogue.proofs.StepLemmas.{AreCommands-push, turn_by}
 use Rattle.std.proofs.lemmas.List.{append-nil}
@@ -72,7 +73,8 @@ looked old new texts pairs later rest dialogue command script answers h = record
   answers_front = answers rest h.answers_front;
   early = h.early;
   stands = subst (λ d. Fits h.early (state_behind texts.taken d) pairs) (sym dialogue) h.stands;
-  closing = λ e. subst (λ c. IsClosing c texts later) (sym command) (h.closing e);
+  closing = λ e. subst (λ d. IsClosing (profile_of d.stack) new.command texts later) (sym dialogue)
+      (subst (λ c. IsClosing (profile_of old.dialogue.stack) c texts later) (sym command) (h.closing e));
   paired = subst (λ d. ArePaired (start_of d.stack) texts.script texts.answers pairs later rest)
       (sym dialogue) h.paired;
 }
@@ -155,11 +157,11 @@ answers_end x texts pairs later rest next none fault told ahead =
 
 -- the command that was read is in turn
 pub command_read : (old new : Pairing) (texts : Texts) (pairs : List Pair) (later rest : Sexps) (t : Tree)
-    (c : Command) → old.command ≡ None → new.command ≡ Some c → new.dialogue ≡ old.dialogue
+    (c : commands.Command) → old.command ≡ None → new.command ≡ Some t → new.dialogue ≡ old.dialogue
     → new.answers ≡ old.answers → old.script.next ≡ Some t
     → ((bytes : List ℕ) (text : TextSoFar) (left : Sexps)
     → HasQueue old.script bytes text (Cons (sexp_of t) left) → HasQueue new.script bytes text left)
-    → command_of (profile_of old.dialogue.stack) (sexp_of t) ≡ Ok (command_view c) → has_exited_after pairs ≡ false
+    → command_of (profile_of old.dialogue.stack) (sexp_of t) ≡ Ok c → has_exited_after pairs ≡ false
     → IsUnderWay old texts pairs later rest
     → IsUnderWay new texts pairs later rest × (is_some new.command ≡ true)
 command_read old new texts pairs later rest t c none some dialogue answers ready taken' read goes_on h =
@@ -171,9 +173,9 @@ command_read old new texts pairs later rest t c none some dialogue answers ready
       record {
         left = behind;
         in_turn = subst (λ o. IsInTurn (profile_of new.dialogue.stack) o pairs later behind) (sym some) (
-          sexp_of t,
+          c,
           left ∙ first,
-          subst (λ d. command_of (profile_of d.stack) (sexp_of t) ≡ Ok (command_view c)) (sym dialogue) read,
+          subst (λ d. command_of (profile_of d.stack) (sexp_of t) ≡ Ok c) (sym dialogue) read,
           goes_on,
         );
         script_front = taken' texts.script_bytes texts.script behind
@@ -183,7 +185,7 @@ command_read old new texts pairs later rest t c none some dialogue answers ready
         early = h.early;
         stands = subst (λ d. Fits h.early (state_behind texts.taken d) pairs) (sym dialogue) h.stands;
         closing = λ e. absurd (let empty : Cons (sexp_of t) behind ≡ Nil =
-            sym (left ∙ first) ∙ (subst (λ o. IsClosing o texts later) none (h.closing e)).0 in cc);
+            sym (left ∙ first) ∙ (subst (λ o. IsClosing (profile_of old.dialogue.stack) o texts later) none (h.closing e)).0 in cc);
         paired =
             subst (λ d. ArePaired (start_of d.stack) texts.script texts.answers pairs later rest)
             (sym dialogue) h.paired;
@@ -213,55 +215,59 @@ paired_push start script answers pairs tree c o left rest after read goes_on nex
     }
 
 -- the turn of the command in turn is what it takes
-command_turn : (x : Pairing) (texts : Texts) (pairs : List Pair) (later rest : Sexps) (c : Command) (left : Sexps)
-    → IsInTurn (profile_of x.dialogue.stack) (Some c) pairs later left
+command_turn : (x : Pairing) (texts : Texts) (pairs : List Pair) (later rest : Sexps) (t : Sexp)
+    (c : commands.Command) (left : Sexps) → later ≡ Cons t left
+    → command_of (profile_of x.dialogue.stack) t ≡ Ok c → has_exited_after pairs ≡ false
     → turn_of x texts pairs later rest
-    ≡ turn_of_taken (profile_of x.dialogue.stack) pairs (command_view c) texts.answers.fault
-    (taken_for (start_of x.dialogue.stack) pairs (command_view c) texts.answers rest)
-command_turn x texts pairs later rest c left h =
+    ≡ turn_of_taken (profile_of x.dialogue.stack) pairs c texts.answers.fault
+    (taken_for (start_of x.dialogue.stack) pairs c texts.answers rest)
+command_turn x texts pairs later rest t c left first read goes_on =
     let start = start_of x.dialogue.stack in
     let answers = record texts.answers { trees = rest } in
-    ap (turn_at start pairs answers texts.script.told texts.script.fault) h.1
+    ap (turn_at start pairs answers texts.script.told texts.script.fault) first
     ∙ ap (λ b. cond b (Ends (Some (lines.CommandFault (length pairs + 1) AfterExit)))
-    (turn_of_command start pairs (command_of (profile_of x.dialogue.stack) h.0) answers)) h.3
-    ∙ turn_by start pairs h.0 answers (command_view c)
-    (taken_for start pairs (command_view c) texts.answers rest) h.2 refl
+    (turn_of_command start pairs (command_of (profile_of x.dialogue.stack) t) answers)) goes_on
+    ∙ turn_by start pairs t answers c (taken_for start pairs c texts.answers rest) read refl
+
+same_command : (r : Result commands.Command CommandFlaw) (c d : commands.Command) → r ≡ Ok c → r ≡ Ok d → c ≡ d
+same_command r c d h k = cc
 
 pub taken_up : (turn : Turn) (old new : Pairing) (texts : Texts) (pairs : List Pair) (later rest : Sexps)
-    (c : Command) → old.command ≡ Some c → new.script ≡ old.script
+    (t : Tree) (c : commands.Command) → old.command ≡ Some t
+    → command_of (profile_of old.dialogue.stack) (sexp_of t) ≡ Ok c → new.script ≡ old.script
     → options_of new.dialogue ≡ options_of old.dialogue
-    → (turn ≡ turns.GoesOn → new.command ≡ None) → ((closed : Bool) → turn ≡ turns.Waits closed → new.command ≡ Some c)
+    → (turn ≡ turns.GoesOn → new.command ≡ None) → ((closed : Bool) → turn ≡ turns.Waits closed → new.command ≡ Some t)
     → ((early : Bool) → Fits early (state_behind texts.taken old.dialogue) pairs
-    → (early ≡ true → commands.is_check (command_view c) ≡ true)
-    → IsTakenUp turn early (start_of old.dialogue.stack) pairs (command_view c) texts.answers rest
+    → (early ≡ true → commands.is_check c ≡ true)
+    → IsTakenUp turn early (start_of old.dialogue.stack) pairs c texts.answers rest
     texts.answers_bytes new.answers (state_behind texts.taken new.dialogue))
     → IsUnderWay old texts pairs later rest → IsTurned turn old new texts pairs later rest
-taken_up turns.GoesOn old new texts pairs later rest c some script start gone stays ups h =
-    let up = ups h.early h.stands (λ e. subst (λ o. IsClosing o texts later) some (h.closing e)) in
+taken_up turns.GoesOn old new texts pairs later rest t c some read script start gone stays ups h =
+    let up = ups h.early h.stands (λ e. subst (λ o. IsClosing (profile_of old.dialogue.stack) o texts later) some (h.closing e) c read) in
     let turn = subst (λ o. IsInTurn (profile_of old.dialogue.stack) o pairs later h.left) some h.in_turn in
     let before = subst (λ l. ArePaired (start_of old.dialogue.stack) texts.script texts.answers pairs
     l rest) turn.1 h.paired in
-    let after = paired_push (start_of old.dialogue.stack) texts.script texts.answers pairs turn.0
-    (command_view c) up.answer h.left rest up.left turn.2 turn.3 up.next up.taken_so up.faultless before in (
-      pair_of (command_view c) up.answer,
+    let after = paired_push (start_of old.dialogue.stack) texts.script texts.answers pairs (sexp_of t)
+    c up.answer h.left rest up.left read turn.3 up.next up.taken_so up.faultless before in (
+      pair_of c up.answer,
       h.left,
       up.left,
       record {
         left = h.left;
         in_turn = subst (λ o. IsInTurn (profile_of new.dialogue.stack) o
-            (pairs ++ pair_of (command_view c) up.answer ∷ []) h.left h.left) (sym (gone refl)) refl;
+            (pairs ++ pair_of c up.answer ∷ []) h.left h.left) (sym (gone refl)) refl;
         script_front = subst (λ f. HasQueue f texts.script_bytes texts.script h.left) (sym script) h.script_front;
         answers_front = up.front_is;
         early = false;
         stands = up.stands;
         closing = λ e. absurd (cc);
         paired = subst (λ (o : Options). ArePaired (start_by o) texts.script texts.answers
-            (pairs ++ pair_of (command_view c) up.answer ∷ []) h.left up.left) (sym start) after;
+            (pairs ++ pair_of c up.answer ∷ []) h.left up.left) (sym start) after;
       },
       start,
     )
-taken_up (turns.Waits closed) old new texts pairs later rest c some script start gone stays ups h =
-    let up = ups h.early h.stands (λ e. subst (λ o. IsClosing o texts later) some (h.closing e)) in
+taken_up (turns.Waits closed) old new texts pairs later rest t c some read script start gone stays ups h =
+    let up = ups h.early h.stands (λ e. subst (λ o. IsClosing (profile_of old.dialogue.stack) o texts later) some (h.closing e) c read) in
     let turn = subst (λ o. IsInTurn (profile_of old.dialogue.stack) o pairs later h.left) some h.in_turn in (
       record {
         left = h.left;
@@ -272,20 +278,37 @@ taken_up (turns.Waits closed) old new texts pairs later rest c some script start
         answers_front = up.1;
         early = h.early;
         stands = up.2;
-        closing = λ e. subst (λ o. IsClosing o texts later) (some ∙ sym (stays closed refl)) (h.closing e);
+        closing = λ e. subst (λ (o : Options). IsClosing o.profile new.command texts later) (sym start)
+            (subst (λ o. IsClosing (profile_of old.dialogue.stack) o texts later) (some ∙ sym (stays closed refl))
+            (h.closing e));
         paired = subst (λ (o : Options). ArePaired (start_by o) texts.script texts.answers pairs later rest)
             (sym start) h.paired;
       },
-      command_turn old texts pairs later rest c h.left turn ∙ up.0,
-      λ e. subst (λ o. IsClosing o texts later) (sym (stays closed refl))
-          (waits_check (profile_of old.dialogue.stack) pairs (command_view c) texts.answers.fault
-          (taken_for (start_of old.dialogue.stack) pairs (command_view c) texts.answers rest)
-          (up.0 ∙ ap Waits e)),
+      command_turn old texts pairs later rest (sexp_of t) c h.left turn.1 read turn.3 ∙ up.0,
+      λ e. subst (λ o. IsClosing (profile_of new.dialogue.stack) o texts later) (sym (stays closed refl)) (λ d again.
+          let same : c ≡ d = same_command (command_of (profile_of old.dialogue.stack) (sexp_of t)) c d read
+          (subst (λ (o : Options). command_of o.profile (sexp_of t) ≡ Ok d) start again) in
+          subst (λ k. commands.is_check k ≡ true) same
+          (waits_check (profile_of old.dialogue.stack) pairs c texts.answers.fault
+          (taken_for (start_of old.dialogue.stack) pairs c texts.answers rest) (up.0 ∙ ap Waits e))),
     )
-taken_up (turns.Ends fault) old new texts pairs later rest c some script start gone stays ups h =
-    let up = ups h.early h.stands (λ e. subst (λ o. IsClosing o texts later) some (h.closing e)) in
+taken_up (turns.Ends fault) old new texts pairs later rest t c some read script start gone stays ups h =
+    let up = ups h.early h.stands (λ e. subst (λ o. IsClosing (profile_of old.dialogue.stack) o texts later) some (h.closing e) c read) in
     let turn = subst (λ o. IsInTurn (profile_of old.dialogue.stack) o pairs later h.left) some h.in_turn in
-    (h.early, up.1, command_turn old texts pairs later rest c h.left turn ∙ up.0)
+    (h.early, up.1, command_turn old texts pairs later rest (sexp_of t) c h.left turn.1 read turn.3 ∙ up.0)
+
+-- the command that a tree was read as is the command of the tree
+pub read_again : (profile own : Profile) (t u : Sexp) (r : Result commands.Command CommandFlaw) → own ≡ profile → u ≡ t
+    → command_of own u ≡ r → command_of profile t ≡ r
+read_again profile own t u r p q h = ap (λ x. command_of x t) (sym p) ∙ ap (command_of own) (sym q) ∙ h
+
+-- a tree that is a command is read
+pub unread : (r : Result code.Command CommandFlaw) (profile : Profile) (t : Sexp) (c : commands.Command)
+    → ((x : code.Command) → r ≡ Ok x → ⊥)
+    → MatchResult r (λ k. command_of profile t ≡ Ok (command_view k)) (λ flaw. command_of profile t ≡ Err flaw)
+    → command_of profile t ≡ Ok c → ⊥
+unread (Ok x) profile t c none h read = none x refl
+unread (Err flaw) profile t c none h read = absurd (let e = sym read ∙ h in cc)
 
 -- ---- one turn behind another
 
@@ -317,7 +340,7 @@ pub is_ready : (next : Option Tree) (texts : TextSoFar) (rest : Sexps) → IsAhe
     → is_some next ≡ true
 is_ready next texts rest h = ap is_some h.2
 
-pub no_command : (o : Option Command) → false ≡ is_some o → o ≡ None
+pub no_command : (o : Option Tree) → false ≡ is_some o → o ≡ None
 no_command None h = refl
 no_command (Some c) h = absurd (cc)
 
@@ -335,9 +358,10 @@ next_behind (Some turn) old middle new texts pairs later rest same h =
 
 -- behind the end of the script no command comes
 pub none_closing : (x : Pairing) (texts : Texts) (later : Sexps) → x.command ≡ None → later ≡ Nil
-    → texts.script.fault ≡ None → texts.script.told ≡ true → IsClosing x.command texts later
+    → texts.script.fault ≡ None → texts.script.told ≡ true
+    → IsClosing (profile_of x.dialogue.stack) x.command texts later
 none_closing x texts later is none fault told =
-    subst (λ o. IsClosing o texts later) (sym is) (none, fault, told)
+    subst (λ o. IsClosing (profile_of x.dialogue.stack) o texts later) (sym is) (none, fault, told)
 
 -- behind the end of the script every window is closed
 rest_waits : (pairs : List Pair) (told : Bool) (af : Option TextFlaw) (answers : Sexps) (closed : Bool)
@@ -358,16 +382,18 @@ taken_waits_so profile pairs c af answering.Missing closed h = absurd (cc)
 taken_waits_so profile pairs c af answering.Unexpected closed h = absurd (cc)
 
 -- where windows were ended early, the dialogue waits with every window closed
-early_by : (x : Pairing) (texts : Texts) (pairs : List Pair) (later rest left : Sexps) (o : Option Command)
-    (closed : Bool) → IsInTurn (profile_of x.dialogue.stack) o pairs later left → IsClosing o texts later
+early_by : (x : Pairing) (texts : Texts) (pairs : List Pair) (later rest left : Sexps) (o : Option Tree)
+    (closed : Bool) → IsInTurn (profile_of x.dialogue.stack) o pairs later left
+    → IsClosing (profile_of x.dialogue.stack) o texts later
     → turn_of x texts pairs later rest ≡ Waits closed → closed ≡ true
 early_by x texts pairs later rest left None closed turn h is =
     rest_waits pairs texts.answers.told texts.answers.fault rest closed
     (sym (rest_here x texts pairs later rest h.0 h.1 h.2) ∙ is)
-early_by x texts pairs later rest left (Some c) closed turn h is =
-    sym (taken_waits_so (profile_of x.dialogue.stack) pairs (command_view c) texts.answers.fault
-    (taken_for (start_of x.dialogue.stack) pairs (command_view c) texts.answers rest) closed
-    (sym (command_turn x texts pairs later rest c left turn) ∙ is)) ∙ h
+early_by x texts pairs later rest left (Some t) closed turn h is =
+    sym (taken_waits_so (profile_of x.dialogue.stack) pairs turn.0 texts.answers.fault
+    (taken_for (start_of x.dialogue.stack) pairs turn.0 texts.answers rest) closed
+    (sym (command_turn x texts pairs later rest (sexp_of t) turn.0 left turn.1 turn.2 turn.3) ∙ is))
+    ∙ h turn.0 turn.2
 
 pub early_closed : (x : Pairing) (texts : Texts) (pairs : List Pair) (later rest : Sexps) (closed : Bool)
     → (h : IsUnderWay x texts pairs later rest) → turn_of x texts pairs later rest ≡ Waits closed
@@ -398,10 +424,10 @@ begun x texts none stands script answers = record {
 
 -- ---- lines that are handed out
 
-closing_kept : (o : Option Command) (texts : Texts) (ls : List Line) (later : Sexps) → IsClosing o texts later
-    → IsClosing o (record texts { taken = ls }) later
-closing_kept None texts ls later h = h
-closing_kept (Some c) texts ls later h = h
+closing_kept : (profile : Profile) (o : Option Tree) (texts : Texts) (ls : List Line) (later : Sexps)
+    → IsClosing profile o texts later → IsClosing profile o (record texts { taken = ls }) later
+closing_kept profile None texts ls later h = h
+closing_kept profile (Some t) texts ls later h = h
 
 state_same : (d e : AcceptedPairs) (xs ys : List Line)
     → xs ++ d.decided.lines.items ≡ ys ++ e.decided.lines.items → d.decided.tally ≡ e.decided.tally
@@ -432,8 +458,9 @@ handed_out x y texts ls pairs later rest out none tally stack checks commands' a
       answers_front = subst (λ f. HasQueue f texts.answers_bytes texts.answers rest) (sym answers) h.answers_front;
       early = h.early;
       stands = subst (λ s. Fits h.early s pairs) same h.stands;
-      closing = λ e. closing_kept y.command texts (texts.taken ++ ls) later
-          (subst (λ o. IsClosing o texts later) (sym command) (h.closing e));
+      closing = λ e. closing_kept (profile_of y.dialogue.stack) y.command texts (texts.taken ++ ls) later
+          (subst (λ k. IsClosing (profile_of k) y.command texts later) (sym stack)
+          (subst (λ o. IsClosing (profile_of x.dialogue.stack) o texts later) (sym command) (h.closing e)));
       paired = subst (λ k. ArePaired (start_of k) texts.script texts.answers pairs later rest)
           (sym stack) h.paired;
     }

@@ -66,7 +66,7 @@ impl AcceptedPairs {
     /// dialogue stays as it is. The trees of an answer that is a model may be gone after the call.
     pub(crate) fn accept(
         &mut self,
-        command: &Command,
+        command: &Command<'_>,
         kind: Kind,
         answer: &mut Option<TakenAnswer>,
     ) -> Result<(), CommandFault>
@@ -189,7 +189,7 @@ fn apply_if(
     answer: &Option<TakenAnswer>,
     stack: &mut Stack,
     number: u64,
-    command: &Command,
+    command: &Command<'_>,
 ) -> Result<(), CommandFault>
     requires last { last_of stack.old < number }
     requires known { AreKnown answer.now }

@@ -24,7 +24,7 @@ use smt_faults::TermFlaw;
 use smt_report::Claim;
 use smt_script::Stack;
 use smt_terms::Library;
-use smt_trees::Trees;
+use smt_trees::{Trees, view};
 use smt_values::Value;
 use std::mem;
 
@@ -62,7 +62,7 @@ pub(crate) fn judge(
         (claims_in_force (profile_of stack.now) commands) model.old) }
 {
     let library = stack.library();
-    let read = Interpretation::read(library, model);
+    let read = Interpretation::read(library, view::Trees::of(model.as_slice()));
     // (frees the trees of the model before its evaluation)
     *model = Trees::new(Vec::new(library.alloc()));
     match read {

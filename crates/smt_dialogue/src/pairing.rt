@@ -19,8 +19,10 @@ use crate::tree_queue::{Ahead, TreeQueue};
 use crate::turn::{Turn, refused, take_up, text_fault};
 use smt_eval::Memory;
 use smt_report::{Line, Side, Verdict};
-use smt_script::{Command, CommandFlaw, read_command};
+use smt_script::{CommandFlaw, read_command};
 use smt_text::laws::{every_text_reads, read_trees_stay, trees_are_no_more_than_bytes};
+use smt_trees::Tree;
+use smt_trees::view::view_of;
 use std::alloc::Global;
 
 // A law: no more trees are read from a text than it has bytes, whether its end was reported or not.
@@ -47,8 +49,8 @@ pub struct Pairing {
     pub dialogue: AcceptedPairs,
     pub script: TreeQueue,
     pub answers: TreeQueue,
-    /// The command in turn, if one was read and waits for its answer.
-    pub command: Option<Command>,
+    /// The tree in turn, if there is one: a command that waits for its answer.
+    pub command: Option<Tree>,
 }
 
 impl Pairing {
@@ -175,10 +177,13 @@ impl Pairing {
         if let Some(instead) = self.next_command()? {
             return Ok(instead);
         }
-        let Some(command) = &self.command else {
+        let Some(tree) = &self.command else {
             unreachable!()
         };
-        let turn = take_up(&mut self.dialogue, command, &mut self.answers)?;
+        let Ok(command) = read_command(self.dialogue.stack.profile(), view_of(tree)) else {
+            unreachable!()
+        };
+        let turn = take_up(&mut self.dialogue, &command, &mut self.answers)?;
         if let Turn::GoesOn = turn {
             self.command = None;
         }
@@ -227,8 +232,8 @@ impl Pairing {
         }
     }
 
-    // Reads the ready tree as the command in turn. Where the command is refused, returns the turn that ends the
-    // dialogue.
+    // Takes the ready tree as the one in turn, if it is a command. Where the command is refused, returns the turn that
+    // ends the dialogue.
     fn read_next(&mut self) -> Option<Turn>
         requires none { self.old.command ≡ None }
         requires ready { is_some self.old.script.next ≡ true }
@@ -244,9 +249,9 @@ impl Pairing {
         let Some(tree) = self.script.take() else {
             unreachable!()
         };
-        match read_command(self.dialogue.stack.profile(), tree) {
-            Ok(command) => {
-                self.command = Some(command);
+        match read_command(self.dialogue.stack.profile(), view_of(&tree)) {
+            Ok(_) => {
+                self.command = Some(tree);
                 None
             }
             Err(flaw) => Some(Turn::Ends(Some(refused(number, flaw)))),

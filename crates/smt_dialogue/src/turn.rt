@@ -39,7 +39,7 @@ pub enum Turn {
 /// Accepts a command with the answer that it needs, or returns why it cannot.
 pub(crate) fn take_up(
     dialogue: &mut AcceptedPairs,
-    command: &Command,
+    command: &Command<'_>,
     answers: &mut TreeQueue,
 ) -> Result<Turn, Memory>
     requires commands { dialogue.old.commands + 1 < 2 ^ 64 }

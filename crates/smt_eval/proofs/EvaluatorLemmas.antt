@@ -6,11 +6,11 @@ use Rattle.std.proofs.Math.Seq.{take-length}
 use Rattle.std.proofs.lemmas.List.{map-append}
 use Rattle.std.specs.Prelude.{bytes_eq, ok_or, option_map, unwrap_or}
 use Rattle.smt_trees.specs.Sexp.{Sexp, Sexps, Atom, Reserved, Items, Nil, Cons, Symbol}
-use Rattle.smt_trees.specs.Tree.{sexp_of}
+use Rattle.smt_trees.specs.View.{sexp_of}
 use Rattle.smt_trees.specs.declared.reserved.Word.{Word}
 use Rattle.smt_trees.specs.declared.reserved.Word.TheVariants.{Let}
-use Rattle.smt_trees.specs.declared.tree.Tree.{Tree}
-use Rattle.smt_trees.specs.declared.tree.Tree.TheVariants as tree
+use Rattle.smt_trees.specs.declared.view.Tree.{Tree}
+use Rattle.smt_trees.specs.declared.view.Tree.TheVariants as tree
 use Rattle.smt_theory.specs.Index.{IndexView}
 use Rattle.smt_theory.specs.Operators.{op_by}
 use Rattle.smt_theory.specs.Words.{look_up}

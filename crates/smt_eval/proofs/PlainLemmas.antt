@@ -6,7 +6,7 @@ use Rattle.std.proofs.Math.Seq.{take-suc}
 use Rattle.std.proofs.lemmas.List.{map-append}
 use Rattle.std.specs.Prelude.{bytes_eq, ok_or, option_map}
 use Rattle.smt_trees.specs.Sexp.{Sexps, Atom, Cons, Symbol, weight}
-use Rattle.smt_trees.specs.Tree.{sexp_of}
+use Rattle.smt_trees.specs.View.{sexp_of}
 use Rattle.smt_values.specs.Element.{Element}
 use Rattle.smt_theory.specs.Index.{IndexView}
 use Rattle.smt_theory.specs.declared.theories.Theories.{Theories}
@@ -78,11 +78,11 @@ last_costs before all d x named is here =
 
 -- the last body and those before it
 pub weight-last : (before all : List Definition) (d : Definition) → all ≡ before ++ d ∷ []
-    → bodies_weight all ≡ bodies_weight before + weight (sexp_of d.body.now)
+    → bodies_weight all ≡ bodies_weight before + weight (sexp_of d.body)
 weight-last before all d is = ap bodies_weight is ∙ by before
   where
     by : (ds : List Definition)
-        → bodies_weight (ds ++ d ∷ []) ≡ bodies_weight ds + weight (sexp_of d.body.now)
+        → bodies_weight (ds ++ d ∷ []) ≡ bodies_weight ds + weight (sexp_of d.body)
     by [] = omega arith
     by (c ∷ ds) = let w = by ds in omega (arith, w)
 

@@ -1,11 +1,7 @@
 -- Models, one item at a time, and as a whole.
-use Rattle.std.proofs.Common.{◌≡◌, inl, inr, ◌<◌, ◌≤◌, ℕ, zero, suc, ◌+◌, List, [], ◌∷◌, ◌++◌, drop}
-use Rattle.std.proofs.Common.{length, slice_index_or, Option, Result, Ok, Err, refl, ap, sym, ◌∙◌, arith}
-use Rattle.std.proofs.Common.{add-one}
-use Rattle.std.proofs.Math.Seq.{drop-cons}
-use Rattle.smt_trees.specs.Sexp.{Sexp, Sexps, Nil, Cons}
-use Rattle.smt_trees.specs.Tree.{sexp_of, sexps_of}
-use Rattle.smt_trees.specs.declared.tree.Tree.{Tree}
+use Rattle.std.proofs.Common.{◌≡◌, inl, inr, ℕ, ◌+◌, List, [], ◌∷◌, ◌++◌}
+use Rattle.std.proofs.Common.{Option, Result, Ok, Err, refl, ap, sym, ◌∙◌}
+use Rattle.smt_trees.specs.Sexp.{Sexp, Sexps, Cons}
 use Rattle.smt_theory.specs.Words.{result_and_then}
 use Rattle.smt_terms.specs.Items.{item_in, items_before, list_of}
 use Rattle.smt_terms.specs.Signature.{Entry, Signature}
@@ -19,13 +15,6 @@ use Rattle.smt_eval.specs.ModelFaults.{TellsModel}
 use Rattle.smt_eval.specs.declared.model_fault.ModelFault.{ModelFault}
 use Rattle.smt_eval.specs.declared.model_fault.ModelFlaw.{ModelFlaw}
 use Rattle.smt_eval.specs.declared.model_fault.ModelFlaw.TheVariants.{Item}
-
--- the item at a place comes first of those from there on
-pub items_at : (items : List Tree) (i : ℕ) (x : Tree) → i < length items → x ≡ slice_index_or items i x
-    → sexps_of (drop i items) ≡ Cons (sexp_of x) (sexps_of (drop (i + 1) items))
-items_at items i x h is = rw add-one
-    (ap sexps_of (drop-cons items i x h) ∙ ap (λ (y : Tree). Cons (sexp_of y) (sexps_of (drop (suc i) items)))
-    (sym is))
 
 -- an item that is taken
 pub item_taken : (s : Signature) (es : List Entry) (n : ℕ) (t : Sexp) (rest all : Sexps) (o : Option Entry)
@@ -54,12 +43,6 @@ item_refused s es n t rest all f split (inr is) =
     told_of_item n f (items_from s es n all)
     (ap (items_from s es n) split ∙ ap
     (λ (r : Result (Option Entry) TermFlaw). or_item n r (λ x. items_from s (es ++ list_of x) (n + 1) rest)) is)
-
-pub all_dropped : (items : List Tree) (i : ℕ) → length items ≤ i → sexps_of (drop i items) ≡ Nil
-all_dropped [] zero h = refl
-all_dropped [] (suc i) h = refl
-all_dropped (x ∷ items) zero h = absurd (omega (arith, h))
-all_dropped (x ∷ items) (suc i) h = all_dropped items i (omega (arith, h))
 
 -- ---- the whole
 

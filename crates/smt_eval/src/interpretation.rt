@@ -2,7 +2,7 @@
 
 ghost use Rattle.std.specs.Prelude.{◌≡◌, List, [], ◌∷◌, ◌++◌, None, Ok, MatchOption, MatchResult};
 ghost use Rattle.std.specs.Prelude.{IfOk, OnErr, OnOk, slice_get};
-ghost use Rattle.smt_trees.specs.Tree.{sexps_of};
+ghost use Rattle.smt_trees.specs.View.{sexps_of};
 ghost use Rattle.smt_terms.specs.Items.{items_before};
 ghost use Rattle.smt_terms.specs.Library.{StandsFor, held_terms_of};
 ghost use Rattle.smt_terms.specs.Signature.{Entry, Signature, declared_among, entry_named};
@@ -21,7 +21,7 @@ use smt_machine::costs;
 use smt_nodes::TermId;
 use smt_terms::laws::items_are_well_sorted;
 use smt_terms::{Found, Library, TermFault};
-use smt_trees::{Tree, Trees, split_first};
+use smt_trees::view::Trees;
 
 /// The definitions of a model, and for each name that the script declares the body that the model gives to
 /// it. Once it is counted, it also holds the cost of each node of the model and of the script.
@@ -38,12 +38,12 @@ impl Interpretation {
     /// The fault is that of the first item that has one; else that the model lacks a declared name, the first
     /// one; or want of memory. The library stands for a signature, as every library does that `Library::new`
     /// and the calls after it made.
-    pub fn read(declared: &Library, model: &Trees) -> Result<Interpretation, ModelFault>
+    pub fn read(declared: &Library, model: Trees<'_>) -> Result<Interpretation, ModelFault>
         requires { (s : Signature) × StandsFor declared.now s }
         ensures model { (s : Signature) → StandsFor declared.now s
-            → MatchResult result (λ i. (d : Signature) × (model_in s model.now ≡ Ok d)
+            → MatchResult result (λ i. (d : Signature) × (model_in s (sexps_of model.entry) ≡ Ok d)
             × IsInterpretation i s d)
-            (TellsModel (model_in s model.now)) }
+            (TellsModel (model_in s (sexps_of model.entry))) }
         ensures costs { IfOk result (λ i. KeepsCosts i declared.now) }
     {
         // Laws: each item is a definition. The definitions have different names, and none has the name of a
@@ -51,7 +51,7 @@ impl Interpretation {
         items_are_well_sorted();
         models_are_complete();
         structures_are_distinct();
-        let definitions = read_items(declared, items(model.as_slice()))?;
+        let definitions = read_items(declared, items(model))?;
         match declared_bodies(declared, &definitions) {
             Ok(declared) => Ok(Interpretation {
                 costs: Vec::new(definitions.alloc()),
@@ -87,20 +87,22 @@ impl Interpretation {
 }
 
 // The library of the definitions that the items make, in order, or the first fault.
-fn read_items(declared: &Library, items: &[Tree]) -> Result<Library, ModelFault>
+fn read_items(declared: &Library, items: Trees<'_>) -> Result<Library, ModelFault>
     ensures { (s : Signature) → StandsFor declared.now s
-        → MatchResult result (λ library. (es : List Entry) × (items_from s [] 1 (sexps_of items.now) ≡ Ok es)
+        → MatchResult result (λ library. (es : List Entry) × (items_from s [] 1 (sexps_of items.entry) ≡ Ok es)
         × StandsFor library (items_before s es))
-        (TellsModel (items_from s [] 1 (sexps_of items.now))) }
+        (TellsModel (items_from s [] 1 (sexps_of items.entry))) }
 {
     let Ok(mut definitions) = declared.for_model() else {
         return Err(ModelFault::Memory);
     };
-    for (index, item) in items.iter().enumerate() {
+    let mut left = items;
+    while let Some((item, rest)) = left.split_first() {
         if let Err(fault) = definitions.define_item(declared, item) {
             drop(definitions);
-            return Err(item_fault(index as u64 + 1, fault));
+            return Err(item_fault((items.len() - rest.len()) as u64, fault));
         }
+        left = rest;
     }
     Ok(definitions)
 }
@@ -116,10 +118,10 @@ fn item_fault(number: u64, fault: TermFault) -> ModelFault
 }
 
 // The items of a model, without a leading symbol `model`.
-fn items(trees: &[Tree]) -> &[Tree]
-    ensures { sexps_of result.now ≡ items_of (sexps_of trees.now) }
+fn items(trees: Trees<'_>) -> Trees<'_>
+    ensures { sexps_of result ≡ items_of (sexps_of trees.entry) }
 {
-    match split_first(trees) {
+    match trees.split_first() {
         Some((first, rest)) if first.is_symbol(b"model") => rest,
         _ => trees,
     }

@@ -4,7 +4,7 @@ pub mod terms;
 
 ghost use Rattle.std.specs.Prelude.{◌≡◌, ◌≤◌, ◌↔◌, ℕ, ◌+◌, ◌*◌, ◌^◌, List, [], ◌∷◌, Ok, Err, Option, length};
 ghost use Rattle.smt_trees.specs.Sexp.{Cons, Sexp, Sexps, append};
-ghost use Rattle.smt_trees.specs.Tree.{sexp_of};
+ghost use Rattle.smt_trees.specs.View.{sexp_of};
 ghost use Rattle.smt_theory.specs.declared.sort.Sort.{Sort};
 ghost use Rattle.smt_theory.specs.declared.theories.Theories.{Theories};
 ghost use Rattle.smt_values.specs.Element.{Agrees, Element, IsOfSort};
@@ -122,7 +122,7 @@ pub fn plain_trees_stand_for_themselves()
     ensures { (closed : plain.Closed) (structure : Signature) (term : Sexp)
         → ⟦<plain::Closed<'static> as Checked>⟧.IsTerm closed structure term
         ↔ ((structure.theories ≡ closed.theories) × (structure.entries ≡ entries_of closed.definitions.now)
-        × (term ≡ sexp_of closed.tree.now)) }
+        × (term ≡ sexp_of closed.tree)) }
 {}
 
 /// A model of the script's names is its items (SMT-LIB 2.6, section 4.2.6). Those that are not set aside are

@@ -24,7 +24,7 @@ use crate::plain::evaluator::known_value;
 use crate::plain::names::Definitions;
 use smt_faults::Memory;
 use smt_theory::{Sort, Theories};
-use smt_trees::Tree;
+use smt_trees::view::Tree;
 use smt_values::Value;
 use std::alloc::Global;
 
@@ -38,7 +38,7 @@ pub struct Definition<'a> {
     /// The sort of its result.
     pub result: Sort,
     /// Its body, over the definitions before it and the parameters.
-    pub body: &'a Tree,
+    pub body: Tree<'a>,
 }
 
 /// A closed term over definitions, each of which sees those before it.
@@ -47,7 +47,7 @@ pub struct Closed<'a> {
     pub alloc: Global,
     pub theories: Theories,
     pub definitions: &'a [Definition<'a>],
-    pub tree: &'a Tree,
+    pub tree: Tree<'a>,
 }
 
 impl Closed<'_> {

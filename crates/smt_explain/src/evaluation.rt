@@ -2,9 +2,10 @@
 //! evaluates no term itself: the values are those of the plain evaluator.
 
 ghost use Rattle.std.specs.Prelude.{IfOk};
-ghost use Rattle.smt_trees.specs.Tree.{sexp_of};
+ghost use Rattle.smt_trees.specs.View.{sexp_of};
 ghost use Rattle.smt_explain.specs.Values.{IsKnownOver};
 
+use crate::copies::copy_of;
 use crate::names::{Costs, used_by};
 use crate::show::constant;
 use crate::world::World;
@@ -12,7 +13,9 @@ use smt_eval::plain::{Closed, Definition};
 use smt_faults::Memory;
 use smt_forms::Scope;
 use smt_theory::{Profile, all_theories};
-use smt_trees::{Bytes, Tree, Trees, Word};
+use smt_trees as owned;
+use smt_trees::view::{Tree, view_of};
+use smt_trees::{Bytes, Word};
 use smt_values::Value;
 use std::alloc::{AllocError, AllocFailed, Global};
 
@@ -23,8 +26,8 @@ const NAMES: u64 = 64;
 #[derive(Drop)]
 pub(crate) struct Bound<'a> {
     pub(crate) name: &'a [u8],
-    pub(crate) constant: Tree,
-    pub(crate) term: &'a Tree,
+    pub(crate) constant: owned::Tree,
+    pub(crate) term: Tree<'a>,
     /// The scope of the term, and the scope outside this variable. A scope is the number of its innermost variable,
     /// from 1; 0 is the empty scope.
     pub(crate) term_scope: usize,
@@ -93,9 +96,9 @@ impl<T: Drop> From<AllocFailed<T>> for Stopped {
 pub(crate) fn known(
     alloc: Global,
     definitions: &[Definition<'_>],
-    term: &Tree,
+    term: Tree<'_>,
 ) -> Result<Option<Value>, Memory>
-    ensures { IfOk result (λ v. IsKnownOver definitions.now (sexp_of term.now) v) }
+    ensures { IfOk result (λ v. IsKnownOver definitions.now (sexp_of term.entry) v) }
 {
     Closed {
         alloc,
@@ -112,7 +115,7 @@ pub(crate) fn known(
 pub(crate) fn value_of(
     over: &Over<'_, '_>,
     work: &mut Work,
-    term: &Tree,
+    term: Tree<'_>,
 ) -> Result<Option<Value>, Stopped> {
     let (used, cost) = used_by(over.alloc, over.world, over.index, &mut work.costs, term)?;
     let names = cost.width.saturating_add(used.len() as u64);
@@ -150,16 +153,21 @@ pub(crate) fn value_in(
     work: &mut Work,
     bounds: &[Bound<'_>],
     scope: usize,
-    term: &Tree,
+    term: Tree<'_>,
 ) -> Result<Option<Value>, Stopped> {
     if scope == 0 {
         return value_of(over, work, term);
     }
     let closed = close(over.alloc, bounds, scope, term)?;
-    value_of(over, work, &closed)
+    value_of(over, work, view_of(&closed))
 }
 
-fn close(alloc: Global, bounds: &[Bound<'_>], scope: usize, term: &Tree) -> Result<Tree, Memory> {
+fn close(
+    alloc: Global,
+    bounds: &[Bound<'_>],
+    scope: usize,
+    term: Tree<'_>,
+) -> Result<owned::Tree, Memory> {
     let mut bindings = Vec::new(alloc);
     let mut scope = scope;
     for _ in 0..bounds.len() {
@@ -170,17 +178,17 @@ fn close(alloc: Global, bounds: &[Bound<'_>], scope: usize, term: &Tree) -> Resu
         scope = bound.outer;
     }
     let mut parts = Vec::with_capacity(alloc, 3)?;
-    parts.push(Tree::Reserved(Word::Let))?;
-    parts.push(Tree::List(Trees::new(bindings)))?;
-    parts.push(term.copy(alloc)?)?;
-    Ok(Tree::List(Trees::new(parts)))
+    parts.push(owned::Tree::Reserved(Word::Let))?;
+    parts.push(owned::Tree::List(owned::Trees::new(bindings)))?;
+    parts.push(copy_of(alloc, term)?)?;
+    Ok(owned::Tree::List(owned::Trees::new(parts)))
 }
 
-fn binding(alloc: Global, name: &[u8], value: &Tree) -> Result<Tree, Memory> {
+fn binding(alloc: Global, name: &[u8], value: &owned::Tree) -> Result<owned::Tree, Memory> {
     let mut parts = Vec::with_capacity(alloc, 2)?;
-    parts.push(Tree::Symbol(Bytes::new(alloc, name)?))?;
+    parts.push(owned::Tree::Symbol(Bytes::new(alloc, name)?))?;
     parts.push(value.copy(alloc)?)?;
-    Ok(Tree::List(Trees::new(parts)))
+    Ok(owned::Tree::List(owned::Trees::new(parts)))
 }
 
 /// Adds a variable inside a scope, and returns the new scope.
@@ -189,7 +197,7 @@ pub(crate) fn bind<'a>(
     bounds: &mut Vec<Bound<'a>>,
     name: &'a [u8],
     value: Option<Value>,
-    term: &'a Tree,
+    term: Tree<'a>,
     term_scope: usize,
     outer: usize,
 ) -> Result<usize, Memory> {

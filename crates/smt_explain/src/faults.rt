@@ -13,12 +13,12 @@ use crate::told::{
 use crate::unknown::{
     Brought, brought_by, is_operator, unknown_in_command, unknown_in_form, without_bars,
 };
-use crate::walk::all_in;
+use crate::walk::{all_in, two_of};
 use crate::world::{places_in, tree_of};
 use smt_faults::{CommandFlaw, Memory, TermFlaw, TextFlaw};
 use smt_forms::{Scope, item_form};
 use smt_report::{Line, Side};
-use smt_trees::Tree;
+use smt_trees::view::{Tree, Trees, view_of};
 use std::alloc::Global;
 
 // ---- texts
@@ -174,7 +174,7 @@ fn tell_term(
             let known = brought_before(page.alloc, dialogue, place)?;
             tell_unknown(
                 page,
-                unknown_in_command(page.alloc, &known, head_of(text), &tree)?,
+                unknown_in_command(page.alloc, &known, head_of(text), view_of(&tree))?,
             )
         }
         TermFlaw::NotFresh => match head_of(text) {
@@ -182,8 +182,8 @@ fn tell_term(
             Head::DefineSort => tell_sort_in_use(page, dialogue, place, word(text, 1)),
             _ => tell_earlier(page, dialogue, place, word(text, 1)),
         },
-        TermFlaw::BoundTwice => tell_bound_twice(page, &tree),
-        TermFlaw::IllSorted => tell_sorts_in_command(page, dialogue, place, &tree),
+        TermFlaw::BoundTwice => tell_bound_twice(page, view_of(&tree)),
+        TermFlaw::IllSorted => tell_sorts_in_command(page, dialogue, place, view_of(&tree)),
         _ => Ok(()),
     }
 }
@@ -298,11 +298,11 @@ fn tell_bringer(
 }
 
 // Writes the first name that the bindings of one `let`, or the parameters of one definition, bind twice.
-fn tell_bound_twice(page: &mut Page, tree: &Tree) -> Result<(), Memory> {
+fn tell_bound_twice(page: &mut Page, tree: Tree<'_>) -> Result<(), Memory> {
     let all = all_in(page.alloc, tree)?;
     for part in all.as_slice() {
         if let Tree::List(bindings) = *part
-            && let Some(name) = name_twice(page.alloc, bindings.as_slice())?
+            && let Some(name) = name_twice(page.alloc, bindings)?
         {
             page.put(b"  bound twice: ")?;
             page.put(name)?;
@@ -313,9 +313,13 @@ fn tell_bound_twice(page: &mut Page, tree: &Tree) -> Result<(), Memory> {
 }
 
 // The first name that occurs twice in a list of pairs of a name and a tree.
-fn name_twice(alloc: Global, bindings: &[Tree]) -> Result<Option<&[u8]>, Memory> {
+fn name_twice(alloc: Global, bindings: Trees<'_>) -> Result<Option<&[u8]>, Memory> {
     let mut names = Scope::new(alloc);
-    for binding in bindings {
+    let mut left = bindings;
+    for _ in 0..bindings.len() {
+        let Some((binding, rest)) = left.split_first() else {
+            break;
+        };
         let Some(name) = bound_name(binding) else {
             return Ok(None);
         };
@@ -323,14 +327,15 @@ fn name_twice(alloc: Global, bindings: &[Tree]) -> Result<Option<&[u8]>, Memory>
             return Ok(Some(name));
         }
         names.push(name, ())?;
+        left = rest;
     }
     Ok(None)
 }
 
-fn bound_name(binding: &Tree) -> Option<&[u8]> {
+fn bound_name(binding: Tree<'_>) -> Option<&[u8]> {
     match binding {
-        Tree::List(parts) => match parts.as_slice() {
-            [Tree::Symbol(name), _] => Some(name.as_slice()),
+        Tree::List(parts) => match two_of(parts) {
+            Some((Tree::Symbol(name), _)) => Some(name),
             _ => None,
         },
         _ => None,
@@ -374,7 +379,7 @@ pub(crate) fn tell_item_fault(
         TermFlaw::BoundTwice => {
             tell_same_item(page, dialogue, spans, place, name)?;
             match tree_of(page.alloc, text)? {
-                Some(tree) => tell_bound_twice(page, &tree),
+                Some(tree) => tell_bound_twice(page, view_of(&tree)),
                 None => Ok(()),
             }
         }
@@ -482,7 +487,7 @@ fn tell_unknown_in_item(
     let Some(tree) = tree_of(alloc, text_at(answers, *span))? else {
         return Ok(());
     };
-    let Ok(form) = item_form(&tree) else {
+    let Ok(form) = item_form(view_of(&tree)) else {
         return Ok(());
     };
     let mut known = brought_before(alloc, dialogue, check)?;

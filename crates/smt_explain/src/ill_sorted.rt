@@ -6,12 +6,14 @@ use crate::page::Page;
 use crate::scan::{Span, text_at};
 use crate::sorts::{Sorter, push_variable, tell_counts, tell_difference, tell_term_of_sort};
 use crate::told::Dialogue;
+use crate::walk::two_of;
 use crate::world::{form_of, tree_of};
 use smt_faults::Memory;
 use smt_forms::{ItemForm, item_form, split_named};
 use smt_terms::{Found, Library, TermFault};
 use smt_theory::Sort;
-use smt_trees::{Tree, Word};
+use smt_trees::Word;
+use smt_trees::view::{Tree, Trees, view_of};
 use std::alloc::Global;
 
 // ---- commands
@@ -21,7 +23,7 @@ pub(crate) fn tell_sorts_in_command(
     page: &mut Page,
     dialogue: &Dialogue<'_>,
     place: usize,
-    tree: &Tree,
+    tree: Tree<'_>,
 ) -> Result<(), Memory> {
     match library_before(page.alloc, dialogue, place, Held::All)? {
         Some(library) => {
@@ -35,18 +37,18 @@ pub(crate) fn tell_sorts_in_command(
 fn tell_sorts_of_command<'a>(
     page: &mut Page,
     sorter: &mut Sorter<'a>,
-    tree: &'a Tree,
+    tree: Tree<'a>,
 ) -> Result<(), Memory> {
     let Tree::List(parts) = tree else {
         return Ok(());
     };
-    match parts.as_slice() {
-        [Tree::Reserved(Word::Assert), term] => {
+    match two_of(parts) {
+        Some((Tree::Reserved(Word::Assert), term)) => {
             tell_term_of_sort(page, sorter, b"its term", term, Sort::Bool)?;
             Ok(())
         }
-        [Tree::Reserved(Word::CheckSatAssuming), Tree::List(literals)] => {
-            tell_literals(page, sorter, literals.as_slice())
+        Some((Tree::Reserved(Word::CheckSatAssuming), Tree::List(literals))) => {
+            tell_literals(page, sorter, literals)
         }
         _ => tell_definition(page, sorter, tree),
     }
@@ -66,12 +68,17 @@ fn library_before(
 fn tell_literals<'a>(
     page: &mut Page,
     sorter: &mut Sorter<'a>,
-    literals: &'a [Tree],
+    literals: Trees<'a>,
 ) -> Result<(), Memory> {
-    for literal in literals {
+    let mut left = literals;
+    for _ in 0..literals.len() {
+        let Some((literal, rest)) = left.split_first() else {
+            break;
+        };
         if tell_term_of_sort(page, sorter, b"a literal", literal, Sort::Bool)? {
             return Ok(());
         }
+        left = rest;
     }
     Ok(())
 }
@@ -79,7 +86,7 @@ fn tell_literals<'a>(
 fn tell_definition<'a>(
     page: &mut Page,
     sorter: &mut Sorter<'a>,
-    tree: &'a Tree,
+    tree: Tree<'a>,
 ) -> Result<(), Memory> {
     let Some(form) = form_of(tree) else {
         return Ok(());
@@ -97,7 +104,7 @@ fn tell_body<'a>(
     page: &mut Page,
     sorter: &mut Sorter<'a>,
     params: &[(&'a [u8], Sort)],
-    body: &'a Tree,
+    body: Tree<'a>,
     wanted: Sort,
 ) -> Result<(), Memory> {
     for (name, sort) in params {
@@ -111,7 +118,7 @@ fn tell_body<'a>(
 fn sorts_of_params<'a>(
     alloc: Global,
     library: &mut Library,
-    params: &'a [Tree],
+    params: Trees<'a>,
 ) -> Result<Option<Vec<(&'a [u8], Sort)>>, Memory> {
     let mut sorted = Vec::new(alloc);
     let mut left = params;
@@ -149,7 +156,7 @@ pub(crate) fn tell_sorts_in_item(
         return Ok(());
     };
     match tree_of(page.alloc, text_at(dialogue.texts.answers, *span))? {
-        Some(tree) => tell_sorts_in_tree(page, dialogue, item, &tree),
+        Some(tree) => tell_sorts_in_tree(page, dialogue, item, view_of(&tree)),
         None => Ok(()),
     }
 }
@@ -158,7 +165,7 @@ fn tell_sorts_in_tree(
     page: &mut Page,
     dialogue: &Dialogue<'_>,
     item: &ItemAt<'_>,
-    tree: &Tree,
+    tree: Tree<'_>,
 ) -> Result<(), Memory> {
     let Ok(form) = item_form(tree) else {
         return Ok(());
@@ -196,7 +203,7 @@ fn tell_sorts_in_body<'a>(
     dialogue: &Dialogue<'_>,
     item: &ItemAt<'_>,
     params: &[(&'a [u8], Sort)],
-    body: &'a Tree,
+    body: Tree<'a>,
     sort: Sort,
 ) -> Result<(), Memory> {
     match library_before(page.alloc, dialogue, item.check, Held::Sorts)? {
@@ -273,7 +280,7 @@ fn add_items(
 
 fn add_item(alloc: Global, model: &mut Library, text: &[u8]) -> Result<bool, Memory> {
     match tree_of(alloc, text)? {
-        Some(tree) => match item_form(&tree) {
+        Some(tree) => match item_form(view_of(&tree)) {
             Ok(form) => was_added(add_form(alloc, model, &form)),
             Err(_) => Ok(false),
         },

@@ -16,6 +16,7 @@
 //! ```
 #![tactic(auto)]
 
+mod copies;
 mod evaluation;
 mod faults;
 mod force;

@@ -2,7 +2,7 @@
 //! finds no fault itself: the sorts are those of the checker.
 
 ghost use Rattle.std.specs.Prelude.{◌≡◌, [], IfOk};
-ghost use Rattle.smt_trees.specs.Tree.{sexp_of};
+ghost use Rattle.smt_trees.specs.View.{sexp_of};
 ghost use Rattle.smt_terms.specs.Checking.{sort_in};
 ghost use Rattle.smt_terms.specs.Contents.{contents_of};
 ghost use Rattle.smt_terms.specs.Library.{StandsFor};
@@ -12,18 +12,19 @@ ghost use Rattle.smt_explain.specs.Sorts.{IsSortFound};
 use crate::force::{Commands, Stand, has_label};
 use crate::pairs::{Head, word};
 use crate::scan::text_at;
+use crate::walk::{four_of, three_of, two_of};
 use crate::world::{form_of, tree_of};
 use smt_faults::Memory;
 use smt_forms::{ItemForm, Param, split_named};
 use smt_terms::{Library, TermFault};
 use smt_theory::{Sort, Theories, all_theories, theories_of};
-use smt_trees::Tree;
+use smt_trees::view::{Tree, Trees, view_of};
 use std::alloc::Global;
 
 /// The sort of a term over the names of a library; `None` where it has a fault.
-pub(crate) fn sort_over(library: &mut Library, term: &Tree) -> Result<Option<Sort>, Memory>
+pub(crate) fn sort_over(library: &mut Library, term: Tree<'_>) -> Result<Option<Sort>, Memory>
     ensures sort { IfOk result (λ sort. (s : Signature) → StandsFor library.old s
-        → IsSortFound (sort_in (names_of s) [] (sexp_of term.now)) sort) }
+        → IsSortFound (sort_in (names_of s) [] (sexp_of term.entry)) sort) }
     ensures held { contents_of library.new ≡ contents_of library.old }
 {
     let checked = library.check_transient(term);
@@ -37,10 +38,10 @@ pub(crate) fn sort_over(library: &mut Library, term: &Tree) -> Result<Option<Sor
 }
 
 /// The sort that a tree names over the abbreviations of a library; `None` where it names none.
-pub(crate) fn sort_named(library: &mut Library, tree: &Tree) -> Result<Option<Sort>, Memory> {
+pub(crate) fn sort_named(library: &mut Library, tree: Tree<'_>) -> Result<Option<Sort>, Memory> {
     let mark = library.mark();
     // (No symbol of a script contains a bar, so this name is free.)
-    let declared = library.declare(1, b"|", &[], tree);
+    let declared = library.declare(1, b"|", Trees::of(&[]), tree);
     let sort = match library.declared().last() {
         Some(last) => Some(last.result),
         None => None,
@@ -124,9 +125,9 @@ fn add_command(
         Ok(None) => return Ok(()),
         Err(Memory) => return Err(TermFault::Memory),
     };
-    match (head, form_of(&tree)) {
+    match (head, form_of(view_of(&tree))) {
         (Head::Define, Some(form)) => add_form(alloc, library, &form),
-        _ => add_parts(library, head, &tree),
+        _ => add_parts(library, head, view_of(&tree)),
     }
 }
 
@@ -155,24 +156,39 @@ fn push_param<'a>(params: &mut Vec<Param<'a>>, param: Param<'a>) -> Result<(), T
     }
 }
 
-fn add_parts(library: &mut Library, head: Head, command: &Tree) -> Result<(), TermFault> {
+fn add_parts(library: &mut Library, head: Head, command: Tree<'_>) -> Result<(), TermFault> {
     let Tree::List(parts) = command else {
         return Ok(());
     };
-    match (head, parts.as_slice()) {
-        (Head::Declare, [_, Tree::Symbol(name), sort]) => {
-            library.declare(1, name.as_slice(), &[], sort)
-        }
-        (Head::Declare, [_, Tree::Symbol(name), Tree::List(params), sort]) => {
-            library.declare(1, name.as_slice(), params.as_slice(), sort)
-        }
-        (Head::DefineSort, [_, Tree::Symbol(name), _, sort]) => {
-            library.abbreviate(name.as_slice(), sort)
-        }
-        (Head::Assert, [_, term]) => match library.assert(term) {
-            Ok(_) => Ok(()),
-            Err(fault) => Err(fault),
+    match head {
+        Head::Declare => add_declaration(library, parts),
+        Head::DefineSort => match four_of(parts) {
+            Some((_, Tree::Symbol(name), _, sort)) => library.abbreviate(name, sort),
+            _ => Ok(()),
+        },
+        Head::Assert => match two_of(parts) {
+            Some((_, term)) => add_assertion(library, term),
+            None => Ok(()),
         },
         _ => Ok(()),
+    }
+}
+
+fn add_declaration(library: &mut Library, parts: Trees<'_>) -> Result<(), TermFault> {
+    if let Some((_, Tree::Symbol(name), sort)) = three_of(parts) {
+        return library.declare(1, name, Trees::of(&[]), sort);
+    }
+    match four_of(parts) {
+        Some((_, Tree::Symbol(name), Tree::List(params), sort)) => {
+            library.declare(1, name, params, sort)
+        }
+        _ => Ok(()),
+    }
+}
+
+fn add_assertion(library: &mut Library, term: Tree<'_>) -> Result<(), TermFault> {
+    match library.assert(term) {
+        Ok(_) => Ok(()),
+        Err(fault) => Err(fault),
     }
 }

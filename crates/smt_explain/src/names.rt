@@ -4,7 +4,7 @@ use crate::world::{Defined, World};
 use smt_eval::plain::Definition;
 use smt_faults::Memory;
 use smt_forms::{Scope, is_bang, is_let, is_underscore, split_let, split_named};
-use smt_trees::{Tree, split_first};
+use smt_trees::view::{Tree, Trees, view_of};
 use std::alloc::Global;
 
 /// The place of the definition of each name; of the last one where a name has several.
@@ -87,7 +87,7 @@ pub(crate) fn used_by<'a>(
     world: &'a World,
     index: &Scope<'_, usize>,
     costs: &mut Costs,
-    term: &Tree,
+    term: Tree<'_>,
 ) -> Result<(Vec<Definition<'a>>, Cost), Memory> {
     let outline = outline_of(alloc, index, Scope::new(alloc), term)?;
     let mut places = Vec::new(alloc);
@@ -113,7 +113,7 @@ pub(crate) fn cost_of(
     world: &World,
     index: &Scope<'_, usize>,
     costs: &mut Costs,
-    term: &Tree,
+    term: Tree<'_>,
 ) -> Result<Cost, Memory> {
     Ok(used_by(alloc, world, index, costs, term)?.1)
 }
@@ -123,7 +123,7 @@ fn push_definition<'a>(used: &mut Vec<Definition<'a>>, defined: &'a Defined) -> 
         name: defined.name.as_slice(),
         params: defined.params.as_slice(),
         result: defined.result,
-        body: &defined.body,
+        body: view_of(&defined.body),
     }) {
         Ok(()) => Ok(()),
         Err(_) => Err(Memory),
@@ -197,16 +197,16 @@ fn outline_of_body(
     for param in defined.params.as_slice() {
         bound.push(param.0.as_slice(), ())?;
     }
-    outline_of(alloc, index, bound, &defined.body)
+    outline_of(alloc, index, bound, view_of(&defined.body))
 }
 
 /// The next task of the walk that makes an outline.
 #[derive(Clone, Copy)]
 enum Task<'a> {
     /// Count a term.
-    Count(&'a Tree),
+    Count(Tree<'a>),
     /// Let the variables of these bindings be seen from here on.
-    Enter(&'a [Tree]),
+    Enter(Trees<'a>),
     /// Let only the variables before this number be seen.
     Leave(usize),
 }
@@ -223,7 +223,7 @@ fn outline_of<'a>(
     alloc: Global,
     index: &Scope<'_, usize>,
     variables: Scope<'a, ()>,
-    term: &'a Tree,
+    term: Tree<'a>,
 ) -> Result<Outline, Memory> {
     let mut bound = variables;
     let mut tasks = Vec::new(alloc);
@@ -253,7 +253,7 @@ fn outline_of<'a>(
     Ok(outline)
 }
 
-fn enter<'a>(bound: &mut Scope<'a, ()>, bindings: &'a [Tree]) -> Result<(), Memory> {
+fn enter<'a>(bound: &mut Scope<'a, ()>, bindings: Trees<'a>) -> Result<(), Memory> {
     let mut left = bindings;
     for _ in 0..bindings.len() {
         let Some((name, _, rest)) = split_named(left) else {
@@ -269,7 +269,7 @@ fn enter<'a>(bound: &mut Scope<'a, ()>, bindings: &'a [Tree]) -> Result<(), Memo
 fn add_call(
     index: &Scope<'_, usize>,
     bound: &Scope<'_, ()>,
-    term: &Tree,
+    term: Tree<'_>,
     calls: &mut Vec<usize>,
 ) -> Result<(), Memory> {
     let Some(name) = name_of(term) else {
@@ -284,11 +284,11 @@ fn add_call(
 }
 
 // The name that a term is or begins with.
-fn name_of(term: &Tree) -> Option<&[u8]> {
+fn name_of(term: Tree<'_>) -> Option<&[u8]> {
     match term {
-        Tree::Symbol(name) => Some(name.as_slice()),
-        Tree::List(parts) => match split_first(parts.as_slice()) {
-            Some((Tree::Symbol(name), _)) => Some(name.as_slice()),
+        Tree::Symbol(name) => Some(name),
+        Tree::List(parts) => match parts.split_first() {
+            Some((Tree::Symbol(name), _)) => Some(name),
             _ => None,
         },
         _ => None,
@@ -296,18 +296,18 @@ fn name_of(term: &Tree) -> Option<&[u8]> {
 }
 
 // Adds a task for each term in a term; the task added last is done first.
-fn push_parts<'a>(tasks: &mut Vec<Task<'a>>, seen: usize, term: &'a Tree) -> Result<(), Memory> {
+fn push_parts<'a>(tasks: &mut Vec<Task<'a>>, seen: usize, term: Tree<'a>) -> Result<(), Memory> {
     let Tree::List(parts) = term else {
         return Ok(());
     };
-    let Some((head, args)) = split_first(parts.as_slice()) else {
+    let Some((head, args)) = parts.split_first() else {
         return Ok(());
     };
     if is_underscore(head) {
         return Ok(());
     }
     if is_bang(head) {
-        return match split_first(args) {
+        return match args.split_first() {
             Some((inner, _)) => push_task(tasks, Task::Count(inner)),
             None => Ok(()),
         };
@@ -315,13 +315,18 @@ fn push_parts<'a>(tasks: &mut Vec<Task<'a>>, seen: usize, term: &'a Tree) -> Res
     if is_let(head) {
         return push_let(tasks, seen, args);
     }
-    for arg in args {
+    let mut left = args;
+    for _ in 0..args.len() {
+        let Some((arg, rest)) = left.split_first() else {
+            break;
+        };
         push_task(tasks, Task::Count(arg))?;
+        left = rest;
     }
     Ok(())
 }
 
-fn push_let<'a>(tasks: &mut Vec<Task<'a>>, seen: usize, args: &'a [Tree]) -> Result<(), Memory> {
+fn push_let<'a>(tasks: &mut Vec<Task<'a>>, seen: usize, args: Trees<'a>) -> Result<(), Memory> {
     let Some((bindings, body)) = split_let(args) else {
         return Ok(());
     };

@@ -3,9 +3,11 @@
 use crate::evaluation::{Bound, Over, Stopped, Work, bind, find, value_in};
 use crate::page::Page;
 use crate::values::tell_part;
+use crate::walk::two_of;
 use crate::world::Defined;
 use smt_forms::{split_let, split_named};
-use smt_trees::{Tree, Word, split_first};
+use smt_trees::Word;
+use smt_trees::view::{Tree, Trees, view_of};
 use smt_values::Value;
 
 /// The value of a part, as far as it is known.
@@ -21,7 +23,7 @@ pub(crate) enum Known {
 /// A part of a claim, with its scope and its value.
 #[derive(Clone, Copy)]
 pub(crate) struct Part<'a> {
-    pub(crate) term: &'a Tree,
+    pub(crate) term: Tree<'a>,
     pub(crate) scope: usize,
     pub(crate) value: Known,
     /// The place of the definition that it is in; `None` in the claim itself.
@@ -42,7 +44,7 @@ pub(crate) fn tell_parts<'a>(
     page: &mut Page,
     over: &Over<'a, '_>,
     work: &mut Work,
-    claim: &'a Tree,
+    claim: Tree<'a>,
     value: Known,
 ) -> Result<(), Stopped> {
     let mut bounds: Vec<Bound<'a>> = Vec::new(over.alloc);
@@ -84,9 +86,9 @@ fn go_down<'a>(
     left: &mut Vec<Part<'a>>,
 ) -> Result<(), Stopped> {
     match part.term {
-        Tree::Symbol(name) => go_into_name(over, bounds, part, name.as_slice(), left),
-        Tree::List(parts) => match split_first(parts.as_slice()) {
-            Some((Tree::Reserved(Word::Bang), args)) => match split_first(args) {
+        Tree::Symbol(name) => go_into_name(over, bounds, part, name, left),
+        Tree::List(parts) => match parts.split_first() {
+            Some((Tree::Reserved(Word::Bang), args)) => match args.split_first() {
                 Some((term, _)) => push_part(left, Part { term, ..part }),
                 None => Ok(()),
             },
@@ -94,7 +96,7 @@ fn go_down<'a>(
                 over, work, bounds, part, args, left,
             ),
             Some((Tree::Symbol(name), args)) => {
-                go_into_call(over, work, bounds, part, name.as_slice(), args, left)
+                go_into_call(over, work, bounds, part, name, args, left)
             }
             _ => Ok(()),
         },
@@ -131,7 +133,7 @@ fn go_into_name<'a>(
         Some((place, defined)) if !defined.of_model => push_part(
             left,
             Part {
-                term: &defined.body,
+                term: view_of(&defined.body),
                 scope: 0,
                 value: part.value,
                 within: Some(place),
@@ -153,7 +155,7 @@ fn go_into_let<'a>(
     work: &mut Work,
     bounds: &mut Vec<Bound<'a>>,
     part: Part<'a>,
-    args: &'a [Tree],
+    args: Trees<'a>,
     left: &mut Vec<Part<'a>>,
 ) -> Result<(), Stopped> {
     let Some((bindings, body)) = split_let(args) else {
@@ -185,7 +187,7 @@ fn go_into_call<'a>(
     bounds: &mut Vec<Bound<'a>>,
     part: Part<'a>,
     name: &[u8],
-    args: &'a [Tree],
+    args: Trees<'a>,
     left: &mut Vec<Part<'a>>,
 ) -> Result<(), Stopped> {
     match defined_at(over, name) {
@@ -194,7 +196,11 @@ fn go_into_call<'a>(
                 return Ok(());
             }
             let mut scope = 0usize;
-            for (param, arg) in defined.params.as_slice().iter().zip(args.iter()) {
+            let mut rest = args;
+            for param in defined.params.as_slice() {
+                let Some((arg, behind)) = rest.split_first() else {
+                    break;
+                };
                 let value = value_in(over, work, bounds.as_slice(), part.scope, arg)?;
                 scope = bind(
                     over.alloc,
@@ -205,11 +211,12 @@ fn go_into_call<'a>(
                     part.scope,
                     scope,
                 )?;
+                rest = behind;
             }
             push_part(
                 left,
                 Part {
-                    term: &defined.body,
+                    term: view_of(&defined.body),
                     scope,
                     value: part.value,
                     within: Some(place),
@@ -226,16 +233,21 @@ fn go_into_operator<'a>(
     bounds: &[Bound<'a>],
     part: Part<'a>,
     name: &[u8],
-    args: &'a [Tree],
+    args: Trees<'a>,
     left: &mut Vec<Part<'a>>,
 ) -> Result<(), Stopped> {
     let mut inner: Vec<Part<'a>> = Vec::new(over.alloc);
-    for arg in args {
+    let mut rest = args;
+    for _ in 0..args.len() {
+        let Some((arg, behind)) = rest.split_first() else {
+            break;
+        };
         inner.push(Part {
             term: arg,
             value: known_as(value_in(over, work, bounds, part.scope, arg)?),
             ..part
         })?;
+        rest = behind;
     }
     let before = left.len();
     match part.value {
@@ -335,11 +347,11 @@ fn push_branch<'a>(inner: &[Part<'a>], left: &mut Vec<Part<'a>>) -> Result<(), S
 }
 
 /// Whether a term is a literal: a constant as a text has it.
-pub(crate) fn is_literal(term: &Tree) -> bool {
+pub(crate) fn is_literal(term: Tree<'_>) -> bool {
     match term {
-        Tree::Symbol(name) => matches!(name.as_slice(), b"true" | b"false"),
-        Tree::List(parts) => match parts.as_slice() {
-            [Tree::Symbol(minus), Tree::Numeral(_)] => matches!(minus.as_slice(), b"-"),
+        Tree::Symbol(name) => matches!(name, b"true" | b"false"),
+        Tree::List(parts) => match two_of(parts) {
+            Some((Tree::Symbol(minus), Tree::Numeral(_))) => matches!(minus, b"-"),
             _ => false,
         },
         _ => true,

@@ -3,7 +3,9 @@
 use smt_bits::Bits;
 use smt_faults::Memory;
 use smt_theory::Sort;
-use smt_trees::{Bytes, Tree, Trees, spelling};
+use smt_trees as owned;
+use smt_trees::view::{Tree, Trees};
+use smt_trees::{Bytes, spelling};
 use smt_values::Value;
 use std::alloc::Global;
 
@@ -11,7 +13,7 @@ use std::alloc::Global;
 const MOST: usize = 4096;
 
 /// The text of a tree; a text over 4,096 bytes is cut there, and ends with ` ..`.
-pub(crate) fn text_of(alloc: Global, tree: &Tree) -> Result<Vec<u8>, Memory> {
+pub(crate) fn text_of(alloc: Global, tree: Tree<'_>) -> Result<Vec<u8>, Memory> {
     let mut out = Vec::new(alloc);
     write_tree(alloc, &mut out, tree)?;
     if out.len() > MOST {
@@ -24,8 +26,9 @@ pub(crate) fn text_of(alloc: Global, tree: &Tree) -> Result<Vec<u8>, Memory> {
 // What the writer puts next.
 #[derive(Clone, Copy)]
 enum Next<'a> {
-    Tree(&'a Tree),
-    Bytes(&'static [u8]),
+    Tree(Tree<'a>),
+    /// The rest of a list, behind one of its trees.
+    Rest(Trees<'a>),
 }
 
 fn push_next<'a>(left: &mut Vec<Next<'a>>, next: Next<'a>) -> Result<(), Memory> {
@@ -35,7 +38,7 @@ fn push_next<'a>(left: &mut Vec<Next<'a>>, next: Next<'a>) -> Result<(), Memory>
     }
 }
 
-fn write_tree(alloc: Global, out: &mut Vec<u8>, tree: &Tree) -> Result<(), Memory> {
+fn write_tree(alloc: Global, out: &mut Vec<u8>, tree: Tree<'_>) -> Result<(), Memory> {
     let mut left = Vec::new(alloc);
     push_next(&mut left, Next::Tree(tree))?;
     for _ in 0..u64::MAX {
@@ -43,52 +46,52 @@ fn write_tree(alloc: Global, out: &mut Vec<u8>, tree: &Tree) -> Result<(), Memor
             break;
         }
         match left.pop() {
-            Some(Next::Bytes(bytes)) => put(out, bytes)?,
             Some(Next::Tree(Tree::List(parts))) => {
                 put(out, b"(")?;
-                push_list(&mut left, parts)?;
+                write_list(out, &mut left, b"", parts)?;
             }
             Some(Next::Tree(tree)) => write_atom(out, tree)?,
+            Some(Next::Rest(rest)) => write_list(out, &mut left, b" ", rest)?,
             None => break,
         }
     }
     Ok(())
 }
 
-// Adds what follows the opening parenthesis of a list, the last of it first.
-fn push_list<'a>(left: &mut Vec<Next<'a>>, parts: &'a Trees) -> Result<(), Memory> {
-    push_next(left, Next::Bytes(b")"))?;
-    let mut rest = parts.as_slice();
-    for _ in 0..parts.as_slice().len() {
-        let Some((last, before)) = rest.split_last() else {
-            break;
-        };
-        push_next(left, Next::Tree(last))?;
-        if !before.is_empty() {
-            push_next(left, Next::Bytes(b" "))?;
+// Writes what is before the next tree of a list, and adds that tree and the rest; or writes the end of the list.
+fn write_list<'a>(
+    out: &mut Vec<u8>,
+    left: &mut Vec<Next<'a>>,
+    before: &[u8],
+    trees: Trees<'a>,
+) -> Result<(), Memory> {
+    match trees.split_first() {
+        Some((tree, rest)) => {
+            put(out, before)?;
+            push_next(left, Next::Rest(rest))?;
+            push_next(left, Next::Tree(tree))
         }
-        rest = before;
+        None => put(out, b")"),
     }
-    Ok(())
 }
 
-fn write_atom(out: &mut Vec<u8>, tree: &Tree) -> Result<(), Memory> {
+fn write_atom(out: &mut Vec<u8>, tree: Tree<'_>) -> Result<(), Memory> {
     match tree {
-        Tree::Numeral(digits) | Tree::Decimal(digits) => put(out, digits.as_slice()),
+        Tree::Numeral(digits) | Tree::Decimal(digits) => put(out, digits),
         Tree::Hex(digits) => {
             put(out, b"#x")?;
-            put(out, digits.as_slice())
+            put(out, digits)
         }
         Tree::Bin(digits) => {
             put(out, b"#b")?;
-            put(out, digits.as_slice())
+            put(out, digits)
         }
         Tree::Text(_) => put(out, b"\"..\""),
-        Tree::Symbol(name) => put_name(out, name.as_slice()),
-        Tree::Reserved(word) => put(out, spelling(*word)),
+        Tree::Symbol(name) => put_name(out, name),
+        Tree::Reserved(word) => put(out, spelling(word)),
         Tree::Keyword(name) => {
             put(out, b":")?;
-            put(out, name.as_slice())
+            put(out, name)
         }
         Tree::List(_) => Ok(()),
     }
@@ -134,9 +137,9 @@ fn is_name_byte(byte: u8) -> bool {
 }
 
 /// The constant of a value; without a value the keyword `:open`, to which the evaluator gives none.
-pub(crate) fn constant(alloc: Global, value: &Option<Value>) -> Result<Tree, Memory> {
+pub(crate) fn constant(alloc: Global, value: &Option<Value>) -> Result<owned::Tree, Memory> {
     match value {
-        None => Ok(Tree::Keyword(Bytes::new(alloc, b"open")?)),
+        None => Ok(owned::Tree::Keyword(Bytes::new(alloc, b"open")?)),
         Some(Value::Bool(true)) => symbol(alloc, b"true"),
         Some(Value::Bool(false)) => symbol(alloc, b"false"),
         Some(Value::Int(number)) => integer(alloc, *number),
@@ -144,40 +147,40 @@ pub(crate) fn constant(alloc: Global, value: &Option<Value>) -> Result<Tree, Mem
     }
 }
 
-fn vector(alloc: Global, bits: &Bits) -> Result<Tree, Memory> {
+fn vector(alloc: Global, bits: &Bits) -> Result<owned::Tree, Memory> {
     let digits = digits_of(alloc, bits.number(), bits.width().bits())?;
-    Ok(Tree::Bin(Bytes::new(alloc, digits.as_slice())?))
+    Ok(owned::Tree::Bin(Bytes::new(alloc, digits.as_slice())?))
 }
 
 /// A constant of a sort: `true`, 0, or a vector of zeros.
-pub(crate) fn constant_of(alloc: Global, sort: Sort) -> Result<Tree, Memory> {
+pub(crate) fn constant_of(alloc: Global, sort: Sort) -> Result<owned::Tree, Memory> {
     match sort {
         Sort::Bool => symbol(alloc, b"true"),
         Sort::Int => integer(alloc, 0),
         Sort::Bits(width) => {
             let digits = digits_of(alloc, 0, width.bits())?;
-            Ok(Tree::Bin(Bytes::new(alloc, digits.as_slice())?))
+            Ok(owned::Tree::Bin(Bytes::new(alloc, digits.as_slice())?))
         }
     }
 }
 
-fn symbol(alloc: Global, name: &[u8]) -> Result<Tree, Memory> {
-    Ok(Tree::Symbol(Bytes::new(alloc, name)?))
+fn symbol(alloc: Global, name: &[u8]) -> Result<owned::Tree, Memory> {
+    Ok(owned::Tree::Symbol(Bytes::new(alloc, name)?))
 }
 
-fn integer(alloc: Global, number: i128) -> Result<Tree, Memory> {
+fn integer(alloc: Global, number: i128) -> Result<owned::Tree, Memory> {
     let digits = format!(in alloc; "{number}")?;
     let text = digits.as_bytes();
     match text.strip_prefix(b"-") {
         Some(rest) => {
             let minus = symbol(alloc, b"-")?;
-            let size = Tree::Numeral(Bytes::new(alloc, rest)?);
+            let size = owned::Tree::Numeral(Bytes::new(alloc, rest)?);
             let mut parts = Vec::with_capacity(alloc, 2)?;
             parts.push(minus)?;
             parts.push(size)?;
-            Ok(Tree::List(Trees::new(parts)))
+            Ok(owned::Tree::List(owned::Trees::new(parts)))
         }
-        None => Ok(Tree::Numeral(Bytes::new(alloc, text)?)),
+        None => Ok(owned::Tree::Numeral(Bytes::new(alloc, text)?)),
     }
 }
 

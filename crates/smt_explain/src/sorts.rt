@@ -1,14 +1,18 @@
 //! The sorts that differ where a term is ill sorted: its smallest ill-sorted part, the argument that does not fit,
 //! and the sort needed there. This file knows no values and no command.
 
+use crate::copies::copy_of;
 use crate::library::sort_over;
 use crate::page::Page;
 use crate::show::{constant_of, text_of};
+use crate::walk::tree_at;
 use smt_faults::Memory;
 use smt_forms::{Scope, split_let, split_named};
 use smt_terms::{Found, Library};
 use smt_theory::{Sort, Width};
-use smt_trees::{Tree, Trees, Word, split_first};
+use smt_trees as owned;
+use smt_trees::Word;
+use smt_trees::view::{Tree, Trees, view_of};
 use std::alloc::Global;
 
 /// How many arguments of an operator are tried in the search for one that does not fit.
@@ -25,7 +29,7 @@ pub(crate) struct Sorter<'a> {
     /// The sorts of arguments already checked, whose applications are still to be checked.
     sorts: Vec<Sort>,
     /// The smallest ill-sorted part, once it is found, and where the sorts of its arguments begin in `sorts`.
-    found: Option<(&'a Tree, usize)>,
+    found: Option<(Tree<'a>, usize)>,
 }
 
 impl<'a> Sorter<'a> {
@@ -42,18 +46,18 @@ impl<'a> Sorter<'a> {
 
     /// The sort of a term that sees the variables; `None` where a part of it is ill sorted.
     #[cycle(sort)]
-    pub(crate) fn sort_of(&mut self, term: &'a Tree) -> Result<Option<Sort>, Memory> {
+    pub(crate) fn sort_of(&mut self, term: Tree<'a>) -> Result<Option<Sort>, Memory> {
         match term {
-            Tree::Symbol(name) => match self.variables.find(name.as_slice()) {
+            Tree::Symbol(name) => match self.variables.find(name) {
                 Some(sort) => Ok(Some(sort)),
                 None => self.sort_of_leaf(term),
             },
-            Tree::List(parts) => self.sort_of_list(term, parts.as_slice()),
+            Tree::List(parts) => self.sort_of_list(term, parts),
             _ => self.sort_of_leaf(term),
         }
     }
 
-    fn sort_of_leaf(&mut self, term: &'a Tree) -> Result<Option<Sort>, Memory> {
+    fn sort_of_leaf(&mut self, term: Tree<'a>) -> Result<Option<Sort>, Memory> {
         let sort = sort_over(&mut self.library, term)?;
         if sort.is_none() {
             self.found = Some((term, self.sorts.len()));
@@ -62,9 +66,9 @@ impl<'a> Sorter<'a> {
     }
 
     #[cycle(sort)]
-    fn sort_of_list(&mut self, term: &'a Tree, parts: &'a [Tree]) -> Result<Option<Sort>, Memory> {
-        match split_first(parts) {
-            Some((Tree::Reserved(Word::Bang), args)) => match split_first(args) {
+    fn sort_of_list(&mut self, term: Tree<'a>, parts: Trees<'a>) -> Result<Option<Sort>, Memory> {
+        match parts.split_first() {
+            Some((Tree::Reserved(Word::Bang), args)) => match args.split_first() {
                 Some((inner, _)) => self.sort_of(inner),
                 None => Ok(None),
             },
@@ -77,13 +81,13 @@ impl<'a> Sorter<'a> {
     #[cycle(sort)]
     fn sort_of_application(
         &mut self,
-        term: &'a Tree,
-        head: &'a Tree,
-        args: &'a [Tree],
+        term: Tree<'a>,
+        head: Tree<'a>,
+        args: Trees<'a>,
     ) -> Result<Option<Sort>, Memory> {
         let first = self.sorts.len();
         let mut left = args;
-        while let Some((arg, rest)) = split_first(left) {
+        while let Some((arg, rest)) = left.split_first() {
             match self.sort_of(arg)? {
                 Some(sort) => self.sorts.push(sort)?,
                 None => return Ok(None),
@@ -105,7 +109,7 @@ impl<'a> Sorter<'a> {
     }
 
     #[cycle(sort)]
-    fn sort_of_let(&mut self, args: &'a [Tree]) -> Result<Option<Sort>, Memory> {
+    fn sort_of_let(&mut self, args: Trees<'a>) -> Result<Option<Sort>, Memory> {
         let Some((bindings, body)) = split_let(args) else {
             return Ok(None);
         };
@@ -130,9 +134,9 @@ impl<'a> Sorter<'a> {
         Ok(sort)
     }
 
-    fn is_variable(&self, head: &Tree) -> bool {
+    fn is_variable(&self, head: Tree<'_>) -> bool {
         match head {
-            Tree::Symbol(name) => self.variables.find(name.as_slice()).is_some(),
+            Tree::Symbol(name) => self.variables.find(name).is_some(),
             _ => false,
         }
     }
@@ -172,15 +176,16 @@ fn sorts_from(sorts: &[Sort], first: usize) -> &[Sort] {
 fn sort_applied(
     alloc: Global,
     library: &mut Library,
-    head: &Tree,
+    head: Tree<'_>,
     sorts: &[Sort],
 ) -> Result<Option<Sort>, Memory> {
     let mut parts = Vec::with_capacity(alloc, sorts.len().saturating_add(1))?;
-    parts.push(head.copy(alloc)?)?;
+    parts.push(copy_of(alloc, head)?)?;
     for sort in sorts {
         parts.push(constant_of(alloc, *sort)?)?;
     }
-    sort_over(library, &Tree::List(Trees::new(parts)))
+    let applied = owned::Tree::List(owned::Trees::new(parts));
+    sort_over(library, view_of(&applied))
 }
 
 /// Adds a variable after the others.
@@ -202,7 +207,7 @@ pub(crate) fn tell_term_of_sort<'a>(
     page: &mut Page,
     sorter: &mut Sorter<'a>,
     what: &[u8],
-    term: &'a Tree,
+    term: Tree<'a>,
     wanted: Sort,
 ) -> Result<bool, Memory> {
     match sorter.sort_of(term)? {
@@ -258,11 +263,11 @@ fn tell_found(page: &mut Page, sorter: &mut Sorter<'_>) -> Result<(), Memory> {
     page.put_cut(text_of(sorter.alloc, part)?.as_slice())?;
     page.end()?;
     match part {
-        Tree::List(parts) => match parts.as_slice() {
-            [Tree::Reserved(_), ..] | [] => page.line(b"    it is no constant"),
-            [head, args @ ..] => tell_application(page, sorter, head, args, first),
+        Tree::List(parts) => match parts.split_first() {
+            Some((Tree::Reserved(_), _)) | None => page.line(b"    it is no constant"),
+            Some((head, args)) => tell_application(page, sorter, head, args, first),
         },
-        Tree::Symbol(name) => match sorter.params_of(name.as_slice())? {
+        Tree::Symbol(name) => match sorter.params_of(name)? {
             Some(params) => {
                 page.put(b"    arguments needed: ")?;
                 tell_counts(page, params.len(), 0)
@@ -276,15 +281,15 @@ fn tell_found(page: &mut Page, sorter: &mut Sorter<'_>) -> Result<(), Memory> {
 fn tell_application(
     page: &mut Page,
     sorter: &mut Sorter<'_>,
-    head: &Tree,
-    args: &[Tree],
+    head: Tree<'_>,
+    args: Trees<'_>,
     first: usize,
 ) -> Result<(), Memory> {
     if sorter.is_variable(head) {
         return page.line(b"    its head is a variable, which takes no arguments");
     }
     let params = match head {
-        Tree::Symbol(name) => sorter.params_of(name.as_slice())?,
+        Tree::Symbol(name) => sorter.params_of(name)?,
         _ => None,
     };
     let alloc = sorter.alloc;
@@ -299,7 +304,7 @@ fn tell_application(
 fn tell_rank(
     page: &mut Page,
     alloc: Global,
-    args: &[Tree],
+    args: Trees<'_>,
     sorts: &[Sort],
     params: &[Sort],
 ) -> Result<(), Memory> {
@@ -307,18 +312,23 @@ fn tell_rank(
         page.put(b"    arguments needed: ")?;
         return tell_counts(page, params.len(), sorts.len());
     }
-    for (index, arg) in args.iter().enumerate() {
+    let mut left = args;
+    for index in 0..args.len() {
+        let Some((arg, rest)) = left.split_first() else {
+            break;
+        };
         if let (Some(sort), Some(wanted)) = (sorts.get(index), params.get(index))
             && sort != wanted
         {
             put_argument(page, alloc, index, arg)?;
             return tell_difference(page, *sort, *wanted);
         }
+        left = rest;
     }
     Ok(())
 }
 
-fn put_argument(page: &mut Page, alloc: Global, index: usize, arg: &Tree) -> Result<(), Memory> {
+fn put_argument(page: &mut Page, alloc: Global, index: usize, arg: Tree<'_>) -> Result<(), Memory> {
     page.put(b"    argument ")?;
     page.put_number((index as u64).saturating_add(1))?;
     page.put(b", ")?;
@@ -332,14 +342,15 @@ fn tell_operator(
     page: &mut Page,
     alloc: Global,
     library: &mut Library,
-    head: &Tree,
-    args: &[Tree],
+    head: Tree<'_>,
+    args: Trees<'_>,
     sorts: &[Sort],
 ) -> Result<(), Memory> {
     let most = args.len().min(MOST_ARGUMENTS);
-    for (index, arg) in args.iter().enumerate().take(most).rev() {
+    for index in (0..most).rev() {
         if let Some(wanted) = fitting(alloc, library, head, sorts, index)?
             && let Some(sort) = sorts.get(index)
+            && let Some(arg) = tree_at(args, index)
         {
             put_argument(page, alloc, index, arg)?;
             return tell_difference(page, *sort, wanted);
@@ -358,7 +369,7 @@ fn tell_operator(
 fn fitting(
     alloc: Global,
     library: &mut Library,
-    head: &Tree,
+    head: Tree<'_>,
     sorts: &[Sort],
     index: usize,
 ) -> Result<Option<Sort>, Memory> {

@@ -1,5 +1,6 @@
 //! The explanation of a report, line by line. This file finds no line itself: it is given the lines.
 
+use crate::copies::copy_of;
 use crate::evaluation::{Over, Stopped, Work, value_of};
 use crate::faults::{tell_command_fault, tell_item_fault, tell_pairing, tell_text_fault};
 use crate::force::{Commands, Stand, has_label, in_force};
@@ -9,12 +10,14 @@ use crate::pairs::{Head, Pair, Start, head_of, pair_up};
 use crate::parts::{Known, tell_parts};
 use crate::scan::{Place, Scan, Span, find_trees, first_place, text_at};
 use crate::show::text_of;
+use crate::walk::{tree_at, two_of};
 use crate::world::{World, tree_of, world_of};
 use smt_faults::Memory;
 use smt_forms::Scope;
 use smt_report::{Claim, Line};
 use smt_theory::Profile;
-use smt_trees::{Tree, split_first};
+use smt_trees as owned;
+use smt_trees::view::{Tree, Trees, view_of};
 use smt_values::Value;
 use std::alloc::Global;
 
@@ -253,7 +256,7 @@ fn put_text(page: &mut Page, text: &[u8]) -> Result<(), Memory> {
     if text.len() <= 4096
         && let Some(tree) = tree_of(page.alloc, text)?
     {
-        return page.put_cut(text_of(page.alloc, &tree)?.as_slice());
+        return page.put_cut(text_of(page.alloc, view_of(&tree))?.as_slice());
     }
     page.put_cut(text)
 }
@@ -312,15 +315,16 @@ fn size_of(dialogue: &Dialogue<'_>, standing: &[Stand]) -> u64 {
 }
 
 // The term of a claim, found in its command.
-fn claim_term(command: &Tree, claim: Claim) -> Option<&Tree> {
+fn claim_term(command: Tree<'_>, claim: Claim) -> Option<Tree<'_>> {
     let Tree::List(parts) = command else {
         return None;
     };
-    let (_, args) = split_first(parts.as_slice())?;
+    let (_, args) = parts.split_first()?;
+    let (first, _) = args.split_first()?;
     match claim {
-        Claim::Assertion { .. } => args.first(),
-        Claim::Assumption { place } => match args.first()? {
-            Tree::List(literals) => literals.as_slice().get(index_of_number(place)),
+        Claim::Assertion { .. } => Some(first),
+        Claim::Assumption { place } => match first {
+            Tree::List(literals) => tree_at(literals, index_of_number(place)),
             _ => None,
         },
     }
@@ -369,14 +373,14 @@ fn tell_reason(
     let Some(tree) = tree_of_command(page.alloc, dialogue, claimed.command)? else {
         return Ok(());
     };
-    let Some(term) = claim_term(&tree, claimed.claim) else {
+    let Some(term) = claim_term(view_of(&tree), claimed.claim) else {
         return Ok(());
     };
     let found = world_at(page.alloc, dialogue, claimed.check, model, left)?;
     let Some((standing, mut world)) = found else {
         return page.line(ENOUGH);
     };
-    world.claim = Some(term.copy(page.alloc)?);
+    world.claim = Some(copy_of(page.alloc, term)?);
     match tell_in(page, dialogue, &world, standing.as_slice(), claimed, left) {
         Ok(()) => Ok(()),
         Err(Stopped::Memory) => Err(Memory),
@@ -402,7 +406,7 @@ fn tree_of_command(
     alloc: Global,
     dialogue: &Dialogue<'_>,
     command: u64,
-) -> Result<Option<Tree>, Memory> {
+) -> Result<Option<owned::Tree>, Memory> {
     match dialogue.commands.get(index_of_number(command)) {
         Some(span) => tree_of(alloc, text_at(dialogue.texts.script, *span)),
         None => Ok(None),
@@ -481,7 +485,7 @@ fn tell_in(
         bytes: *left,
         costs: Costs::new(alloc, world)?,
     };
-    tell_parts(page, &over, &mut work, term, claimed.value)?;
+    tell_parts(page, &over, &mut work, view_of(term), claimed.value)?;
     if claimed.value != Known::False {
         return Ok(());
     }
@@ -521,7 +525,7 @@ fn tell_assertions(
         let Some(tree) = tree_of(over.alloc, text)? else {
             continue;
         };
-        if let Some(term) = claim_term(&tree, Claim::Assertion { command: number })
+        if let Some(term) = claim_term(view_of(&tree), Claim::Assertion { command: number })
             && value_of(over, work, term)? == Some(Value::Bool(false))
         {
             tell_command(page, dialogue, b"  also false: ", number)?;
@@ -538,17 +542,22 @@ fn tell_assumptions(
     work: &mut Work,
     claimed: Claimed,
 ) -> Result<(), Stopped> {
-    let Some(Tree::List(parts)) = tree_of_command(over.alloc, dialogue, claimed.check)? else {
+    let Some(tree) = tree_of_command(over.alloc, dialogue, claimed.check)? else {
         return Ok(());
     };
-    let [_, Tree::List(literals)] = parts.as_slice() else {
+    let Some(literals) = assumptions_of(view_of(&tree)) else {
         return Ok(());
     };
     let told = match claimed.claim {
         Claim::Assumption { place } => place,
         Claim::Assertion { .. } => 0,
     };
-    for (index, literal) in literals.as_slice().iter().enumerate() {
+    let mut left = literals;
+    for index in 0..literals.len() {
+        let Some((literal, rest)) = left.split_first() else {
+            break;
+        };
+        left = rest;
         let place = (index as u64).saturating_add(1);
         if place <= told || !page.has_room() {
             continue;
@@ -562,6 +571,17 @@ fn tell_assumptions(
         }
     }
     Ok(())
+}
+
+// The literals of a check with assumptions.
+fn assumptions_of(command: Tree<'_>) -> Option<Trees<'_>> {
+    let Tree::List(parts) = command else {
+        return None;
+    };
+    match two_of(parts) {
+        Some((_, Tree::List(literals))) => Some(literals),
+        _ => None,
+    }
 }
 
 fn is_assertion(dialogue: &Dialogue<'_>, stand: &Stand) -> bool {
@@ -621,20 +641,34 @@ fn cost_of_command(
         return Ok(0);
     };
     let text = text_at(dialogue.texts.script, *span);
-    let Some(Tree::List(parts)) = tree_of(alloc, text)? else {
+    let Some(tree) = tree_of(alloc, text)? else {
         return Ok(0);
     };
-    let Some((_, args)) = split_first(parts.as_slice()) else {
+    let Some(terms) = claims_of(head_of(text), view_of(&tree)) else {
         return Ok(0);
-    };
-    let terms = match (head_of(text), args.first()) {
-        (Head::Check, Some(Tree::List(literals))) => literals.as_slice(),
-        (Head::Assert, Some(_)) => args,
-        _ => return Ok(0),
     };
     let mut sum = 0u64;
-    for term in terms {
+    let mut left = terms;
+    for _ in 0..terms.len() {
+        let Some((term, rest)) = left.split_first() else {
+            break;
+        };
         sum = sum.saturating_add(cost_of(alloc, world, index, costs, term)?.steps);
+        left = rest;
     }
     Ok(sum)
+}
+
+// The terms of an assertion or of a check.
+fn claims_of(head: Head, command: Tree<'_>) -> Option<Trees<'_>> {
+    let Tree::List(parts) = command else {
+        return None;
+    };
+    let (_, args) = parts.split_first()?;
+    let (first, _) = args.split_first()?;
+    match (head, first) {
+        (Head::Check, Tree::List(literals)) => Some(literals),
+        (Head::Assert, _) => Some(args),
+        _ => None,
+    }
 }

@@ -4,11 +4,12 @@
 use crate::force::{Commands, Stand, has_label};
 use crate::pairs::{Head, word};
 use crate::scan::{find_tokens, first_place, text_at};
+use crate::walk::{four_of, three_of, two_of};
 use crate::world::form_of;
 use smt_faults::Memory;
 use smt_forms::{ItemForm, Scope, is_bang, is_let, is_underscore, split_let, split_named};
 use smt_theory::{Profile, all_theories, op_of};
-use smt_trees::{Tree, split_first};
+use smt_trees::view::{Tree, Trees};
 use std::alloc::Global;
 
 /// The names in force somewhere, each with the place of the command that brought it, and likewise the abbreviations
@@ -95,33 +96,52 @@ pub(crate) fn unknown_in_command<'a>(
     alloc: Global,
     known: &Brought<'_>,
     head: Head,
-    command: &'a Tree,
+    command: Tree<'a>,
 ) -> Result<Option<&'a [u8]>, Memory> {
     let Tree::List(parts) = command else {
         return Ok(None);
     };
-    match (head, parts.as_slice()) {
-        (Head::Assert, [_, term]) => unknown_in_term(alloc, &known.names, Scope::new(alloc), term),
-        (Head::Check, [_, Tree::List(literals)]) => {
-            for literal in literals.as_slice() {
-                let found = unknown_in_term(alloc, &known.names, Scope::new(alloc), literal)?;
-                if found.is_some() {
-                    return Ok(found);
-                }
-            }
-            Ok(None)
+    match (head, two_of(parts)) {
+        (Head::Assert, Some((_, term))) => {
+            unknown_in_term(alloc, &known.names, Scope::new(alloc), term)
+        }
+        (Head::Check, Some((_, Tree::List(literals)))) => {
+            unknown_in_literals(alloc, known, literals)
         }
         (Head::Define, _) => match form_of(command) {
             Some(form) => unknown_in_form(alloc, known, &form),
             None => Ok(None),
         },
-        (_, [_, _, Tree::List(sorts), sort]) => Ok(unknown_sort_in(
-            &known.sorts,
-            sorts.as_slice(),
-        ).or(unknown_in_sort(&known.sorts, sort))),
-        (_, [_, _, sort]) => Ok(unknown_in_sort(&known.sorts, sort)),
-        _ => Ok(None),
+        _ => Ok(unknown_in_sorts(known, parts)),
     }
+}
+
+fn unknown_in_literals<'a>(
+    alloc: Global,
+    known: &Brought<'_>,
+    literals: Trees<'a>,
+) -> Result<Option<&'a [u8]>, Memory> {
+    let mut left = literals;
+    for _ in 0..literals.len() {
+        let Some((literal, rest)) = left.split_first() else {
+            break;
+        };
+        let found = unknown_in_term(alloc, &known.names, Scope::new(alloc), literal)?;
+        if found.is_some() {
+            return Ok(found);
+        }
+        left = rest;
+    }
+    Ok(None)
+}
+
+// The first unknown sort in a declaration or an abbreviation, by the parts of the command.
+fn unknown_in_sorts<'a>(known: &Brought<'_>, parts: Trees<'a>) -> Option<&'a [u8]> {
+    if let Some((_, _, Tree::List(sorts), sort)) = four_of(parts) {
+        return unknown_sort_in(&known.sorts, sorts).or(unknown_in_sort(&known.sorts, sort));
+    }
+    let (_, _, sort) = three_of(parts)?;
+    unknown_in_sort(&known.sorts, sort)
 }
 
 /// The first unknown name in a definition, given the names in force.
@@ -150,29 +170,31 @@ pub(crate) fn unknown_in_form<'a>(
     unknown_in_term(alloc, &known.names, bound, form.body)
 }
 
-fn unknown_sort_in<'a>(known: &Scope<'_, usize>, sorts: &'a [Tree]) -> Option<&'a [u8]> {
-    for sort in sorts {
+fn unknown_sort_in<'a>(known: &Scope<'_, usize>, sorts: Trees<'a>) -> Option<&'a [u8]> {
+    let mut left = sorts;
+    for _ in 0..sorts.len() {
+        let (sort, rest) = left.split_first()?;
         let found = unknown_in_sort(known, sort);
         if found.is_some() {
             return found;
         }
+        left = rest;
     }
     None
 }
 
-fn unknown_in_sort<'a>(known: &Scope<'_, usize>, sort: &'a Tree) -> Option<&'a [u8]> {
+fn unknown_in_sort<'a>(known: &Scope<'_, usize>, sort: Tree<'a>) -> Option<&'a [u8]> {
     match sort {
         Tree::Symbol(name) => {
-            let name = name.as_slice();
             let is_known = matches!(name, b"Bool" | b"Int") || known.find(name).is_some();
             if is_known { None } else { Some(name) }
         }
-        Tree::List(parts) => match parts.as_slice() {
-            [head, Tree::Symbol(name), ..] if is_underscore(head) => match name.as_slice() {
-                b"BitVec" => None,
-                other => Some(other),
+        Tree::List(parts) => match parts.split_first() {
+            Some((Tree::Symbol(name), _)) => Some(name),
+            Some((head, rest)) if is_underscore(head) => match rest.split_first() {
+                Some((Tree::Symbol(name), _)) if !matches!(name, b"BitVec") => Some(name),
+                _ => None,
             },
-            [Tree::Symbol(name), ..] => Some(name.as_slice()),
             _ => None,
         },
         _ => None,
@@ -184,11 +206,11 @@ fn unknown_in_sort<'a>(known: &Scope<'_, usize>, sort: &'a Tree) -> Option<&'a [
 /// The next step of the search.
 #[derive(Clone, Copy)]
 enum Step<'a> {
-    Term(&'a Tree),
+    Term(Tree<'a>),
     /// The head of an application.
     Head(&'a [u8]),
     /// Let the variables of these bindings be seen from here on.
-    Enter(&'a [Tree]),
+    Enter(Trees<'a>),
     /// Let only the variables before this number be seen.
     Leave(usize),
 }
@@ -205,7 +227,7 @@ fn unknown_in_term<'a>(
     alloc: Global,
     known: &Scope<'_, usize>,
     variables: Scope<'a, ()>,
-    term: &'a Tree,
+    term: Tree<'a>,
 ) -> Result<Option<&'a [u8]>, Memory> {
     let mut bound = variables;
     let mut steps = Vec::new(alloc);
@@ -222,7 +244,7 @@ fn unknown_in_term<'a>(
                 None
             }
             Some(Step::Head(name)) => Some(name),
-            Some(Step::Term(Tree::Symbol(name))) => Some(name.as_slice()),
+            Some(Step::Term(Tree::Symbol(name))) => Some(name),
             Some(Step::Term(term)) => push_inner(&mut steps, bound.len(), term)?,
         };
         if let Some(name) = name
@@ -236,7 +258,7 @@ fn unknown_in_term<'a>(
     Ok(None)
 }
 
-fn enter<'a>(bound: &mut Scope<'a, ()>, bindings: &'a [Tree]) -> Result<(), Memory> {
+fn enter<'a>(bound: &mut Scope<'a, ()>, bindings: Trees<'a>) -> Result<(), Memory> {
     let mut left = bindings;
     for _ in 0..bindings.len() {
         let Some((name, _, rest)) = split_named(left) else {
@@ -252,19 +274,17 @@ fn enter<'a>(bound: &mut Scope<'a, ()>, bindings: &'a [Tree]) -> Result<(), Memo
 fn push_inner<'a>(
     steps: &mut Vec<Step<'a>>,
     seen: usize,
-    term: &'a Tree,
+    term: Tree<'a>,
 ) -> Result<Option<&'a [u8]>, Memory> {
     let Tree::List(parts) = term else {
         return Ok(None);
     };
-    let Some((head, args)) = split_first(parts.as_slice()) else {
+    let Some((head, args)) = parts.split_first() else {
         return Ok(None);
     };
     if is_underscore(head) {
-        return Ok(match args.first() {
-            Some(Tree::Symbol(name)) if !is_indexed_operator(name.as_slice()) => {
-                Some(name.as_slice())
-            }
+        return Ok(match args.split_first() {
+            Some((Tree::Symbol(name), _)) if !is_indexed_operator(name) => Some(name),
             _ => None,
         });
     }
@@ -273,34 +293,55 @@ fn push_inner<'a>(
         return Ok(None);
     }
     if is_bang(head) {
-        if let Some((inner, _)) = split_first(args) {
+        if let Some((inner, _)) = args.split_first() {
             push_step(steps, Step::Term(inner))?;
         }
         return Ok(None);
     }
     match head {
-        Tree::Symbol(name) => push_step(steps, Step::Head(name.as_slice()))?,
+        Tree::Symbol(name) => push_step(steps, Step::Head(name))?,
         _ => push_step(steps, Step::Term(head))?,
     }
-    for arg in args.iter().rev() {
+    let before = steps.len();
+    let mut left = args;
+    for _ in 0..args.len() {
+        let Some((arg, rest)) = left.split_first() else {
+            break;
+        };
         push_step(steps, Step::Term(arg))?;
+        left = rest;
     }
+    reverse_from(steps, before);
     Ok(None)
 }
 
-fn push_let<'a>(steps: &mut Vec<Step<'a>>, seen: usize, args: &'a [Tree]) -> Result<(), Memory> {
+fn push_let<'a>(steps: &mut Vec<Step<'a>>, seen: usize, args: Trees<'a>) -> Result<(), Memory> {
     let Some((bindings, body)) = split_let(args) else {
         return Ok(());
     };
     push_step(steps, Step::Leave(seen))?;
     push_step(steps, Step::Term(body))?;
     push_step(steps, Step::Enter(bindings))?;
-    for binding in bindings.iter().rev() {
+    let before = steps.len();
+    let mut left = bindings;
+    for _ in 0..bindings.len() {
+        let Some((binding, rest)) = left.split_first() else {
+            break;
+        };
         if let Tree::List(parts) = binding
-            && let [_, term] = parts.as_slice()
+            && let Some((_, term)) = two_of(parts)
         {
             push_step(steps, Step::Term(term))?;
         }
+        left = rest;
     }
+    reverse_from(steps, before);
     Ok(())
+}
+
+// Turns round the steps from a place on: the one added last is on top, where the first has to be.
+fn reverse_from(steps: &mut Vec<Step<'_>>, place: usize) {
+    if let Some(added) = steps.as_mut_slice().get_mut(place..) {
+        added.reverse();
+    }
 }

@@ -7,7 +7,8 @@ use crate::show::{constant, put_name, text_of};
 use crate::walk::all_in;
 use crate::world::Defined;
 use smt_faults::Memory;
-use smt_trees::{Tree, Word, split_first};
+use smt_trees::Word;
+use smt_trees::view::{Tree, view_of};
 use smt_values::Value;
 use std::alloc::Global;
 
@@ -64,13 +65,19 @@ fn reason(
     let Tree::List(parts) = part.term else {
         return Ok(b"an integer below -2^127 or over 2^127 - 1");
     };
-    if let [Tree::Symbol(name), _, rest @ ..] = parts.as_slice()
-        && matches!(name.as_slice(), b"div" | b"mod")
+    if let Some((Tree::Symbol(name), args)) = parts.split_first()
+        && matches!(name, b"div" | b"mod")
+        && let Some((_, divisors)) = args.split_first()
     {
-        for divisor in rest {
+        let mut left = divisors;
+        for _ in 0..divisors.len() {
+            let Some((divisor, rest)) = left.split_first() else {
+                break;
+            };
             if value_in(over, work, bounds, part.scope, divisor)? == Some(Value::Int(0)) {
                 return Ok(b"a division by zero");
             }
+            left = rest;
         }
     }
     Ok(b"an integer below -2^127 or over 2^127 - 1")
@@ -79,7 +86,7 @@ fn reason(
 // A term whose value is to be written.
 #[derive(Clone, Copy)]
 struct Seen<'a> {
-    term: &'a Tree,
+    term: Tree<'a>,
     scope: usize,
 }
 
@@ -128,11 +135,16 @@ fn is_told(texts: &[Vec<u8>], text: &[u8]) -> bool {
 fn first_seen<'a>(part: Part<'a>, seen: &mut Vec<Seen<'a>>) -> Result<(), Memory> {
     match part.term {
         Tree::List(parts) => {
-            if let Some((_, args)) = split_first(parts.as_slice()) {
-                for arg in args {
+            if let Some((_, args)) = parts.split_first() {
+                let mut left = args;
+                for _ in 0..args.len() {
+                    let Some((arg, rest)) = left.split_first() else {
+                        break;
+                    };
                     if !is_literal(arg) {
                         push_seen(seen, arg, part.scope)?;
                     }
+                    left = rest;
                 }
             }
             Ok(())
@@ -145,16 +157,16 @@ fn first_seen<'a>(part: Part<'a>, seen: &mut Vec<Seen<'a>>) -> Result<(), Memory
 fn has_value(over: &Over<'_, '_>, bounds: &[Bound<'_>], seen: Seen<'_>) -> bool {
     match seen.term {
         Tree::Symbol(name) => {
-            find(bounds, seen.scope, name.as_slice()).is_some()
-                || match defined_at(over, name.as_slice()) {
+            find(bounds, seen.scope, name).is_some()
+                || match defined_at(over, name) {
                     Some((_, defined)) => defined.params.is_empty(),
                     None => false,
                 }
         }
         Tree::List(parts) => {
             !matches!(
-                parts.as_slice(),
-                [] | [Tree::Keyword(_) | Tree::Reserved(Word::Underscore), ..]
+                parts.split_first(),
+                None | Some((Tree::Keyword(_) | Tree::Reserved(Word::Underscore), _))
             )
         }
         _ => false,
@@ -175,7 +187,7 @@ fn tell_value<'a>(
     page.put(if any { b", " } else { b"    " })?;
     page.put_cut(text)?;
     if let Tree::Symbol(name) = next.term
-        && let Some(bound) = find(bounds, next.scope, name.as_slice())
+        && let Some(bound) = find(bounds, next.scope, name)
         && !is_literal(bound.term)
     {
         page.put(b" = ")?;
@@ -183,7 +195,8 @@ fn tell_value<'a>(
     }
     page.put(b" = ")?;
     if value.is_some() {
-        let text = text_of(over.alloc, &constant(over.alloc, &value)?)?;
+        let constant = constant(over.alloc, &value)?;
+        let text = text_of(over.alloc, view_of(&constant))?;
         page.put(text.as_slice())?;
     } else {
         page.put(b"open")?;
@@ -202,15 +215,15 @@ fn see_more<'a>(
     let Tree::Symbol(name) = next.term else {
         return see_names(over.alloc, next.term, next.scope, seen);
     };
-    if let Some(bound) = find(bounds, next.scope, name.as_slice()) {
+    if let Some(bound) = find(bounds, next.scope, name) {
         return see_behind(over, bound, seen, items);
     }
-    match defined_at(over, name.as_slice()) {
+    match defined_at(over, name) {
         Some((place, defined)) if defined.of_model => {
             items.push(place)?;
             Ok(())
         }
-        Some((_, defined)) => see_names(over.alloc, &defined.body, 0, seen),
+        Some((_, defined)) => see_names(over.alloc, view_of(&defined.body), 0, seen),
         None => Ok(()),
     }
 }
@@ -224,7 +237,7 @@ fn see_behind<'a>(
 ) -> Result<(), Memory> {
     if let Tree::Symbol(name) = bound.term
         && bound.term_scope == 0
-        && let Some((place, defined)) = defined_at(over, name.as_slice())
+        && let Some((place, defined)) = defined_at(over, name)
         && defined.of_model
     {
         items.push(place)?;
@@ -236,7 +249,7 @@ fn see_behind<'a>(
 // Adds the names in a term to the terms whose values are to be written.
 fn see_names<'a>(
     alloc: Global,
-    term: &'a Tree,
+    term: Tree<'a>,
     scope: usize,
     seen: &mut Vec<Seen<'a>>,
 ) -> Result<(), Memory> {
@@ -249,7 +262,7 @@ fn see_names<'a>(
     Ok(())
 }
 
-fn push_seen<'a>(seen: &mut Vec<Seen<'a>>, term: &'a Tree, scope: usize) -> Result<(), Memory> {
+fn push_seen<'a>(seen: &mut Vec<Seen<'a>>, term: Tree<'a>, scope: usize) -> Result<(), Memory> {
     if seen.len() >= MOST_VALUES {
         return Ok(());
     }

@@ -1,11 +1,11 @@
 //! The parts of a tree, without recursion. This file knows no term.
 
 use smt_faults::Memory;
-use smt_trees::{Tree, Trees};
+use smt_trees::view::{Tree, Trees};
 use std::alloc::Global;
 
 /// A tree and all trees in it, each before its own parts, from the left.
-pub(crate) fn all_in<'a>(alloc: Global, tree: &'a Tree) -> Result<Vec<&'a Tree>, Memory> {
+pub(crate) fn all_in<'a>(alloc: Global, tree: Tree<'a>) -> Result<Vec<Tree<'a>>, Memory> {
     let mut all = Vec::new(alloc);
     let mut left = Vec::new(alloc);
     push_tree(&mut left, tree)?;
@@ -16,14 +16,19 @@ pub(crate) fn all_in<'a>(alloc: Global, tree: &'a Tree) -> Result<Vec<&'a Tree>,
         };
         push_tree(&mut all, next)?;
         if let Tree::List(parts) = next {
-            push_last_first(&mut left, parts)?;
+            let before = left.len();
+            push_trees(&mut left, parts)?;
+            // (The part added last is on top, where the first has to be.)
+            if let Some(added) = left.as_mut_slice().get_mut(before..) {
+                added.reverse();
+            }
         }
     }
     Ok(all)
 }
 
 /// A tree and all trees in it, each after its own parts, from the left.
-pub(crate) fn all_inside_first<'a>(alloc: Global, tree: &'a Tree) -> Result<Vec<&'a Tree>, Memory> {
+pub(crate) fn all_inside_first<'a>(alloc: Global, tree: Tree<'a>) -> Result<Vec<Tree<'a>>, Memory> {
     let mut all = Vec::new(alloc);
     let mut left = Vec::new(alloc);
     push_tree(&mut left, tree)?;
@@ -33,25 +38,64 @@ pub(crate) fn all_inside_first<'a>(alloc: Global, tree: &'a Tree) -> Result<Vec<
         };
         push_tree(&mut all, next)?;
         if let Tree::List(parts) = next {
-            for part in parts.as_slice() {
-                push_tree(&mut left, part)?;
-            }
+            push_trees(&mut left, parts)?;
         }
     }
     all.as_mut_slice().reverse();
     Ok(all)
 }
 
-/// Adds a tree after the others.
-pub(crate) fn push_tree<'a>(trees: &mut Vec<&'a Tree>, tree: &'a Tree) -> Result<(), Memory> {
-    trees.push(tree)?;
+fn push_tree<'a>(trees: &mut Vec<Tree<'a>>, tree: Tree<'a>) -> Result<(), Memory> {
+    match trees.push(tree) {
+        Ok(()) => Ok(()),
+        Err(_) => Err(Memory),
+    }
+}
+
+// Adds trees after the others.
+fn push_trees<'a>(trees: &mut Vec<Tree<'a>>, parts: Trees<'a>) -> Result<(), Memory> {
+    let mut left = parts;
+    for _ in 0..parts.len() {
+        let Some((part, rest)) = left.split_first() else {
+            break;
+        };
+        push_tree(trees, part)?;
+        left = rest;
+    }
     Ok(())
 }
 
-// Adds trees after the others, the last of them first.
-fn push_last_first<'a>(left: &mut Vec<&'a Tree>, parts: &'a Trees) -> Result<(), Memory> {
-    for part in parts.as_slice().iter().rev() {
-        push_tree(left, part)?;
+/// The tree at a place, from 0.
+pub(crate) fn tree_at(trees: Trees<'_>, place: usize) -> Option<Tree<'_>> {
+    let mut left = trees;
+    for _ in 0..place {
+        let (_, rest) = left.split_first()?;
+        left = rest;
     }
-    Ok(())
+    let (tree, _) = left.split_first()?;
+    Some(tree)
+}
+
+/// The trees, where there are two.
+pub(crate) fn two_of(trees: Trees<'_>) -> Option<(Tree<'_>, Tree<'_>)> {
+    let (first, rest) = trees.split_first()?;
+    let (second, rest) = rest.split_first()?;
+    match rest.split_first() {
+        Some(_) => None,
+        None => Some((first, second)),
+    }
+}
+
+/// The trees, where there are three.
+pub(crate) fn three_of(trees: Trees<'_>) -> Option<(Tree<'_>, Tree<'_>, Tree<'_>)> {
+    let (first, rest) = trees.split_first()?;
+    let (second, third) = two_of(rest)?;
+    Some((first, second, third))
+}
+
+/// The trees, where there are four.
+pub(crate) fn four_of(trees: Trees<'_>) -> Option<(Tree<'_>, Tree<'_>, Tree<'_>, Tree<'_>)> {
+    let (first, rest) = trees.split_first()?;
+    let (second, third, fourth) = three_of(rest)?;
+    Some((first, second, third, fourth))
 }

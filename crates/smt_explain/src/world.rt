@@ -1,14 +1,16 @@
 //! The definitions that a model and a script give to names, as their trees. This file evaluates nothing.
 
+use crate::copies::copy_of;
 use crate::force::{Commands, Stand, has_label};
 use crate::pairs::Head;
 use crate::scan::{Place, Span, find_trees, part, text_at};
-use crate::walk::all_inside_first;
+use crate::walk::{all_inside_first, four_of, three_of};
 use smt_faults::{Memory, TextFault};
 use smt_forms::{ItemForm, NameSet, is_bang, item_form, label_at, split_named};
 use smt_text::read_trees;
 use smt_theory::{Sort, Width};
-use smt_trees::{Tree, split_first};
+use smt_trees as owned;
+use smt_trees::view::{Tree, Trees, view_of};
 use std::alloc::Global;
 
 /// A name that a model, a command or a label defines.
@@ -17,7 +19,7 @@ pub(crate) struct Defined {
     pub(crate) name: Vec<u8>,
     pub(crate) params: Vec<(Vec<u8>, Sort)>,
     pub(crate) result: Sort,
-    pub(crate) body: Tree,
+    pub(crate) body: owned::Tree,
     pub(crate) place: Place,
     pub(crate) of_model: bool,
 }
@@ -27,11 +29,11 @@ pub(crate) struct Defined {
 pub(crate) struct World {
     pub(crate) definitions: Vec<Defined>,
     /// The claim that is explained.
-    pub(crate) claim: Option<Tree>,
+    pub(crate) claim: Option<owned::Tree>,
 }
 
 /// The last tree of a text; `None` where the text has no tree or the reader refuses it.
-pub(crate) fn tree_of(alloc: Global, text: &[u8]) -> Result<Option<Tree>, Memory> {
+pub(crate) fn tree_of(alloc: Global, text: &[u8]) -> Result<Option<owned::Tree>, Memory> {
     match read_trees(alloc, text) {
         Ok(trees) => {
             let mut trees = trees.into_vec();
@@ -43,16 +45,16 @@ pub(crate) fn tree_of(alloc: Global, text: &[u8]) -> Result<Option<Tree>, Memory
 }
 
 /// The parts of a definition or of an item; `None` where a tree is neither.
-pub(crate) fn form_of(tree: &Tree) -> Option<ItemForm<'_>> {
+pub(crate) fn form_of(tree: Tree<'_>) -> Option<ItemForm<'_>> {
     let Tree::List(parts) = tree else {
         return None;
     };
-    match parts.as_slice() {
-        [Tree::Symbol(word), Tree::Symbol(name), sort, body]
-            if matches!(word.as_slice(), b"define-const") => {
+    match four_of(parts) {
+        Some((Tree::Symbol(word), Tree::Symbol(name), sort, body))
+            if matches!(word, b"define-const") => {
             Some(ItemForm {
-                name: name.as_slice(),
-                parameters: &[],
+                name,
+                parameters: Trees::of(&[]),
                 sort,
                 body,
             })
@@ -111,7 +113,10 @@ fn add_model(
     model: Span,
     own: &[Defined],
 ) -> Result<(), Memory> {
-    let Some(Tree::List(items)) = tree_of(alloc, text_at(answers, model))? else {
+    let Some(tree) = tree_of(alloc, text_at(answers, model))? else {
+        return Ok(());
+    };
+    let Tree::List(items) = view_of(&tree) else {
         return Ok(());
     };
     let mut defined = NameSet::new(alloc);
@@ -119,12 +124,17 @@ fn add_model(
         defined.insert(definition.name.as_slice())?;
     }
     let places = places_in(alloc, answers, model)?;
-    for (item, span) in items.as_slice().iter().zip(places.as_slice().iter()) {
+    let mut left = items;
+    for span in places.as_slice() {
+        let Some((item, rest)) = left.split_first() else {
+            break;
+        };
         if let Ok(form) = item_form(item)
             && !defined.contains(form.name)
         {
             add_form(alloc, world, &form, span.start, true)?;
         }
+        left = rest;
     }
     Ok(())
 }
@@ -147,9 +157,9 @@ fn add_command(
     let Some(tree) = tree_of(alloc, text)? else {
         return Ok(());
     };
-    match form_of(&tree) {
+    match form_of(view_of(&tree)) {
         Some(form) => add_form(alloc, world, &form, place, false),
-        None => add_labels(alloc, world, &tree, place),
+        None => add_labels(alloc, world, view_of(&tree), place),
     }
 }
 
@@ -170,7 +180,7 @@ fn add_form(
         left = rest;
     }
     let name = Vec::from_slice(alloc, form.name)?;
-    let body = form.body.copy(alloc)?;
+    let body = copy_of(alloc, form.body)?;
     world.definitions.push(Defined {
         name,
         params,
@@ -183,7 +193,12 @@ fn add_form(
 }
 
 // Adds the labels in a term; those inside an annotated term come before its own.
-fn add_labels(alloc: Global, world: &mut World, tree: &Tree, place: Place) -> Result<(), Memory> {
+fn add_labels(
+    alloc: Global,
+    world: &mut World,
+    tree: Tree<'_>,
+    place: Place,
+) -> Result<(), Memory> {
     let all = all_inside_first(alloc, tree)?;
     for part in all.as_slice() {
         if let Some((term, attributes)) = annotated(*part) {
@@ -201,20 +216,20 @@ fn add_labels(alloc: Global, world: &mut World, tree: &Tree, place: Place) -> Re
 }
 
 // The term and the attributes of an annotated term.
-fn annotated(tree: &Tree) -> Option<(&Tree, &[Tree])> {
+fn annotated(tree: Tree<'_>) -> Option<(Tree<'_>, Trees<'_>)> {
     let Tree::List(parts) = tree else {
         return None;
     };
-    let (head, rest) = split_first(parts.as_slice())?;
+    let (head, rest) = parts.split_first()?;
     if is_bang(head) {
-        split_first(rest)
+        rest.split_first()
     } else {
         None
     }
 }
 
 // The next label among attributes, and what follows its keyword.
-fn next_label(attributes: &[Tree]) -> Option<(&[u8], &[Tree])> {
+fn next_label(attributes: Trees<'_>) -> Option<(&[u8], Trees<'_>)> {
     let mut left = attributes;
     for _ in 0..attributes.len() {
         let (attribute, rest) = left.split_first()?;
@@ -230,11 +245,11 @@ fn add_label(
     alloc: Global,
     world: &mut World,
     name: &[u8],
-    term: &Tree,
+    term: Tree<'_>,
     place: Place,
 ) -> Result<(), Memory> {
     let name = Vec::from_slice(alloc, name)?;
-    let body = term.copy(alloc)?;
+    let body = copy_of(alloc, term)?;
     world.definitions.push(Defined {
         name,
         params: Vec::new(alloc),
@@ -247,17 +262,17 @@ fn add_label(
 }
 
 // The sort that a tree names; `Bool` for an abbreviation, whose sort no evaluation asks for.
-fn sort_of(tree: &Tree) -> Sort {
+fn sort_of(tree: Tree<'_>) -> Sort {
     match tree {
         Tree::Symbol(name) => {
-            if matches!(name.as_slice(), b"Int") {
+            if matches!(name, b"Int") {
                 Sort::Int
             } else {
                 Sort::Bool
             }
         }
-        Tree::List(parts) => match parts.as_slice() {
-            [_, _, Tree::Numeral(digits)] => bits_sort(digits.as_slice()),
+        Tree::List(parts) => match three_of(parts) {
+            Some((_, _, Tree::Numeral(digits))) => bits_sort(digits),
             _ => Sort::Bool,
         },
         _ => Sort::Bool,

@@ -3,26 +3,26 @@
 
 ghost use Rattle.std.specs.Prelude.{◌≡◌, ◌≤◌, ◌∷◌, [], false, None, MatchOption};
 ghost use Rattle.smt_trees.specs.Sexp.{Atom, Cons, Keyword, weight_all};
-ghost use Rattle.smt_trees.specs.Tree.{sexp_of, sexps_of};
+ghost use Rattle.smt_trees.specs.View.{sexp_of, sexps_of};
 ghost use Rattle.smt_forms.specs.Bindings as bindings;
 ghost use Rattle.smt_forms.specs.Bindings.{is_symbol_tree, go_on_behind};
 ghost use Rattle.smt_forms.specs.Internal.Attributes.{first_keyword, has_value, is_keyword_tree};
 ghost use Rattle.smt_forms.specs.Internal.Attributes.{is_label_tree};
 ghost use Rattle.smt_forms.specs.Labels.{label_of_tree};
 
-use smt_trees::{Tree, split_first};
+use smt_trees::view::{Tree, Trees};
 
 /// Whether these trees are the attributes of a term, of which there is at least one (SMT-LIB 2.6, section
 /// 3.6.5).
-pub fn are_attributes(trees: &[Tree]) -> bool
-    ensures { result ≡ bindings.are_attributes (sexps_of trees.now) }
+pub fn are_attributes(trees: Trees<'_>) -> bool
+    ensures { result ≡ bindings.are_attributes (sexps_of trees.entry) }
 {
-    split_first(trees).is_some() && go_on(trees)
+    trees.split_first().is_some() && go_on(trees)
 }
 
 // Whether all of these trees are attributes: keywords, each with a value or without one.
-fn go_on(trees: &[Tree]) -> bool
-    ensures { result ≡ bindings.go_on (sexps_of trees.now) }
+fn go_on(trees: Trees<'_>) -> bool
+    ensures { result ≡ bindings.go_on (sexps_of trees.entry) }
 {
     let mut left = trees;
     while let Some((keyword, rest)) = split_keyword(left) {
@@ -31,16 +31,16 @@ fn go_on(trees: &[Tree]) -> bool
         };
         left = behind;
     }
-    split_first(left).is_none()
+    left.split_first().is_none()
 }
 
 // The trees after an attribute of this keyword, by the trees after the keyword; `None` where a label has no
 // symbol.
-fn behind_attribute<'a>(keyword: &[u8], trees: &'a [Tree]) -> Option<&'a [Tree]>
-    ensures answer { MatchOption result (go_on_behind keyword.now (sexps_of trees.now) ≡ false)
-        (λ left. go_on_behind keyword.now (sexps_of trees.now) ≡ bindings.go_on (sexps_of left.now)) }
+fn behind_attribute<'a>(keyword: &[u8], trees: Trees<'a>) -> Option<Trees<'a>>
+    ensures answer { MatchOption result (go_on_behind keyword.now (sexps_of trees.entry) ≡ false)
+        (λ left. go_on_behind keyword.now (sexps_of trees.entry) ≡ bindings.go_on (sexps_of left)) }
     ensures lighter { MatchOption result (Unit {0})
-        (λ left. weight_all (sexps_of left.now) ≤ weight_all (sexps_of trees.now)) }
+        (λ left. weight_all (sexps_of left) ≤ weight_all (sexps_of trees.entry)) }
 {
     match split_value(trees) {
         Some((value, rest)) => {
@@ -59,23 +59,23 @@ fn behind_attribute<'a>(keyword: &[u8], trees: &'a [Tree]) -> Option<&'a [Tree]>
 }
 
 // The first of these trees if it is a keyword, and the trees after it.
-fn split_keyword(trees: &[Tree]) -> Option<(&[u8], &[Tree])>
-    ensures { MatchOption result (first_keyword (sexps_of trees.now) ≡ None)
-        (λ p. sexps_of trees.now ≡ Cons (Atom Keyword p.0.now) (sexps_of p.1.now)) }
+fn split_keyword(trees: Trees<'_>) -> Option<(&[u8], Trees<'_>)>
+    ensures { MatchOption result (first_keyword (sexps_of trees.entry) ≡ None)
+        (λ p. sexps_of trees.entry ≡ Cons (Atom Keyword p.0.now) (sexps_of p.1)) }
 {
-    let Some((Tree::Keyword(keyword), rest)) = split_first(trees) else {
+    let Some((Tree::Keyword(keyword), rest)) = trees.split_first() else {
         return None;
     };
-    Some((keyword.as_slice(), rest))
+    Some((keyword, rest))
 }
 
 // The first of these trees if it is no keyword, and the trees after it.
-fn split_value(trees: &[Tree]) -> Option<(&Tree, &[Tree])>
-    ensures { MatchOption result (has_value (sexps_of trees.now) ≡ false)
-        (λ p. (is_keyword_tree (sexp_of p.0.now) ≡ false)
-        × (sexps_of trees.now ≡ Cons (sexp_of p.0.now) (sexps_of p.1.now))) }
+fn split_value(trees: Trees<'_>) -> Option<(Tree<'_>, Trees<'_>)>
+    ensures { MatchOption result (has_value (sexps_of trees.entry) ≡ false)
+        (λ p. (is_keyword_tree (sexp_of p.0) ≡ false)
+        × (sexps_of trees.entry ≡ Cons (sexp_of p.0) (sexps_of p.1))) }
 {
-    let Some((value, rest)) = split_first(trees) else {
+    let Some((value, rest)) = trees.split_first() else {
         return None;
     };
     if is_keyword(value) {
@@ -86,24 +86,24 @@ fn split_value(trees: &[Tree]) -> Option<(&Tree, &[Tree])>
 
 /// The label that an attribute gives, if it is a label, by its first tree and the trees after it (SMT-LIB
 /// 2.6, section 3.6.5).
-pub fn label_at<'a>(tree: &Tree, rest: &'a [Tree]) -> Option<&'a [u8]>
-    ensures { MatchOption result (label_of_tree (sexp_of tree.now) (sexps_of rest.now) ≡ [])
-        (λ name. label_of_tree (sexp_of tree.now) (sexps_of rest.now) ≡ name.now ∷ []) }
+pub fn label_at<'a>(tree: Tree<'_>, rest: Trees<'a>) -> Option<&'a [u8]>
+    ensures { MatchOption result (label_of_tree (sexp_of tree.entry) (sexps_of rest.entry) ≡ [])
+        (λ name. label_of_tree (sexp_of tree.entry) (sexps_of rest.entry) ≡ name.now ∷ []) }
 {
     if !is_label_word(tree) {
         return None;
     }
-    match split_first(rest) {
-        Some((Tree::Symbol(name), _)) => Some(name.as_slice()),
+    match rest.split_first() {
+        Some((Tree::Symbol(name), _)) => Some(name),
         _ => None,
     }
 }
 
-fn is_label_word(tree: &Tree) -> bool
-    ensures { result ≡ is_label_tree (sexp_of tree.now) }
+fn is_label_word(tree: Tree<'_>) -> bool
+    ensures { result ≡ is_label_tree (sexp_of tree.entry) }
 {
     match tree {
-        Tree::Keyword(keyword) => is_label(keyword.as_slice()),
+        Tree::Keyword(keyword) => is_label(keyword),
         _ => false,
     }
 }
@@ -114,14 +114,14 @@ fn is_label(keyword: &[u8]) -> bool
     keyword == b"named".as_slice()
 }
 
-fn is_keyword(tree: &Tree) -> bool
-    ensures { result ≡ is_keyword_tree (sexp_of tree.now) }
+fn is_keyword(tree: Tree<'_>) -> bool
+    ensures { result ≡ is_keyword_tree (sexp_of tree.entry) }
 {
     matches!(tree, Tree::Keyword(_))
 }
 
-fn is_symbol(tree: &Tree) -> bool
-    ensures { result ≡ is_symbol_tree (sexp_of tree.now) }
+fn is_symbol(tree: Tree<'_>) -> bool
+    ensures { result ≡ is_symbol_tree (sexp_of tree.entry) }
 {
     matches!(tree, Tree::Symbol(_))
 }

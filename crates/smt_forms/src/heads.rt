@@ -1,29 +1,30 @@
 //! What a list is, by its head. This file looks at the first tree of a list alone.
 
 ghost use Rattle.std.specs.Prelude.{◌≡◌};
-ghost use Rattle.smt_trees.specs.Tree.{sexp_of};
+ghost use Rattle.smt_trees.specs.View.{sexp_of};
 ghost use Rattle.smt_forms.specs.Heads.{begins_indexed};
 ghost use Rattle.smt_forms.specs.Heads.{begins_annotated, begins_let};
 
-use smt_trees::{Tree, Word};
+use smt_trees::Word;
+use smt_trees::view::Tree;
 
 /// Whether a list with this head is an identifier with indexes (SMT-LIB 2.6, section 3.3).
-pub fn is_underscore(head: &Tree) -> bool
-    ensures { result ≡ begins_indexed (sexp_of head.now) }
+pub fn is_underscore(head: Tree<'_>) -> bool
+    ensures { result ≡ begins_indexed (sexp_of head.entry) }
 {
     matches!(head, Tree::Reserved(Word::Underscore))
 }
 
 /// Whether a list with this head is a `let` (SMT-LIB 2.6, section 3.6.1).
-pub fn is_let(head: &Tree) -> bool
-    ensures { result ≡ begins_let (sexp_of head.now) }
+pub fn is_let(head: Tree<'_>) -> bool
+    ensures { result ≡ begins_let (sexp_of head.entry) }
 {
     matches!(head, Tree::Reserved(Word::Let))
 }
 
 /// Whether a list with this head is an annotated term (SMT-LIB 2.6, section 3.6.5).
-pub fn is_bang(head: &Tree) -> bool
-    ensures { result ≡ begins_annotated (sexp_of head.now) }
+pub fn is_bang(head: Tree<'_>) -> bool
+    ensures { result ≡ begins_annotated (sexp_of head.entry) }
 {
     matches!(head, Tree::Reserved(Word::Bang))
 }

@@ -2,7 +2,7 @@
 
 ghost use Rattle.std.specs.Prelude.{◌≡◌, Some, None, map, is_some, ok_or, MatchOption};
 ghost use Rattle.smt_trees.specs.Sexp.{Items};
-ghost use Rattle.smt_trees.specs.Tree.{sexp_of, sexps_of};
+ghost use Rattle.smt_trees.specs.View.{sexp_of, sexps_of};
 ghost use Rattle.smt_theory.specs.Index.{index_view};
 ghost use Rattle.smt_forms.specs.Identifier as identifiers;
 ghost use Rattle.smt_forms.specs.Identifier.{all_indexes, applied, index_of_numeral, index_of_tree, indexed};
@@ -13,7 +13,8 @@ ghost use Rattle.smt_faults.specs.Outcome.{IsOutcome};
 
 use smt_faults::{TermFault, TermFlaw};
 use smt_theory::{Index, Op, OpFault, Theories, number, op_of};
-use smt_trees::{Tree, Trees, Word, split_first};
+use smt_trees::Word;
+use smt_trees::view::{Tree, Trees};
 use std::alloc::Global;
 
 /// An identifier, which borrows its names (SMT-LIB 2.6, section 3.3).
@@ -45,14 +46,14 @@ impl Identifier<'_> {
 /// that list.
 pub fn applied_identifier<'a>(
     alloc: Global,
-    head: &'a Tree,
-    args: &[Tree],
+    head: Tree<'a>,
+    args: Trees<'_>,
 ) -> Result<Identifier<'a>, TermFault>
-    ensures { IsOutcome identifier_view (applied (sexp_of head.now) (sexps_of args.now)) result }
+    ensures { IsOutcome identifier_view (applied (sexp_of head.entry) (sexps_of args.entry)) result }
 {
     match head {
-        Tree::Symbol(name) if split_first(args).is_some() => Ok(Identifier::Plain(name.as_slice())),
-        Tree::Reserved(word) => Err(TermFault::from(word_flaw(*word))),
+        Tree::Symbol(name) if args.split_first().is_some() => Ok(Identifier::Plain(name)),
+        Tree::Reserved(word) => Err(TermFault::from(word_flaw(word))),
         Tree::List(parts) => applied_list(alloc, parts, args),
         _ => Err(TermFault::Form),
     }
@@ -61,14 +62,14 @@ pub fn applied_identifier<'a>(
 // The identifier that is applied where the head is a list of these parts.
 fn applied_list<'a>(
     alloc: Global,
-    parts: &'a Trees,
-    args: &[Tree],
+    parts: Trees<'a>,
+    args: Trees<'_>,
 ) -> Result<Identifier<'a>, TermFault>
-    ensures { IsOutcome identifier_view (applied (Items parts.now) (sexps_of args.now)) result }
+    ensures { IsOutcome identifier_view (applied (Items (sexps_of parts.entry)) (sexps_of args.entry)) result }
 {
-    match split_first(parts.as_slice()) {
+    match parts.split_first() {
         Some((Tree::Reserved(Word::As), _)) => Err(TermFault::Unsupported),
-        Some((Tree::Reserved(Word::Underscore), rest)) if split_first(args).is_some() => {
+        Some((Tree::Reserved(Word::Underscore), rest)) if args.split_first().is_some() => {
             indexed_identifier(alloc, rest)
         }
         _ => Err(TermFault::Form),
@@ -76,30 +77,27 @@ fn applied_list<'a>(
 }
 
 /// The identifier `(_ symbol index ..)`, by the trees after the `_`; the fault is `Form`, or want of memory.
-pub fn indexed_identifier<'a>(alloc: Global, parts: &'a [Tree]) -> Result<Identifier<'a>, TermFault>
-    ensures { IsOutcome identifier_view (indexed (sexps_of parts.now)) result }
+pub fn indexed_identifier<'a>(alloc: Global, parts: Trees<'a>) -> Result<Identifier<'a>, TermFault>
+    ensures { IsOutcome identifier_view (indexed (sexps_of parts.entry)) result }
 {
-    let Some((Tree::Symbol(name), rest)) = split_first(parts) else {
+    let Some((Tree::Symbol(name), rest)) = parts.split_first() else {
         return Err(TermFault::Form);
     };
-    if split_first(rest).is_none() {
+    if rest.split_first().is_none() {
         return Err(TermFault::Form);
     }
     let indexes = indexes_of(alloc, rest)?;
-    Ok(Identifier::Indexed {
-        name: name.as_slice(),
-        indexes,
-    })
+    Ok(Identifier::Indexed { name, indexes })
 }
 
 // The indexes that these trees are, in order; the fault is `Form`, or want of memory.
-fn indexes_of<'a>(alloc: Global, trees: &'a [Tree]) -> Result<Vec<Index<'a>>, TermFault>
+fn indexes_of<'a>(alloc: Global, trees: Trees<'a>) -> Result<Vec<Index<'a>>, TermFault>
     ensures { IsOutcome (λ indexes. map index_view indexes.items)
-        (ok_or (all_indexes (sexps_of trees.now)) Form) result }
+        (ok_or (all_indexes (sexps_of trees.entry)) Form) result }
 {
     let mut indexes = Vec::new(alloc);
     let mut left = trees;
-    while let Some((tree, rest)) = split_first(left) {
+    while let Some((tree, rest)) = left.split_first() {
         let Some(index) = index_of(tree) else {
             return Err(TermFault::Form);
         };
@@ -110,11 +108,11 @@ fn indexes_of<'a>(alloc: Global, trees: &'a [Tree]) -> Result<Vec<Index<'a>>, Te
 }
 
 /// Whether each of the trees is an index: a numeral or a symbol.
-pub fn are_indexes(trees: &[Tree]) -> bool
-    ensures { result ≡ is_some (all_indexes (sexps_of trees.now)) }
+pub fn are_indexes(trees: Trees<'_>) -> bool
+    ensures { result ≡ is_some (all_indexes (sexps_of trees.entry)) }
 {
     let mut left = trees;
-    while let Some((tree, rest)) = split_first(left) {
+    while let Some((tree, rest)) = left.split_first() {
         if index_of(tree).is_none() {
             return false;
         }
@@ -124,13 +122,13 @@ pub fn are_indexes(trees: &[Tree]) -> bool
 }
 
 // The index that a tree is: a numeral or a symbol.
-fn index_of(tree: &Tree) -> Option<Index<'_>>
-    ensures { MatchOption result (index_of_tree (sexp_of tree.now) ≡ None)
-        (λ index. index_of_tree (sexp_of tree.now) ≡ Some (index_view index)) }
+fn index_of(tree: Tree<'_>) -> Option<Index<'_>>
+    ensures { MatchOption result (index_of_tree (sexp_of tree.entry) ≡ None)
+        (λ index. index_of_tree (sexp_of tree.entry) ≡ Some (index_view index)) }
 {
     match tree {
-        Tree::Numeral(digits) => Some(numeral_index(digits.as_slice())),
-        Tree::Symbol(name) => Some(Index::Name(name.as_slice())),
+        Tree::Numeral(digits) => Some(numeral_index(digits)),
+        Tree::Symbol(name) => Some(Index::Name(name)),
         _ => None,
     }
 }

@@ -2,9 +2,9 @@
 use Rattle.std.proofs.Common.{◌≡◌, ℕ, Bool, true, false, cond, None, Some, Option, Result, Ok, Err, refl, ap, sym, ◌∙◌}
 use Rattle.std.specs.Prelude.{MatchResult, ok_or, option_map}
 use Rattle.smt_trees.specs.Sexp.{Sexp, Sexps, Atom, Cons, Items, Nil, Reserved}
-use Rattle.smt_trees.specs.Tree.{sexp_of}
-use Rattle.smt_trees.specs.declared.tree.Tree.{Tree}
-use Rattle.smt_trees.specs.declared.tree.Tree.TheVariants as trees
+use Rattle.smt_trees.specs.View.{sexp_of}
+use Rattle.smt_trees.specs.declared.view.Tree.{Tree}
+use Rattle.smt_trees.specs.declared.view.Tree.TheVariants as trees
 use Rattle.smt_trees.specs.declared.reserved.Word.{Word}
 use Rattle.smt_trees.specs.declared.reserved.Word.TheVariants as words
 use Rattle.smt_theory.specs.declared.profile.Profile.{Profile}

@@ -4,15 +4,16 @@ ghost use Rattle.std.specs.Prelude.{◌≡◌};
 ghost use Rattle.smt_script.specs.Command as commands;
 ghost use Rattle.smt_script.specs.CommandView.{command_view};
 
-use smt_trees::{Bytes, Tree, Trees};
+use smt_trees::view::{Tree, Trees};
 
-/// A command (SMT-LIB 2.6, section 4.2). Names are without bars, and keywords without their colon.
-#[derive(Drop)]
-pub enum Command {
+/// A command, which borrows its parts (SMT-LIB 2.6, section 4.2). Names are without bars, and keywords without
+/// their colon.
+#[derive(Clone, Copy)]
+pub enum Command<'a> {
     /// `(set-logic name)` (section 4.2.1). Any name is kept: `Stack::apply` refuses a logic that is not
     /// supported.
     SetLogic {
-        name: Bytes,
+        name: &'a [u8],
     },
     /// `(set-option :print-success true)`, or `false` (section 4.1.7): whether the solver prints `success`.
     SetPrintSuccess {
@@ -26,57 +27,57 @@ pub enum Command {
     },
     /// `(set-option keyword value)` for any other option, with a value or without (section 4.1.7).
     SetOption {
-        keyword: Bytes,
-        value: Option<Tree>,
+        keyword: &'a [u8],
+        value: Option<Tree<'a>>,
     },
     /// `(set-info keyword value)`, with a value or without (section 4.2.9).
     SetInfo {
-        keyword: Bytes,
-        value: Option<Tree>,
+        keyword: &'a [u8],
+        value: Option<Tree<'a>>,
     },
     /// `(declare-const name sort)` (section 4.2.3).
     DeclareConst {
-        name: Bytes,
-        sort: Tree,
+        name: &'a [u8],
+        sort: Tree<'a>,
     },
     /// `(declare-fun name (sort ..) sort)` (section 4.2.3): `params` are the trees of the parameters' sorts.
     DeclareFun {
-        name: Bytes,
-        params: Trees,
-        sort: Tree,
+        name: &'a [u8],
+        params: Trees<'a>,
+        sort: Tree<'a>,
     },
     /// `(define-fun name ((x sort) ..) sort body)` (section 4.2.3): each of `params` is a list of a symbol
     /// and the tree of a sort.
     DefineFun {
-        name: Bytes,
-        params: Trees,
-        sort: Tree,
-        body: Tree,
+        name: &'a [u8],
+        params: Trees<'a>,
+        sort: Tree<'a>,
+        body: Tree<'a>,
     },
     /// `(define-const name sort body)`, only in the wide profile: a `define-fun` without parameters (SMT-LIB
     /// 2.7).
     DefineConst {
-        name: Bytes,
-        sort: Tree,
-        body: Tree,
+        name: &'a [u8],
+        sort: Tree<'a>,
+        body: Tree<'a>,
     },
     /// `(define-sort name () sort)` (section 4.2.3).
     DefineSort {
-        name: Bytes,
-        sort: Tree,
+        name: &'a [u8],
+        sort: Tree<'a>,
     },
     /// `(assert term)` (section 4.2.4).
     Assert {
-        term: Tree,
+        term: Tree<'a>,
     },
     /// `(push levels)` (section 4.2.2). `levels` are the decimal digits of the number of levels, of any
     /// length; `None` is `(push)`, one level, only in the wide profile.
     Push {
-        levels: Option<Bytes>,
+        levels: Option<&'a [u8]>,
     },
     /// `(pop levels)` (section 4.2.2), with `levels` as for `Push`.
     Pop {
-        levels: Option<Bytes>,
+        levels: Option<&'a [u8]>,
     },
     /// `(reset)` (section 4.2.1).
     Reset,
@@ -89,21 +90,21 @@ pub enum Command {
     /// `(check-sat-assuming (literal ..))` (section 4.2.5). Each literal is a symbol, or a list of the symbol
     /// `not` and a symbol; in the wide profile, any tree.
     CheckSatAssuming {
-        literals: Trees,
+        literals: Trees<'a>,
     },
     /// `(get-model)` (section 4.2.6).
     GetModel,
     /// `(echo "text")` (section 4.2.8).
     Echo {
-        text: Bytes,
+        text: &'a [u8],
     },
     /// Any other command that asks for something.
     Get {
-        query: Query,
+        query: Query<'a>,
     },
 }
 
-impl Command {
+impl Command<'_> {
     /// The kind of the command.
     pub fn kind(&self) -> Kind
         ensures { result ≡ commands.kind_of (command_view self.now) }
@@ -155,14 +156,14 @@ pub enum Kind {
 }
 
 /// What a solver is asked for other than models (SMT-LIB 2.6, sections 4.2.4 to 4.2.8).
-#[derive(Drop)]
-pub enum Query {
+#[derive(Clone, Copy)]
+pub enum Query<'a> {
     /// `(get-value (term ..))`, with one term or more, which are not checked.
-    Values { terms: Trees },
+    Values { terms: Trees<'a> },
     /// `(get-info keyword)`.
-    Info { keyword: Bytes },
+    Info { keyword: &'a [u8] },
     /// `(get-option keyword)`.
-    Setting { keyword: Bytes },
+    Setting { keyword: &'a [u8] },
     /// `(get-assertions)`.
     Assertions,
     /// `(get-assignment)`.

@@ -4,16 +4,13 @@
 ghost use Rattle.std.specs.Prelude.{◌≡◌, Some, Ok, Err, MatchResult, option_map, bytes_eq, if◌then◌else◌};
 ghost use Rattle.smt_theory.specs.declared.profile.Profile.TheVariants.{Base};
 ghost use Rattle.smt_trees.specs.Sexp.{Cons, Sexp, Sexps};
-ghost use Rattle.smt_trees.specs.Tree.{sexp_of, sexps_of};
+ghost use Rattle.smt_trees.specs.View.{sexp_of, sexps_of};
 ghost use Rattle.smt_script.specs.Command as commands;
 ghost use Rattle.smt_script.specs.CommandView.{command_view, levels_in, query_view};
-ghost use Rattle.smt_script.specs.Internal.PartsView.{parts_view};
 
-mod parts;
 mod shapes;
 
 use crate::command::{Command, Query};
-use crate::forms::parts::Parts;
 use crate::forms::shapes::{
     any_list, is_abbreviation, is_global_declarations, keyword_and_value, name_and_abbreviated,
     name_and_definition, name_and_rank, name_and_sort, name_and_two, numeral_or_none, one_keyword,
@@ -21,52 +18,56 @@ use crate::forms::shapes::{
 };
 use smt_faults::CommandFlaw;
 use smt_theory::Profile;
-use smt_trees::{Bytes, Tree, Trees, Word, split_first};
+use smt_trees::Word;
+use smt_trees::view::{Tree, Trees};
 
 /// The command that a tree is in a profile (SMT-LIB 2.6, section 4.2).
 ///
 /// The error is `Unsupported` for a list that begins with the name of an unsupported command, whatever
 /// follows, and for a `define-sort` with parameters. For every other tree that is no command it is `Form`.
-pub fn read_command(profile: Profile, tree: Tree) -> Result<Command, CommandFlaw>
+pub fn read_command<'a>(profile: Profile, tree: Tree<'a>) -> Result<Command<'a>, CommandFlaw>
     ensures { MatchResult result
-        (λ command. commands.command_of profile (sexp_of tree) ≡ Ok (command_view command))
-        (λ flaw. commands.command_of profile (sexp_of tree) ≡ Err flaw) }
+        (λ command. commands.command_of profile (sexp_of tree.entry) ≡ Ok (command_view command))
+        (λ flaw. commands.command_of profile (sexp_of tree.entry) ≡ Err flaw) }
 {
     let Tree::List(parts) = tree else {
         return Err(CommandFlaw::Form);
     };
-    let Some((head, rest)) = split_first(parts.as_slice()) else {
+    let Some((head, rest)) = parts.split_first() else {
         return Err(CommandFlaw::Form);
     };
     let Tree::Reserved(word) = head else {
-        return named_command(profile, parts);
+        return named_command(profile, head, rest);
     };
-    let word = *word;
-    let refusal = refusal(word, rest);
-    match command_with(profile, word, Parts::behind_first(parts)) {
+    match command_with(profile, word, rest) {
         Some(command) => Ok(command),
-        None => Err(refusal),
+        None => Err(refusal(word, rest)),
     }
 }
 
 // The command of a list that does not begin with a reserved word.
-fn named_command(profile: Profile, parts: Trees) -> Result<Command, CommandFlaw>
-    ensures { (head : Sexp) (rest : Sexps) → parts ≡ Cons head rest
-        → MatchResult result (λ command. commands.command_named profile head rest ≡ Some (command_view command))
-        (λ flaw. (commands.command_named profile head rest ≡ None) × (flaw ≡ CommandFlaw.Form)) }
+fn named_command<'a>(
+    profile: Profile,
+    head: Tree<'_>,
+    parts: Trees<'a>,
+) -> Result<Command<'a>, CommandFlaw>
+    ensures { MatchResult result
+        (λ command. commands.command_named profile (sexp_of head.entry) (sexps_of parts.entry)
+        ≡ Some (command_view command))
+        (λ flaw. (commands.command_named profile (sexp_of head.entry) (sexps_of parts.entry) ≡ None)
+        × (flaw ≡ CommandFlaw.Form)) }
 {
-    match split_first(parts.as_slice()) {
-        Some((head, _)) if is_constant_definition(profile, head) => {}
-        _ => return Err(CommandFlaw::Form),
+    if !is_constant_definition(profile, head) {
+        return Err(CommandFlaw::Form);
     }
-    match constant_defined(Parts::behind_first(parts)) {
+    match constant_defined(parts) {
         Some(command) => Ok(command),
         None => Err(CommandFlaw::Form),
     }
 }
 
-fn is_constant_definition(profile: Profile, head: &Tree) -> bool
-    ensures { result ≡ commands.is_constant_definition profile (sexp_of head.now) }
+fn is_constant_definition(profile: Profile, head: Tree<'_>) -> bool
+    ensures { result ≡ commands.is_constant_definition profile (sexp_of head.entry) }
 {
     match profile {
         Profile::Base => false,
@@ -74,16 +75,16 @@ fn is_constant_definition(profile: Profile, head: &Tree) -> bool
     }
 }
 
-fn constant_defined(parts: Parts) -> Option<Command>
-    ensures { option_map command_view result ≡ commands.constant_defined (parts_view parts) }
+fn constant_defined(parts: Trees<'_>) -> Option<Command<'_>>
+    ensures { option_map command_view result ≡ commands.constant_defined (sexps_of parts.entry) }
 {
     let (name, sort, body) = name_and_two(parts)?;
     Some(Command::DefineConst { name, sort, body })
 }
 
 // The command of this word with these parts after it.
-fn command_with(profile: Profile, word: Word, parts: Parts) -> Option<Command>
-    ensures { option_map command_view result ≡ commands.command_with profile word (parts_view parts) }
+fn command_with<'a>(profile: Profile, word: Word, parts: Trees<'a>) -> Option<Command<'a>>
+    ensures { option_map command_view result ≡ commands.command_with profile word (sexps_of parts.entry) }
 {
     match word {
         Word::SetLogic => Some(Command::SetLogic {
@@ -130,58 +131,58 @@ fn command_with(profile: Profile, word: Word, parts: Parts) -> Option<Command>
 }
 
 // A command without parts.
-fn alone(command: Command, parts: Parts) -> Option<Command>
-    ensures { option_map command_view result ≡ commands.alone (command_view command) (parts_view parts) }
+fn alone<'a>(command: Command<'a>, parts: Trees<'a>) -> Option<Command<'a>>
+    ensures { option_map command_view result ≡ commands.alone (command_view command.entry) (sexps_of parts.entry) }
 {
-    parts.is_empty().then_some(command)
+    parts.split_first().is_none().then_some(command)
 }
 
 // The setting of an option. The values of `:print-success` and `:global-declarations` have to be truth
 // values.
-fn option(parts: Parts) -> Option<Command>
-    ensures { option_map command_view result ≡ commands.command_with Base Word.SetOption (parts_view parts) }
+fn option(parts: Trees<'_>) -> Option<Command<'_>>
+    ensures { option_map command_view result ≡ commands.command_with Base Word.SetOption (sexps_of parts.entry) }
 {
     let (keyword, value) = keyword_and_value(parts)?;
-    if is_print_success(&keyword) {
-        let on = truth_of_value(&value)?;
+    if is_print_success(keyword) {
+        let on = truth_of_value(value)?;
         return Some(Command::SetPrintSuccess { on });
     }
-    if is_global_declarations(&keyword) {
-        let on = truth_of_value(&value)?;
+    if is_global_declarations(keyword) {
+        let on = truth_of_value(value)?;
         return Some(Command::SetGlobalDeclarations { on });
     }
     Some(Command::SetOption { keyword, value })
 }
 
-fn is_print_success(keyword: &Bytes) -> bool
+fn is_print_success(keyword: &[u8]) -> bool
     ensures { result ≡ commands.is_print_success keyword.now }
 {
-    keyword.as_slice() == b"print-success".as_slice()
+    keyword == b"print-success".as_slice()
 }
 
-fn info(parts: Parts) -> Option<Command>
-    ensures { option_map command_view result ≡ commands.command_with Base Word.SetInfo (parts_view parts) }
+fn info(parts: Trees<'_>) -> Option<Command<'_>>
+    ensures { option_map command_view result ≡ commands.command_with Base Word.SetInfo (sexps_of parts.entry) }
 {
     let (keyword, value) = keyword_and_value(parts)?;
     Some(Command::SetInfo { keyword, value })
 }
 
-fn constant(parts: Parts) -> Option<Command>
-    ensures { option_map command_view result ≡ commands.command_with Base Word.DeclareConst (parts_view parts) }
+fn constant(parts: Trees<'_>) -> Option<Command<'_>>
+    ensures { option_map command_view result ≡ commands.command_with Base Word.DeclareConst (sexps_of parts.entry) }
 {
     let (name, sort) = name_and_sort(parts)?;
     Some(Command::DeclareConst { name, sort })
 }
 
-fn function(parts: Parts) -> Option<Command>
-    ensures { option_map command_view result ≡ commands.command_with Base Word.DeclareFun (parts_view parts) }
+fn function(parts: Trees<'_>) -> Option<Command<'_>>
+    ensures { option_map command_view result ≡ commands.command_with Base Word.DeclareFun (sexps_of parts.entry) }
 {
     let (name, params, sort) = name_and_rank(parts)?;
     Some(Command::DeclareFun { name, params, sort })
 }
 
-fn definition(parts: Parts) -> Option<Command>
-    ensures { option_map command_view result ≡ commands.command_with Base Word.DefineFun (parts_view parts) }
+fn definition(parts: Trees<'_>) -> Option<Command<'_>>
+    ensures { option_map command_view result ≡ commands.command_with Base Word.DefineFun (sexps_of parts.entry) }
 {
     let (name, params, sort, body) = name_and_definition(parts)?;
     Some(Command::DefineFun {
@@ -192,24 +193,25 @@ fn definition(parts: Parts) -> Option<Command>
     })
 }
 
-fn abbreviation(parts: Parts) -> Option<Command>
-    ensures { option_map command_view result ≡ commands.command_with Base Word.DefineSort (parts_view parts) }
+fn abbreviation(parts: Trees<'_>) -> Option<Command<'_>>
+    ensures { option_map command_view result ≡ commands.command_with Base Word.DefineSort (sexps_of parts.entry) }
 {
     let (name, sort) = name_and_abbreviated(parts)?;
     Some(Command::DefineSort { name, sort })
 }
 
 // A command that asks for something other than a model.
-fn query(query: Query, parts: Parts) -> Option<Command>
+fn query<'a>(query: Query<'a>, parts: Trees<'a>) -> Option<Command<'a>>
     ensures { option_map command_view result
-        ≡ commands.alone (commands.Get (query_view query)) (parts_view parts) }
+        ≡ commands.alone (commands.Get (query_view query.entry)) (sexps_of parts.entry) }
 {
     alone(Command::Get { query }, parts)
 }
 
 // The digits of the number of levels; in the wide profile there may be none, for one level.
-fn levels_of(profile: Profile, parts: Parts) -> Option<Option<Bytes>>
-    ensures { option_map levels_in result ≡ commands.levels_of profile (parts_view parts) }
+fn levels_of<'a>(profile: Profile, parts: Trees<'a>) -> Option<Option<&'a [u8]>>
+    ensures { option_map (λ levels. levels_in (option_map (λ digits. digits.now) levels)) result
+        ≡ commands.levels_of profile (sexps_of parts.entry) }
 {
     match profile {
         Profile::Base => Some(Some(one_numeral(parts)?)),
@@ -217,17 +219,17 @@ fn levels_of(profile: Profile, parts: Parts) -> Option<Option<Bytes>>
     }
 }
 
-fn assuming(profile: Profile, parts: Parts) -> Option<Command>
+fn assuming<'a>(profile: Profile, parts: Trees<'a>) -> Option<Command<'a>>
     ensures { option_map command_view result
-        ≡ commands.command_with profile Word.CheckSatAssuming (parts_view parts) }
+        ≡ commands.command_with profile Word.CheckSatAssuming (sexps_of parts.entry) }
 {
     let literals = assumed_of(profile, parts)?;
     Some(Command::CheckSatAssuming { literals })
 }
 
 // The assumptions: literals, and in the wide profile any terms.
-fn assumed_of(profile: Profile, parts: Parts) -> Option<Trees>
-    ensures { result ≡ commands.assumed_of profile (parts_view parts) }
+fn assumed_of<'a>(profile: Profile, parts: Trees<'a>) -> Option<Trees<'a>>
+    ensures { option_map sexps_of result ≡ commands.assumed_of profile (sexps_of parts.entry) }
 {
     match profile {
         Profile::Base => one_list_of_literals(parts),
@@ -235,24 +237,24 @@ fn assumed_of(profile: Profile, parts: Parts) -> Option<Trees>
     }
 }
 
-fn asked_values(parts: Parts) -> Option<Command>
-    ensures { option_map command_view result ≡ commands.command_with Base Word.GetValue (parts_view parts) }
+fn asked_values(parts: Trees<'_>) -> Option<Command<'_>>
+    ensures { option_map command_view result ≡ commands.command_with Base Word.GetValue (sexps_of parts.entry) }
 {
     let terms = one_list(parts)?;
     let query = Query::Values { terms };
     Some(Command::Get { query })
 }
 
-fn asked_setting(parts: Parts) -> Option<Command>
-    ensures { option_map command_view result ≡ commands.command_with Base Word.GetOption (parts_view parts) }
+fn asked_setting(parts: Trees<'_>) -> Option<Command<'_>>
+    ensures { option_map command_view result ≡ commands.command_with Base Word.GetOption (sexps_of parts.entry) }
 {
     let keyword = one_keyword(parts)?;
     let query = Query::Setting { keyword };
     Some(Command::Get { query })
 }
 
-fn asked_info(parts: Parts) -> Option<Command>
-    ensures { option_map command_view result ≡ commands.command_with Base Word.GetInfo (parts_view parts) }
+fn asked_info(parts: Trees<'_>) -> Option<Command<'_>>
+    ensures { option_map command_view result ≡ commands.command_with Base Word.GetInfo (sexps_of parts.entry) }
 {
     let keyword = one_keyword(parts)?;
     let query = Query::Info { keyword };
@@ -260,8 +262,8 @@ fn asked_info(parts: Parts) -> Option<Command>
 }
 
 // What is wrong with a list that begins with this word, and is no command.
-fn refusal(word: Word, parts: &[Tree]) -> CommandFlaw
-    ensures { result ≡ commands.refusal word (sexps_of parts.now) }
+fn refusal(word: Word, parts: Trees<'_>) -> CommandFlaw
+    ensures { result ≡ commands.refusal word (sexps_of parts.entry) }
 {
     match word {
         Word::DeclareDatatype | Word::DeclareDatatypes => CommandFlaw::Unsupported,

@@ -5,7 +5,7 @@ use Rattle.std.proofs.Common.{append-nil, inl, inr}
 use Rattle.std.proofs.lemmas.List.{map-append}
 use Rattle.std.specs.Str.{bytes_eq}
 use Rattle.smt_trees.specs.Sexp.{Sexp}
-use Rattle.smt_trees.specs.Tree.{sexp_of}
+use Rattle.smt_trees.specs.View.{sexp_of}
 use Rattle.smt_theory.specs.Operators.{is_plain_operator}
 use Rattle.smt_theory.specs.Sort.{is_same_sort}
 use Rattle.smt_theory.specs.Words.{look_up, result_and_then}
@@ -74,14 +74,14 @@ none_of (Some r) h = cc
 
 -- labels that fit are new
 fit_are_new : (names : Names) (ranks : List (List ℕ × Rank)) (ks : List Label) → IsGivenList names.labels
-    → Leaves names ranks → AreFit names (map (λ k. (k.name.items, sexp_of k.body.now)) ks) → AreNew ranks ks
+    → Leaves names ranks → AreFit names (map (λ k. (k.name.items, sexp_of k.body)) ks) → AreNew ranks ks
 fit_are_new names ranks [] is leaves fits = tt
 fit_are_new names ranks (k ∷ ks) is leaves fits =
     let n =
     neither (is_some (look_up names.ranks k.name.items))
     (is_plain_operator names.theories k.name.items) fits.0.free in (
       leaves k.name.items (none_of (look_up names.ranks k.name.items) n.0) fits.0.new,
-      fit_are_new (behind ((k.name.items, sexp_of k.body.now) ∷ []) names)
+      fit_are_new (behind ((k.name.items, sexp_of k.body) ∷ []) names)
           (ranks ++ (k.name.items, rank_of_entry (label_entry k)) ∷ []) ks
           (IsGivenList-behind (k.name.items ∷ []) names.labels is)
           (leaves-push names names.labels ranks k.name.items (rank_of_entry (label_entry k)) is leaves)
@@ -109,11 +109,11 @@ given_are_new library labels given term sort view has same =
 -- ## What labels bring
 
 entries-sorted : (names : Names) (ks : List Label) → AreSorted names ks
-    → label_entries names (map (λ k. (k.name.items, sexp_of k.body.now)) ks) ≡ map label_entry ks
+    → label_entries names (map (λ k. (k.name.items, sexp_of k.body)) ks) ≡ map label_entry ks
 entries-sorted names [] h = refl
 entries-sorted names (k ∷ ks) h =
-    ap (λ r. label_or_none (k.name.items, sexp_of k.body.now) r
-    ++ label_entries names (map (λ l. (l.name.items, sexp_of l.body.now)) ks)) h.0 ∙ ap
+    ap (λ r. label_or_none (k.name.items, sexp_of k.body) r
+    ++ label_entries names (map (λ l. (l.name.items, sexp_of l.body)) ks)) h.0 ∙ ap
     (λ (es : List Entry). label_entry k ∷ es) (entries-sorted names ks h.1)
 
 -- what an asserted term brings by the labels that it gave
@@ -168,9 +168,9 @@ fits_named names t bodies c s (l ∷ ls) same longer fits named = (
     free = ap (λ ts. is_plain_operator ts l.name.items) (sym same)
         ∙ (neither (is_some (look_up names.ranks l.name.items))
         (is_plain_operator names.theories l.name.items) fits.0.free).1;
-    named = denotes_kept t (terms_under bodies c) longer [] 0 0 l.node (sexp_of l.body.now) named.0;
+    named = denotes_kept t (terms_under bodies c) longer [] 0 0 l.node (sexp_of l.body) named.0;
   },
-  fits_named (behind ((l.name.items, sexp_of l.body.now) ∷ []) names) t bodies c s ls same longer fits.1 named.1,
+  fits_named (behind ((l.name.items, sexp_of l.body) ∷ []) names) t bodies c s ls same longer fits.1 named.1,
 )
 
 -- those of an assertion, over the bodies with their own
@@ -224,7 +224,7 @@ pub fit_longer : (bodies : Bodies) (c d : Contents) (s t : Signature) (l : Label
     → IsFitUnder bodies d t l
 fit_longer bodies c d s t l same longer fits = record {
   free = ap (λ ts. is_plain_operator ts l.name.items) same ∙ fits.free;
-  named = denotes_kept (terms_under bodies c) (terms_under bodies d) longer [] 0 0 l.node (sexp_of l.body.now)
+  named = denotes_kept (terms_under bodies c) (terms_under bodies d) longer [] 0 0 l.node (sexp_of l.body)
       fits.named;
 }
 

@@ -2,8 +2,7 @@
 use Rattle.std.proofs.Common.{◌≡◌, ℕ, true, false, List, [], ◌∷◌, ◌++◌, Option, Some, None, is_some}
 use Rattle.std.proofs.Common.{Result, Ok, Err, refl, sym, ap, ◌∙◌, append_assoc, append-nil, inl, inr, length, arith}
 use Rattle.smt_trees.specs.Sexp.{Sexp, Sexps, Reserved, Items, Cons, Nil, count}
-use Rattle.smt_trees.specs.Tree.{sexps_of}
-use Rattle.smt_trees.specs.declared.tree.Tree.{Tree}
+use Rattle.smt_trees.specs.View.{sexps_of}
 use Rattle.smt_trees.specs.declared.reserved.Word.TheVariants.{Bang, Let, Underscore}
 use Rattle.smt_theory.specs.Words.{look_up, result_and_then}
 use Rattle.smt_theory.specs.declared.sort.Sort.{Sort}
@@ -185,8 +184,3 @@ pub carried : {A : Type 0} (r : Result A TermFault) (s t : Result A TermFlaw) �
 carried (Ok v) s t e h = e ∙ h
 carried (Err f) s t e (inl m) = inl m
 carried (Err f) s t e (inr h) = inr (e ∙ h)
-
--- as many trees as S-expressions
-pub count-trees : (ts : List Tree) → count (sexps_of ts) ≡ length ts
-count-trees [] = refl
-count-trees (t ∷ ts) = omega (arith, count-trees ts)

@@ -5,7 +5,7 @@ use Rattle.std.proofs.lemmas.List.{append-nil, length-map}
 use Rattle.smt_nodes.specs.Node.{Row}
 use Rattle.smt_nodes.specs.Nodes.{rows_of}
 use Rattle.smt_trees.specs.Sexp.{Sexp}
-use Rattle.smt_trees.specs.Tree.{sexp_of}
+use Rattle.smt_trees.specs.View.{sexp_of}
 use Rattle.smt_theory.specs.declared.sort.Sort.{Sort}
 use Rattle.smt_forms.specs.Labels.{labels_in}
 use Rattle.smt_forms.specs.ScopeView.{scope_view}
@@ -52,7 +52,7 @@ checked_longer old now given rows bodies theories heads names more grown = recor
 
 -- labels with their terms
 abbrev pub given_as : List Label → List (List ℕ × Sexp)
-given_as given = map (λ l. (l.name.items, sexp_of l.body.now)) given
+given_as given = map (λ l. (l.name.items, sexp_of l.body)) given
 
 none_of : (given : List Label) → given_as given ≡ [] → given ≡ []
 none_of [] h = refl

@@ -6,7 +6,7 @@ use Rattle.std.specs.Option.{option_or}
 use Rattle.std.proofs.lemmas.List.{map-append}
 use Rattle.smt_trees.specs.Sexp.{Sexp, Sexps, Atom, Cons, Items, Keyword, Reserved}
 use Rattle.smt_trees.specs.declared.reserved.Word.TheVariants.{Bang, Let, Underscore}
-use Rattle.smt_trees.specs.Tree.{sexp_of}
+use Rattle.smt_trees.specs.View.{sexp_of}
 use Rattle.smt_theory.specs.Words.{look_up}
 use Rattle.smt_theory.specs.declared.sort.Sort.{Sort}
 use Rattle.smt_terms.specs.Checking.{flaw_of_label, flaw_of_labels, sort_applied, sort_in, sort_of_call, sort_of_plain}
@@ -41,7 +41,7 @@ Labelled = List (List ℕ × Sexp)
 
 names_of_terms : (ls : List Label)
     → map (λ l. l.name.items) ls
-    ≡ map (λ (p : List ℕ × Sexp). p.0) (map (λ l. (l.name.items, sexp_of l.body.now)) ls)
+    ≡ map (λ (p : List ℕ × Sexp). p.0) (map (λ l. (l.name.items, sexp_of l.body)) ls)
 names_of_terms [] = refl
 names_of_terms (l ∷ ls) = ap (λ xs. l.name.items ∷ xs) (names_of_terms ls)
 
@@ -124,20 +124,20 @@ AreGivenOf-all names old new all left given none =
 -- ## One label
 
 AreSorted-push : (names : Names) (ls : List Label) (l : Label) → AreSorted names ls
-    → sort_in (unlabelled names) [] (sexp_of l.body.now) ≡ Ok l.sort → AreSorted names (ls ++ l ∷ [])
+    → sort_in (unlabelled names) [] (sexp_of l.body) ≡ Ok l.sort → AreSorted names (ls ++ l ∷ [])
 AreSorted-push names [] l h is = (is, tt)
 AreSorted-push names (k ∷ ls) l h is = (h.0, AreSorted-push names ls l h.1 is)
 
 -- a label of a term that has its sort
 pub AreGiven-push : (names : Names) (old new : Labels) (x : List ℕ) (sort : Sort) (term : Sexp) (l : Label)
     → new.refused ≡ old.refused → new.given.items ≡ old.given.items ++ l ∷ [] → l.name.items ≡ x
-    → l.sort ≡ sort → sexp_of l.body.now ≡ term
+    → l.sort ≡ sort → sexp_of l.body ≡ term
     → sort_in (unlabelled names) [] term ≡ Ok sort → AreGiven names old new ((x, term) ∷ [])
 AreGiven-push names old new x sort term l refused pushed named sorted is has = record {
   refused = refused;
-  given = ap (λ (ls : List Label). map (λ k. (k.name.items, sexp_of k.body.now)) ls) pushed ∙ map-append
-      (λ (k : Label). (k.name.items, sexp_of k.body.now)) old.given.items (l ∷ [])
-      ∙ ap (λ p. given_terms old ++ p ∷ []) (ap (λ y. (y, sexp_of l.body.now)) named ∙ ap (λ t. (x, t)) is);
+  given = ap (λ (ls : List Label). map (λ k. (k.name.items, sexp_of k.body)) ls) pushed ∙ map-append
+      (λ (k : Label). (k.name.items, sexp_of k.body)) old.given.items (l ∷ [])
+      ∙ ap (λ p. given_terms old ++ p ∷ []) (ap (λ y. (y, sexp_of l.body)) named ∙ ap (λ t. (x, t)) is);
   sorted = λ h. rw pushed (AreSorted-push names old.given.items l h
       (ap (λ t. sort_in (unlabelled names) [] t) is ∙ has ∙ ap (λ s. Ok s) (sym sorted)));
 }

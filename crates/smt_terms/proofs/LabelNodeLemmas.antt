@@ -2,7 +2,7 @@
 use Rattle.std.proofs.Common.{◌≡◌, ℕ, List, [], ◌∷◌, ◌++◌, map, append-nil, append_assoc, ap, sym, ◌∙◌, subst}
 use Rattle.std.proofs.lemmas.List.{map-append}
 use Rattle.smt_trees.specs.Sexp.{Sexp}
-use Rattle.smt_trees.specs.Tree.{sexp_of}
+use Rattle.smt_trees.specs.View.{sexp_of}
 use Rattle.smt_terms.specs.Denotes.{Denotes, Table}
 use Rattle.smt_terms.specs.Internal.NodesView.{nodes_given}
 use Rattle.smt_terms.specs.Internal.TableView.{AreNamed}
@@ -19,17 +19,17 @@ nodes_pushed old new l n more is =
     ∙ ap (λ (m : ℕ). nodes_given old ++ m ∷ []) is
 
 named-push : (t : Table) (ls : List Label) (l : Label) → AreNamed t ls
-    → Denotes t [] 0 0 l.node (sexp_of l.body.now) → AreNamed t (ls ++ l ∷ [])
+    → Denotes t [] 0 0 l.node (sexp_of l.body) → AreNamed t (ls ++ l ∷ [])
 named-push t [] l h d = (d, tt)
 named-push t (k ∷ ls) l h d = (h.0, named-push t ls l h.1 d)
 
 pub named_pushed : (old new : Labels) (l : Label) (n : ℕ) (term : Sexp) → new.given.items ≡ old.given.items ++ l ∷ []
-    → l.node ≡ n → sexp_of l.body.now ≡ term → (t : Table) → AreNamed t old.given.items
+    → l.node ≡ n → sexp_of l.body ≡ term → (t : Table) → AreNamed t old.given.items
     → Denotes t [] 0 0 n term → AreNamed t new.given.items
 named_pushed old new l n term more is same t h d =
     subst (λ (ls : List Label). AreNamed t ls) (sym more)
     (named-push t old.given.items l h
-    (subst (λ (m : ℕ). Denotes t [] 0 0 m (sexp_of l.body.now)) (sym is)
+    (subst (λ (m : ℕ). Denotes t [] 0 0 m (sexp_of l.body)) (sym is)
     (subst (λ (s : Sexp). Denotes t [] 0 0 n s) (sym same) d)))
 
 -- ## Labels of one term

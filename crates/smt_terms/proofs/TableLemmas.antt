@@ -2,7 +2,7 @@
 use Rattle.std.proofs.Common.{◌≡◌, ◌<◌, ◌-◌, ℕ, map, List, [], ◌∷◌, ◌++◌, length, append-nil, append_assoc, refl, ap, sym}
 use Rattle.std.proofs.Common.{◌∙◌, subst, arith}
 use Rattle.std.proofs.lemmas.List.{length-append, map-append}
-use Rattle.smt_trees.specs.Tree.{sexp_of}
+use Rattle.smt_trees.specs.View.{sexp_of}
 use Rattle.smt_nodes.specs.Node.{Row}
 use Rattle.smt_nodes.specs.Nodes.{rows_of}
 use Rattle.smt_theory.specs.Operators.{is_plain_operator}
@@ -73,7 +73,7 @@ body_stays t u longer (place.Defined n) h =
 pub named_kept : (t u : Table) → IsLonger t u → (ls : List Label) → AreNamed t ls → AreNamed u ls
 named_kept t u longer [] h = tt
 named_kept t u longer (l ∷ ls) h =
-    (denotes_kept t u longer [] 0 0 l.node (sexp_of l.body.now) h.0, named_kept t u longer ls h.1)
+    (denotes_kept t u longer [] 0 0 l.node (sexp_of l.body) h.0, named_kept t u longer ls h.1)
 
 -- ## Drafts that grow
 

@@ -9,7 +9,7 @@ use smt_faults::Memory;
 use smt_forms::NameSet;
 use smt_nodes::TermId;
 use smt_theory::Sort;
-use smt_trees::Tree;
+use smt_trees::view::Tree;
 use std::alloc::Global;
 use std::mem;
 
@@ -18,7 +18,7 @@ use std::mem;
 pub(crate) struct Label<'a> {
     pub(crate) name: Vec<u8>,
     pub(crate) sort: Sort,
-    pub(crate) body: &'a Tree,
+    pub(crate) body: Tree<'a>,
     pub(crate) node: TermId,
 }
 
@@ -33,7 +33,7 @@ pub(crate) struct Labels<'a> {
 
 impl<'a> Labels<'a> {
     ghost use Rattle.std.specs.Prelude.{◌≡◌, ◌++◌, ◌∷◌, [], OnErr, OnOk};
-    ghost use Rattle.smt_trees.specs.Tree.{sexp_of};
+    ghost use Rattle.smt_trees.specs.View.{sexp_of};
     ghost use Rattle.smt_terms.specs.Internal.LabelsView.{given_names, labels_view};
     ghost use Rattle.smt_terms.specs.Labels as spec;
     ghost use Rattle.smt_forms.specs.Variables.{is_among};
@@ -90,12 +90,12 @@ impl<'a> Labels<'a> {
         alloc: Global,
         name: &'a [u8],
         sort: Sort,
-        term: &'a Tree,
+        term: Tree<'a>,
         node: TermId,
     ) -> Result<(), Memory>
         ensures pushed { OnOk result
             ((l : Label) × (self.new.given.items ≡ self.old.given.items ++ l ∷ []) × (l.name.items ≡ name.now)
-            × (l.sort ≡ sort) × (sexp_of l.body.now ≡ sexp_of term.now) × (l.node ≡ node)) }
+            × (l.sort ≡ sort) × (sexp_of l.body ≡ sexp_of term.entry) × (l.node ≡ node)) }
         ensures unchanged { OnErr result (self.new.given.items ≡ self.old.given.items) }
         ensures refuses { self.new.refused ≡ self.old.refused }
     {

@@ -29,7 +29,7 @@ use smt_faults::{Memory, TermFault};
 use smt_names::NameMap;
 use smt_nodes::{Node, Nodes, TermId};
 use smt_theory::{Sort, Theories};
-use smt_trees::Tree;
+use smt_trees::view::{Tree, Trees};
 use std::alloc::Global;
 
 // The most names among which a search compares a name with each one.
@@ -107,7 +107,7 @@ impl Library {
     ghost use Rattle.smt_nodes.specs.Nodes.{rows_of};
     ghost use Rattle.smt_theory.specs.Operators.{is_plain_operator};
     ghost use Rattle.smt_trees.specs.Sexp.{Sexp};
-    ghost use Rattle.smt_trees.specs.Tree.{sexp_of, sexps_of};
+    ghost use Rattle.smt_trees.specs.View.{sexp_of, sexps_of};
     ghost use Rattle.smt_theory.specs.Words.{look_up};
     ghost use Rattle.smt_terms.specs.Checking.{sort_in};
     ghost use Rattle.smt_terms.specs.Contents.{Extends, contents_of, declaration_view};
@@ -203,14 +203,14 @@ impl Library {
         &mut self,
         command: u64,
         name: &[u8],
-        params: &[Tree],
-        sort: &Tree,
+        params: Trees<'_>,
+        sort: Tree<'_>,
     ) -> Result<(), TermFault>
         ensures declared { OnOk result ((s : Signature) → StandsFor self.old s → (e : signature.Entry)
-            × (declared_in s command name.now (sexps_of params.now) (sexp_of sort.now) ≡ Ok e)
+            × (declared_in s command name.now (sexps_of params.entry) (sexp_of sort.entry) ≡ Ok e)
             × StandsFor self.new (with_entry s e)) }
         ensures refused { IfErr result (λ fault. (s : Signature) → StandsFor self.old s
-            → Tells (declared_in s command name.now (sexps_of params.now) (sexp_of sort.now)) fault) }
+            → Tells (declared_in s command name.now (sexps_of params.entry) (sexp_of sort.entry)) fault) }
         ensures unchanged { OnErr result (IsUnchanged self.old self.new) }
         ensures restored { OnErr result (contents_of self.new ≡ contents_of self.old) }
         ensures grown { Extends (contents_of self.old) (contents_of self.new) }
@@ -228,12 +228,12 @@ impl Library {
     ///
     /// It refuses, in this order: a name that abbreviates a sort, `Bool` and `Int` (`NotFresh`); a tree that names
     /// no sort, with its fault. Then, and where memory is refused (`Memory`), nothing changes.
-    pub fn abbreviate(&mut self, name: &[u8], sort: &Tree) -> Result<(), TermFault>
+    pub fn abbreviate(&mut self, name: &[u8], sort: Tree<'_>) -> Result<(), TermFault>
         ensures abbreviated { OnOk result ((s : Signature) → StandsFor self.old s → (found : Sort)
-            × (abbreviated_in (sort_names_of s) name.now (sexp_of sort.now) ≡ Ok found)
+            × (abbreviated_in (sort_names_of s) name.now (sexp_of sort.entry) ≡ Ok found)
             × StandsFor self.new (with_abbreviation s name.now found)) }
         ensures refused { IfErr result (λ fault. (s : Signature) → StandsFor self.old s
-            → Tells (abbreviated_in (sort_names_of s) name.now (sexp_of sort.now)) fault) }
+            → Tells (abbreviated_in (sort_names_of s) name.now (sexp_of sort.entry)) fault) }
         ensures unchanged { OnErr result (IsUnchanged self.old self.new) }
         ensures restored { OnErr result (contents_of self.new ≡ contents_of self.old) }
         ensures grown { Extends (contents_of self.old) (contents_of self.new) }
@@ -245,11 +245,11 @@ impl Library {
     /// Checks a term without labels over the names (SMT-LIB 2.6, sections 3.6 and 5.2). It returns the number of the
     /// term's node and its sort, or its first fault; then nothing changes.
     #[tactic(auto, using(crate::proofs::ContentsLemmas::extends_itself))]
-    pub fn check(&mut self, term: &Tree) -> Result<(TermId, Sort), TermFault>
+    pub fn check(&mut self, term: Tree<'_>) -> Result<(TermId, Sort), TermFault>
         ensures answer { (s : Signature) → StandsFor self.old s
-            → MatchResult result (λ p. (sort_in (names_of s) [] (sexp_of term.now) ≡ Ok p.1)
-            × IsTermOf (contents_of self.new) p.0 (sexp_of term.now))
-            (λ fault. Tells (sort_in (names_of s) [] (sexp_of term.now)) fault) }
+            → MatchResult result (λ p. (sort_in (names_of s) [] (sexp_of term.entry) ≡ Ok p.1)
+            × IsTermOf (contents_of self.new) p.0 (sexp_of term.entry))
+            (λ fault. Tells (sort_in (names_of s) [] (sexp_of term.entry)) fault) }
         ensures kept { IsUnchanged self.old self.new }
         ensures restored { OnErr result (contents_of self.new ≡ contents_of self.old) }
         ensures grown { Extends (contents_of self.old) (contents_of self.new) }
@@ -345,9 +345,14 @@ impl Library {
     }
 
     // The declaration of the next name by the command of this number, or the first fault of a tree of a sort.
-    fn declaration(&self, command: u64, params: &[Tree], sort: &Tree) -> Result<Declared, TermFault>
+    fn declaration(
+        &self,
+        command: u64,
+        params: Trees<'_>,
+        sort: Tree<'_>,
+    ) -> Result<Declared, TermFault>
         ensures rank { IsOutcome (λ d. record { parameters = d.params.items; sort = d.result })
-            (rank_named (sort_names self.now.sorts) (sexps_of params.now) (sexp_of sort.now)) result }
+            (rank_named (sort_names self.now.sorts) (sexps_of params.entry) (sexp_of sort.entry)) result }
         ensures next { IfOk result (λ d. (d.command ≡ command) × (d.name ≡ name_count self.now)) }
     {
         let params = self.sorts.sorts_of(self.alloc, params)?;

@@ -2,7 +2,7 @@
 
 ghost use Rattle.std.specs.Prelude.{◌≡◌, ◌++◌, ◌∷◌, [], bytes_eq, Ok, Err, IfErr, OnErr, OnOk};
 ghost use Rattle.std.specs.Str.Parse.{digits_value};
-ghost use Rattle.smt_trees.specs.Tree.{sexp_of, sexps_of};
+ghost use Rattle.smt_trees.specs.View.{sexp_of, sexps_of};
 ghost use Rattle.smt_theory.specs.Sort.{is_same_sort};
 ghost use Rattle.smt_theory.specs.Width.{width_of};
 ghost use Rattle.smt_theory.specs.Words.{look_up};
@@ -16,7 +16,8 @@ use smt_faults::{TermFault, TermFlaw};
 use smt_forms::are_indexes;
 use smt_names::NameMap;
 use smt_theory::{Sort, Theories, Width, number};
-use smt_trees::{Tree, Word, split_first};
+use smt_trees::Word;
+use smt_trees::view::{Tree, Trees};
 use std::alloc::Global;
 
 /// The names of sorts: theories, and abbreviations (SMT-LIB 2.6, sections 3.5 and 4.2.3) in the order of their
@@ -43,24 +44,24 @@ impl SortNames {
 
     /// The sort that a tree names, or what is wrong with it: `Form`, `Unsupported` for a sort of the standard,
     /// `Unknown`, or `Index` for a width of bit vectors out of range.
-    pub(crate) fn sort_of(&self, tree: &Tree) -> Result<Sort, TermFlaw>
-        ensures { result ≡ sort_named (sort_names self.now) (sexp_of tree.now) }
+    pub(crate) fn sort_of(&self, tree: Tree<'_>) -> Result<Sort, TermFlaw>
+        ensures { result ≡ sort_named (sort_names self.now) (sexp_of tree.entry) }
     {
         match tree {
-            Tree::Symbol(name) => self.sort_of_symbol(name.as_slice()),
-            Tree::List(parts) => sort_of_list(self.theories, parts.as_slice()),
+            Tree::Symbol(name) => self.sort_of_symbol(name),
+            Tree::List(parts) => sort_of_list(self.theories, parts),
             _ => Err(TermFlaw::Form),
         }
     }
 
     /// The sorts that trees name, in order, or the first fault.
-    pub(crate) fn sorts_of(&self, alloc: Global, trees: &[Tree]) -> Result<Vec<Sort>, TermFault>
-        ensures { IsOutcome (λ found. found.items) (sorts_named (sort_names self.now) (sexps_of trees.now))
+    pub(crate) fn sorts_of(&self, alloc: Global, trees: Trees<'_>) -> Result<Vec<Sort>, TermFault>
+        ensures { IsOutcome (λ found. found.items) (sorts_named (sort_names self.now) (sexps_of trees.entry))
             result }
     {
         let mut found = Vec::new(alloc);
         let mut left = trees;
-        while let Some((tree, rest)) = split_first(left) {
+        while let Some((tree, rest)) = left.split_first() {
             found.push(self.sort_of(tree)?)?;
             left = rest;
         }
@@ -73,13 +74,13 @@ impl SortNames {
         &mut self,
         alloc: Global,
         name: &[u8],
-        tree: &Tree,
+        tree: Tree<'_>,
     ) -> Result<(), TermFault>
         ensures abbreviated { OnOk result
-            ((sort : Sort) × (abbreviated_in (sort_names self.old) name.now (sexp_of tree.now) ≡ Ok sort)
+            ((sort : Sort) × (abbreviated_in (sort_names self.old) name.now (sexp_of tree.entry) ≡ Ok sort)
             × (abbreviations_of self.new ≡ abbreviations_of self.old ++ (name.now, sort) ∷ [])) }
         ensures refused { IfErr result
-            (λ fault. Tells (abbreviated_in (sort_names self.old) name.now (sexp_of tree.now)) fault) }
+            (λ fault. Tells (abbreviated_in (sort_names self.old) name.now (sexp_of tree.entry)) fault) }
         ensures unchanged { OnErr result (abbreviations_of self.new ≡ abbreviations_of self.old) }
         ensures theories { self.new.theories ≡ self.old.theories }
     {
@@ -142,15 +143,15 @@ fn integers(theories: Theories) -> Result<Sort, TermFlaw>
 }
 
 // The sort that a list with these parts names.
-fn sort_of_list(theories: Theories, parts: &[Tree]) -> Result<Sort, TermFlaw>
-    ensures { result ≡ sorts.sort_of_list theories (sexps_of parts.now) }
+fn sort_of_list(theories: Theories, parts: Trees<'_>) -> Result<Sort, TermFlaw>
+    ensures { result ≡ sorts.sort_of_list theories (sexps_of parts.entry) }
 {
-    match split_first(parts) {
+    match parts.split_first() {
         Some((Tree::Reserved(Word::Underscore), rest)) => indexed_sort(theories, rest),
         Some((Tree::Symbol(name), rest)) => {
-            if is_named(name.as_slice(), b"Array") {
+            if is_named(name, b"Array") {
                 Err(TermFlaw::Unsupported)
-            } else if split_first(rest).is_some() {
+            } else if rest.split_first().is_some() {
                 Err(TermFlaw::Unknown)
             } else {
                 Err(TermFlaw::Form)
@@ -161,16 +162,16 @@ fn sort_of_list(theories: Theories, parts: &[Tree]) -> Result<Sort, TermFlaw>
 }
 
 // The sort `(_ symbol index ..)`, from the parts after the `_`.
-fn indexed_sort(theories: Theories, parts: &[Tree]) -> Result<Sort, TermFlaw>
-    ensures { result ≡ sorts.indexed_sort theories (sexps_of parts.now) }
+fn indexed_sort(theories: Theories, parts: Trees<'_>) -> Result<Sort, TermFlaw>
+    ensures { result ≡ sorts.indexed_sort theories (sexps_of parts.entry) }
 {
-    let Some((Tree::Symbol(name), rest)) = split_first(parts) else {
+    let Some((Tree::Symbol(name), rest)) = parts.split_first() else {
         return Err(TermFlaw::Form);
     };
     if !are_indexes(rest) {
         return Err(TermFlaw::Form);
     }
-    if is_named(name.as_slice(), b"BitVec") {
+    if is_named(name, b"BitVec") {
         bit_vector_sort(theories, rest)
     } else {
         Err(TermFlaw::Unknown)
@@ -178,12 +179,12 @@ fn indexed_sort(theories: Theories, parts: &[Tree]) -> Result<Sort, TermFlaw>
 }
 
 // The sort `(_ BitVec index ..)`, from its indexes.
-fn bit_vector_sort(theories: Theories, indexes: &[Tree]) -> Result<Sort, TermFlaw>
-    ensures { result ≡ sorts.bit_vector_sort theories (sexps_of indexes.now) }
+fn bit_vector_sort(theories: Theories, indexes: Trees<'_>) -> Result<Sort, TermFlaw>
+    ensures { result ≡ sorts.bit_vector_sort theories (sexps_of indexes.entry) }
 {
-    match split_first(indexes) {
-        Some((Tree::Numeral(digits), rest)) if split_first(rest).is_none() => {
-            bit_vectors(theories, numeral_width(digits.as_slice()))
+    match indexes.split_first() {
+        Some((Tree::Numeral(digits), rest)) if rest.split_first().is_none() => {
+            bit_vectors(theories, numeral_width(digits))
         }
         _ => Err(TermFlaw::Form),
     }

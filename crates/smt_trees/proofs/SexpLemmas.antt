@@ -1,7 +1,8 @@
 -- Trees built one by one, as S-expressions.
-use Rattle.std.proofs.Common.{◌≡◌, ℕ, ◌+◌, ◌<◌, List, [], ◌∷◌, ◌++◌, length, take, get_or, ap, sym, ◌∙◌}
+use Rattle.std.proofs.Common.{◌≡◌, ℕ, ◌+◌, ◌<◌, List, [], ◌∷◌, ◌++◌, length, take, get_or}
+use Rattle.std.proofs.Common.{ap, sym, ◌∙◌, refl, arith}
 use Rattle.std.proofs.lemmas.List.{take_more}
-use Rattle.smt_trees.specs.Sexp.{Sexp, Sexps, Nil, Cons, append}
+use Rattle.smt_trees.specs.Sexp.{Sexp, Sexps, Nil, Cons, append, count}
 use Rattle.smt_trees.specs.TreeJoins.{sexps_of-append}
 use Rattle.smt_trees.specs.Tree.{sexp_of, sexps_of}
 use Rattle.smt_trees.specs.declared.tree.Tree.{Tree}
@@ -14,3 +15,8 @@ sexps_of-take_more built xs i x y so_far in_range is same =
     sexps_of-append built (y ∷ []) ∙ ap (λ (zs : Sexps). append zs (Cons (sexp_of y) Nil)) so_far ∙ ap
     (λ (z : Sexp). append (sexps_of (take i xs)) (Cons z Nil)) (same ∙ ap sexp_of is)
     ∙ sym (sexps_of-append (take i xs) (get_or xs i x ∷ [])) ∙ ap sexps_of (sym (take_more xs i x in_range))
+
+-- as many trees as S-expressions
+pub count-trees : (ts : List Tree) → count (sexps_of ts) ≡ length ts
+count-trees [] = refl
+count-trees (t ∷ ts) = omega (arith, count-trees ts)

@@ -2,16 +2,15 @@
 
 ghost use Rattle.std.specs.Prelude.{◌≡◌, MatchOption};
 ghost use Rattle.smt_trees.specs.Sexp as sexp;
-ghost use Rattle.smt_trees.specs.Sexp.{Nil, Cons};
+ghost use Rattle.smt_trees.specs.Sexp.{Nil, Cons, count};
 ghost use Rattle.smt_trees.specs.Tree as owned;
-ghost use Rattle.smt_trees.specs.View.{sexp_of};
+ghost use Rattle.smt_trees.specs.View.{sexp_of, sexps_of};
 
 use crate::reserved::Word;
 use crate::tree;
-use std::marker::Model;
 
 /// An S-expression (SMT-LIB 2.6, section 3.2).
-#[derive(Drop)]
+#[derive(Clone, Copy)]
 pub enum Tree<'a> {
     /// The digits, without leading zeros.
     Numeral(&'a [u8]),
@@ -31,52 +30,52 @@ pub enum Tree<'a> {
     List(Trees<'a>),
 }
 
-/// S-expressions side by side. A contract sees them as the list of S-expressions that they are.
-#[derive(Drop)]
+/// S-expressions side by side.
+#[derive(Clone, Copy)]
 pub struct Trees<'a> {
     trees: &'a [tree::Tree],
-}
-
-impl<'a> Model for Trees<'a> {
-    ghost use Rattle.smt_trees.specs.Sexp.{Sexps};
-    ghost use Rattle.smt_trees.specs.Internal.SexpCode.{coded_sexps};
-    ghost use Rattle.smt_trees.specs.Tree.{sexps_of};
-
-    ghost Value = { Sexps };
-
-    ghost coded = { coded_sexps };
-
-    ghost view = { λ t. sexps_of t.trees.now };
 }
 
 impl<'a> Trees<'a> {
     /// These trees.
     #[inline(always)]
+    #[tactic(auto, unfolding(crate::specs::View::sexps_of))]
     pub fn of(trees: &'a [tree::Tree]) -> Trees<'a>
-        ensures { result ≡ owned.sexps_of trees.now }
+        ensures { sexps_of result ≡ owned.sexps_of trees.now }
     {
         Trees { trees }
     }
 
     /// The first of the trees and the trees after it; `None` where there are no trees.
     #[inline(always)]
-    pub fn split_first(&self) -> Option<(Tree<'a>, Trees<'a>)>
-        ensures { MatchOption result (self.now ≡ Nil) (λ p. self.now ≡ Cons (sexp_of p.0) p.1) }
+    #[tactic(auto, unfolding(crate::specs::View::sexps_of))]
+    pub fn split_first(self) -> Option<(Tree<'a>, Trees<'a>)>
+        ensures { MatchOption result (sexps_of self.entry ≡ Nil)
+            (λ p. sexps_of self.entry ≡ Cons (sexp_of p.0) (sexps_of p.1)) }
     {
         let Some((tree, rest)) = self.trees.split_first() else {
             return None;
         };
         Some((view_of(tree), Trees::of(rest)))
     }
+
+    /// How many trees there are.
+    #[inline(always)]
+    #[tactic(auto, unfolding(crate::specs::View::sexps_of))]
+    pub fn len(self) -> usize
+        ensures { result ≡ count (sexps_of self.entry) }
+    {
+        self.trees.len()
+    }
 }
 
 impl Tree<'_> {
     /// Whether the tree is the symbol of this name.
-    pub fn is_symbol(&self, name: &[u8]) -> bool
-        ensures { result ≡ sexp.is_symbol name.now (sexp_of self.now) }
+    pub fn is_symbol(self, name: &[u8]) -> bool
+        ensures { result ≡ sexp.is_symbol name.now (sexp_of self.entry) }
     {
         match self {
-            Tree::Symbol(symbol) => *symbol == name,
+            Tree::Symbol(symbol) => symbol == name,
             _ => false,
         }
     }

@@ -6,13 +6,14 @@ ghost use Rattle.smt_text.specs.Reader.{is_finished, bytes_fed};
 use crate::texts::writing;
 use smt_faults::TextFault;
 use smt_text::{Next, Reader, read_trees};
-use smt_trees::{Tree, Trees};
+use smt_trees::Tree;
+use smt_trees::view::Trees;
 use std::alloc::{AllocError, Global};
 
 /// The result of one call for a whole text.
 pub(crate) fn read_whole(alloc: Global, text: &[u8]) -> Result<Vec<u8>, AllocError> {
     match read_trees(alloc, text) {
-        Ok(trees) => writing::written(alloc, trees.as_slice(), None),
+        Ok(trees) => writing::written(alloc, Trees::of(trees.as_slice()), None),
         // (This call returned no trees before the fault: so they are read in pieces.)
         Err(_) => read_in_pieces(alloc, text, b"", b""),
     }
@@ -37,7 +38,7 @@ pub(crate) fn read_in_pieces(
     let _third = take(&mut reader, &mut trees)?;
     reader.finish();
     let fault = take(&mut reader, &mut trees)?;
-    writing::written(alloc, trees.as_slice(), fault)
+    writing::written(alloc, Trees::of(trees.as_slice()), fault)
 }
 
 // Takes out the trees that are ready, and returns the fault after them, if there is one.

@@ -3,13 +3,14 @@
 ghost use Rattle.std.specs.Prelude.{◌<◌};
 
 use smt_faults::TextFault;
-use smt_trees::{Bytes, Tree, Word, spelling, split_first};
+use smt_trees::view::{Tree, Trees};
+use smt_trees::{Word, spelling};
 use std::alloc::{AllocError, Global};
 
 /// Trees, with a space after each, and then the fault.
 pub(crate) fn written(
     alloc: Global,
-    trees: &[Tree],
+    trees: Trees<'_>,
     fault: Option<TextFault>,
 ) -> Result<Vec<u8>, AllocError> {
     let mut out = Vec::new(alloc);
@@ -19,8 +20,8 @@ pub(crate) fn written(
 }
 
 // Writes trees, with a space after each.
-fn write_trees(out: &mut Vec<u8>, trees: &[Tree]) -> Result<(), AllocError> {
-    let Some((tree, rest)) = split_first(trees) else {
+fn write_trees(out: &mut Vec<u8>, trees: Trees<'_>) -> Result<(), AllocError> {
+    let Some((tree, rest)) = trees.split_first() else {
         return Ok(());
     };
     match tree {
@@ -31,10 +32,10 @@ fn write_trees(out: &mut Vec<u8>, trees: &[Tree]) -> Result<(), AllocError> {
         Tree::Text(bytes) => write_atom(out, b't', bytes)?,
         Tree::Symbol(name) => write_atom(out, b's', name)?,
         Tree::Keyword(name) => write_atom(out, b'k', name)?,
-        Tree::Reserved(word) => write_word(out, *word)?,
+        Tree::Reserved(word) => write_word(out, word)?,
         Tree::List(parts) => {
             out.extend_from_slice(b"( ")?;
-            write_trees(out, parts.as_slice())?;
+            write_trees(out, parts)?;
             out.extend_from_slice(b") ")?;
         }
     }
@@ -61,10 +62,10 @@ fn write_word(out: &mut Vec<u8>, word: Word) -> Result<(), AllocError> {
     Ok(())
 }
 
-fn write_atom(out: &mut Vec<u8>, kind: u8, bytes: &Bytes) -> Result<(), AllocError> {
+fn write_atom(out: &mut Vec<u8>, kind: u8, bytes: &[u8]) -> Result<(), AllocError> {
     out.push(kind)?;
     out.push(b':')?;
-    for byte in bytes.as_slice() {
+    for byte in bytes {
         write_byte(out, *byte)?;
     }
     out.push(b' ')?;

@@ -13,51 +13,84 @@ use smt_faults::TermFlaw;
 use smt_forms::{item_form, params_of};
 use smt_terms::laws::held_terms_are_terms;
 use smt_terms::{Library, TermId};
-use smt_trees::{Tree, Trees};
+use smt_trees::Bytes;
+use smt_trees::view::{Tree, Trees};
 use smt_values::Value;
-use std::alloc::Global;
+use std::alloc::{AllocError, Global};
 
 /// Declares each name that a model defines. The number of its command is its place in the model, from 1.
-pub(crate) fn declare_items(alloc: Global, script: &mut Library, model: &Trees) -> Result<()>
+pub(crate) fn declare_items(alloc: Global, script: &mut Library, model: Trees<'_>) -> Result<()>
     requires { (s : Signature) × StandsFor script.old s }
     ensures { (s : Signature) × StandsFor script.new s }
 {
-    for (command, item) in (1..u64::MAX).zip(model.as_slice()) {
+    let mut left = model;
+    for command in 1..u64::MAX {
+        let Some((item, rest)) = left.split_first() else {
+            break;
+        };
         declare_item(alloc, script, command, item)?;
+        left = rest;
     }
     Ok(())
 }
 
-fn declare_item(alloc: Global, script: &mut Library, command: u64, item: &Tree) -> Result<()>
+fn declare_item(alloc: Global, script: &mut Library, command: u64, item: Tree<'_>) -> Result<()>
     ensures { (s : Signature) → StandsFor script.old s → (later : Signature) × StandsFor script.new later }
 {
     let Ok(form) = item_form(item) else {
         bail!("an item of the model is no definition");
     };
     let sorts = sorts_of(alloc, form.parameters)?;
-    match script.declare(command, form.name, sorts.as_slice(), form.sort) {
+    match script.declare(command, form.name, Trees::of(sorts.as_slice()), form.sort) {
         Ok(()) => Ok(()),
         Err(_) => bail!("a name that the model defines can't be declared"),
     }
 }
 
-// The trees of the sorts of parameters.
-fn sorts_of(alloc: Global, parameters: &[Tree]) -> Result<Vec<Tree>> {
+// Copies of the trees of the sorts of parameters.
+fn sorts_of(alloc: Global, parameters: Trees<'_>) -> Result<Vec<smt_trees::Tree>> {
     let Ok(params) = params_of(alloc, parameters) else {
         bail!("out of memory");
     };
     let mut sorts = Vec::new(alloc);
     for param in &params {
-        sorts.push(param.sort.copy(alloc)?)?;
+        sorts.push(copy_of(alloc, param.sort)?)?;
     }
     Ok(sorts)
+}
+
+// A copy of a tree, with memory of its own.
+#[cycle(copy)]
+fn copy_of(alloc: Global, tree: Tree<'_>) -> Result<smt_trees::Tree, AllocError> {
+    Ok(match tree {
+        Tree::Numeral(digits) => smt_trees::Tree::Numeral(Bytes::new(alloc, digits)?),
+        Tree::Decimal(text) => smt_trees::Tree::Decimal(Bytes::new(alloc, text)?),
+        Tree::Hex(digits) => smt_trees::Tree::Hex(Bytes::new(alloc, digits)?),
+        Tree::Bin(digits) => smt_trees::Tree::Bin(Bytes::new(alloc, digits)?),
+        Tree::Text(bytes) => smt_trees::Tree::Text(Bytes::new(alloc, bytes)?),
+        Tree::Symbol(name) => smt_trees::Tree::Symbol(Bytes::new(alloc, name)?),
+        Tree::Reserved(word) => smt_trees::Tree::Reserved(word),
+        Tree::Keyword(name) => smt_trees::Tree::Keyword(Bytes::new(alloc, name)?),
+        Tree::List(parts) => smt_trees::Tree::List(copies_of(alloc, parts)?),
+    })
+}
+
+#[cycle(copy)]
+fn copies_of(alloc: Global, trees: Trees<'_>) -> Result<smt_trees::Trees, AllocError> {
+    let mut copies = Vec::new(alloc);
+    let mut left = trees;
+    while let Some((tree, rest)) = left.split_first() {
+        copies.push(copy_of(alloc, tree)?)?;
+        left = rest;
+    }
+    Ok(smt_trees::Trees::new(copies))
 }
 
 /// The known value of a term, found by its node over a model that is read after the term; or the flaw of the term.
 pub(crate) fn known_by_node(
     script: &mut Library,
-    model: &Trees,
-    tree: &Tree,
+    model: Trees<'_>,
+    tree: Tree<'_>,
 ) -> Result<Result<Option<Value>, TermFlaw>>
     requires { (s : Signature) × StandsFor script.old s }
     ensures { (s : Signature) → StandsFor script.old s → StandsFor script.new s }
@@ -76,8 +109,8 @@ pub(crate) fn known_by_node(
 /// How many of the given steps are left after the evaluation of a term over a model; `None` where it costs more.
 pub(crate) fn left_of(
     script: &mut Library,
-    model: &Trees,
-    tree: &Tree,
+    model: Trees<'_>,
+    tree: Tree<'_>,
     steps: u64,
 ) -> Result<Option<u64>>
     requires stands { (s : Signature) × StandsFor script.old s }
@@ -98,7 +131,7 @@ pub(crate) fn left_of(
 // The known value of a term over a model; `None` for a term that costs more steps than are left.
 fn known_over(
     script: &Library,
-    model: &Trees,
+    model: Trees<'_>,
     term: TermId,
     left: &mut u64,
 ) -> Result<Option<Option<Value>>>

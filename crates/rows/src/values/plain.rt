@@ -4,24 +4,26 @@ use smt_eval::Memory;
 use smt_eval::plain::Definition;
 use smt_forms::{ItemForm, item_form};
 use smt_terms::{Definition as Defined, Library};
-use smt_trees::Trees;
+use smt_trees::view::Trees;
 use std::alloc::Global;
 
 /// The definitions of a model with their bodies as trees, which a library of them does not keep.
 pub(crate) fn plain_definitions<'a>(
     alloc: Global,
     library: &'a Library,
-    model: &'a Trees,
+    model: Trees<'a>,
 ) -> Result<Vec<Definition<'a>>, Memory> {
     let mut definitions = Vec::new(alloc);
     let mut left = library.definitions();
-    for item in model.as_slice() {
+    let mut items = model;
+    while let Some((item, behind)) = items.split_first() {
         if let Ok(form) = item_form(item)
             && let Some((defined, rest)) = left.split_first()
         {
             push_definition(&mut definitions, defined, &form)?;
             left = rest;
         }
+        items = behind;
     }
     Ok(definitions)
 }

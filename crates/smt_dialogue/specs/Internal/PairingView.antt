@@ -6,11 +6,11 @@ use Rattle.smt_faults.specs.declared.text_flaw.TextFlaw.{TextFlaw}
 use Rattle.smt_text.specs.Grammar.{max_depth}
 use Rattle.smt_text.specs.Reader.{bytes_fed}
 use Rattle.smt_text.specs.Reading.{Reads}
-use Rattle.smt_trees.specs.Sexp.{Sexp, Sexps, Nil, Cons, count}
+use Rattle.smt_trees.specs.Sexp.{Sexps, Nil, Cons, count}
+use Rattle.smt_trees.specs.Tree.{sexp_of}
+use Rattle.smt_trees.specs.declared.tree.Tree.{Tree}
 use Rattle.smt_theory.specs.declared.profile.Profile.{Profile}
-use Rattle.smt_script.specs.Command.{command_of, is_check}
-use Rattle.smt_script.specs.CommandView.{command_view}
-use Rattle.smt_script.specs.declared.command.Command.{Command}
+use Rattle.smt_script.specs.Command.{Command, command_of, is_check}
 use Rattle.smt_script.specs.StackView.{profile_of, start_of}
 use Rattle.smt_dialogue.specs.FirstFault.{TextSoFar, turn_after}
 use Rattle.smt_dialogue.specs.FirstFault as first_fault
@@ -57,17 +57,18 @@ with_read side bytes text texts = record texts {
 abbrev pub queue_at : Side → Pairing → TreeQueue
 queue_at side x = of_side side x.script x.answers
 
--- the command in turn, if it was read, is the first of the trees that are left, and no `exit` came before it
-abbrev pub IsInTurn : Profile → Option Command → List Pair → (later left : Sexps) → Type 0
+-- the tree in turn, if there is one, is the first of the trees that are left, and a command; no `exit` came before it
+abbrev pub IsInTurn : Profile → Option Tree → List Pair → (later left : Sexps) → Type 0
 IsInTurn profile None pairs later left = later ≡ left
-IsInTurn profile (Some command) pairs later left =
-    (tree : Sexp) × (later ≡ Cons tree left) × (command_of profile tree ≡ Ok (command_view command))
+IsInTurn profile (Some tree) pairs later left =
+    (command : Command) × (later ≡ Cons (sexp_of tree) left) × (command_of profile (sexp_of tree) ≡ Ok command)
     × (has_exited_after pairs ≡ false)
 
 -- what comes next closes every window: the command in turn is a check, or no command comes
-abbrev pub IsClosing : Option Command → Texts → Sexps → Type 0
-IsClosing (Some command) texts later = is_check (command_view command) ≡ true
-IsClosing None texts later = (later ≡ Nil) × (texts.script.fault ≡ None) × (texts.script.told ≡ true)
+abbrev pub IsClosing : Profile → Option Tree → Texts → Sexps → Type 0
+IsClosing profile (Some tree) texts later =
+    (command : Command) → command_of profile (sexp_of tree) ≡ Ok command → is_check command ≡ true
+IsClosing profile None texts later = (later ≡ Nil) × (texts.script.fault ≡ None) × (texts.script.told ≡ true)
 
 -- these pairs were taken up, and these trees and answers are left
 pub record IsUnderWay (x : Pairing) (texts : Texts) (pairs : List Pair) (later rest : Sexps) : Type 0 where
@@ -77,7 +78,7 @@ pub record IsUnderWay (x : Pairing) (texts : Texts) (pairs : List Pair) (later r
   pub answers_front : HasQueue x.answers texts.answers_bytes texts.answers rest
   pub early : Bool
   pub stands : Fits early (state_behind texts.taken x.dialogue) pairs
-  pub closing : early ≡ true → IsClosing x.command texts later
+  pub closing : early ≡ true → IsClosing (profile_of x.dialogue.stack) x.command texts later
   pub paired : ArePaired (start_of x.dialogue.stack) texts.script texts.answers pairs later rest
 
 -- the law that a text has no more trees than bytes
@@ -117,7 +118,7 @@ IsTurned turns.GoesOn old new texts pairs later rest =
     × (options_of new.dialogue ≡ options_of old.dialogue)
 IsTurned (turns.Waits closed) old new texts pairs later rest =
     IsUnderWay new texts pairs later rest × (turn_of old texts pairs later rest ≡ first_fault.Waits closed)
-    × (closed ≡ true → IsClosing new.command texts later)
+    × (closed ≡ true → IsClosing (profile_of new.dialogue.stack) new.command texts later)
 IsTurned (turns.Ends fault) old new texts pairs later rest =
     (early : Bool) × Fits early (state_behind texts.taken new.dialogue) pairs
     × (turn_of old texts pairs later rest ≡ first_fault.Ends fault)

@@ -2,7 +2,7 @@
 use Rattle.std.specs.Prelude.{◌≡◌, ℕ, ◌+◌, List, [], ◌∷◌, Option, Result, IfOk, map}
 use Rattle.std.specs.Borrow.{Bor}
 use Rattle.smt_trees.specs.Sexp.{weight}
-use Rattle.smt_trees.specs.Tree.{sexp_of}
+use Rattle.smt_trees.specs.View.{sexp_of}
 use Rattle.smt_values.specs.Element.{Element, known_element}
 use Rattle.smt_values.specs.declared.value.Value.{Value}
 use Rattle.smt_faults.specs.declared.memory.Memory.{Memory}
@@ -28,7 +28,7 @@ Gives known result = IfOk result (λ v. known_element v ≡ known)
 -- how much the bodies of definitions weigh
 abbrev pub bodies_weight : List Definition → ℕ
 bodies_weight [] = 0
-bodies_weight (d ∷ ds) = weight (sexp_of d.body.now) + bodies_weight ds
+bodies_weight (d ∷ ds) = weight (sexp_of d.body) + bodies_weight ds
 
 abbrev pub seen_weight : Definitions → ℕ
 seen_weight over = bodies_weight over.seen.now

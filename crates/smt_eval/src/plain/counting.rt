@@ -2,7 +2,7 @@
 
 ghost use Rattle.std.specs.Prelude.{◌≡◌, ◌≤◌, ◌+◌, ◌++◌, bytes_eq, map, IfOk, OnOk, if◌then◌else◌};
 ghost use Rattle.smt_trees.specs.Sexp.{Cons, Items, Reserved};
-ghost use Rattle.smt_trees.specs.Tree.{sexp_of, sexps_of};
+ghost use Rattle.smt_trees.specs.View.{sexp_of, sexps_of};
 ghost use Rattle.smt_forms.specs.Bindings.{named_trees};
 ghost use Rattle.smt_forms.specs.Identifier.{applied};
 ghost use Rattle.smt_forms.specs.Variables.{is_among};
@@ -14,7 +14,8 @@ use smt_faults::Memory;
 use smt_forms::{Identifier, applied_identifier, split_let, split_named};
 use smt_terms::TermFault;
 use smt_theory::Sort;
-use smt_trees::{Tree, Trees, Word, split_first};
+use smt_trees::Word;
+use smt_trees::view::{Tree, Trees};
 use std::alloc::Global;
 
 /// Subtracts from `left` what a term costs over the definitions that it sees. The variables have these names.
@@ -22,15 +23,15 @@ use std::alloc::Global;
 pub(crate) fn count_term<'a>(
     over: Definitions<'_>,
     variables: &[&'a [u8]],
-    term: &'a Tree,
+    term: Tree<'a>,
     left: &mut u64,
 ) -> Result<(), Memory>
-    requires { cost_of (costs_seen over) (names_seen variables.now) (sexp_of term.now) ≤ left.old }
+    requires { cost_of (costs_seen over) (names_seen variables.now) (sexp_of term) ≤ left.old }
     ensures { OnOk result (left.new
-        + cost_of (costs_seen over.entry) (names_seen variables.now) (sexp_of term.now) ≡ left.old) }
+        + cost_of (costs_seen over.entry) (names_seen variables.now) (sexp_of term.entry) ≡ left.old) }
 {
     match term {
-        Tree::Symbol(name) => count_symbol(over, variables, name.as_slice(), left),
+        Tree::Symbol(name) => count_symbol(over, variables, name, left),
         Tree::List(parts) => count_list(over, variables, parts, left),
         Tree::Numeral(_) | Tree::Decimal(_) | Tree::Hex(_) | Tree::Bin(_) => {
             *left -= 1;
@@ -117,19 +118,19 @@ fn names_of(alloc: Global, params: &[(Vec<u8>, Sort)]) -> Result<Vec<&[u8]>, Mem
 fn count_list<'a>(
     over: Definitions<'_>,
     variables: &[&'a [u8]],
-    parts: &'a Trees,
+    parts: Trees<'a>,
     left: &mut u64,
 ) -> Result<(), Memory>
-    requires { cost_of (costs_seen over) (names_seen variables.now) (Items parts.now) ≤ left.old }
+    requires { cost_of (costs_seen over) (names_seen variables.now) (Items (sexps_of parts)) ≤ left.old }
     ensures { OnOk result (left.new
-        + cost_of (costs_seen over.entry) (names_seen variables.now) (Items parts.now) ≡ left.old) }
+        + cost_of (costs_seen over.entry) (names_seen variables.now) (Items (sexps_of parts.entry)) ≡ left.old) }
 {
-    let Some((head, args)) = split_first(parts.as_slice()) else {
+    let Some((head, args)) = parts.split_first() else {
         *left -= 1;
         return Ok(());
     };
     match head {
-        Tree::Reserved(word) => count_reserved(over, variables, *word, args, left),
+        Tree::Reserved(word) => count_reserved(over, variables, word, args, left),
         _ => count_call(over, variables, head, args, left),
     }
 }
@@ -140,13 +141,13 @@ fn count_reserved<'a>(
     over: Definitions<'_>,
     variables: &[&'a [u8]],
     word: Word,
-    args: &'a [Tree],
+    args: Trees<'a>,
     left: &mut u64,
 ) -> Result<(), Memory>
     requires { cost_of (costs_seen over) (names_seen variables.now)
-        (Items (Cons (Reserved word) (sexps_of args.now))) ≤ left.old }
+        (Items (Cons (Reserved word) (sexps_of args))) ≤ left.old }
     ensures { OnOk result (left.new + cost_of (costs_seen over.entry) (names_seen variables.now)
-        (Items (Cons (Reserved word) (sexps_of args.now))) ≡ left.old) }
+        (Items (Cons (Reserved word) (sexps_of args.entry))) ≡ left.old) }
 {
     *left -= 1;
     match word {
@@ -155,7 +156,7 @@ fn count_reserved<'a>(
             Some((bindings, body)) => count_let(over, variables, bindings, body, left),
             None => count_all(over, variables, args, left),
         },
-        Word::Bang => match split_first(args) {
+        Word::Bang => match args.split_first() {
             Some((term, _)) => count_term(over, variables, term, left),
             None => Ok(()),
         },
@@ -168,17 +169,17 @@ fn count_reserved<'a>(
 fn count_let<'a>(
     over: Definitions<'_>,
     variables: &[&'a [u8]],
-    bindings: &'a [Tree],
-    body: &'a Tree,
+    bindings: Trees<'a>,
+    body: Tree<'a>,
     left: &mut u64,
 ) -> Result<(), Memory>
-    requires { costs_bound (costs_seen over) (names_seen variables.now) (sexps_of bindings.now)
-        + cost_of (costs_seen over) (map (λ b. b.0) (named_trees (sexps_of bindings.now))
-        ++ names_seen variables.now) (sexp_of body.now) ≤ left.old }
+    requires { costs_bound (costs_seen over) (names_seen variables.now) (sexps_of bindings)
+        + cost_of (costs_seen over) (map (λ b. b.0) (named_trees (sexps_of bindings))
+        ++ names_seen variables.now) (sexp_of body) ≤ left.old }
     ensures { OnOk result (left.new
-        + (costs_bound (costs_seen over.entry) (names_seen variables.now) (sexps_of bindings.now)
-        + cost_of (costs_seen over.entry) (map (λ b. b.0) (named_trees (sexps_of bindings.now))
-        ++ names_seen variables.now) (sexp_of body.now)) ≡ left.old) }
+        + (costs_bound (costs_seen over.entry) (names_seen variables.now) (sexps_of bindings.entry)
+        + cost_of (costs_seen over.entry) (map (λ b. b.0) (named_trees (sexps_of bindings.entry))
+        ++ names_seen variables.now) (sexp_of body.entry)) ≡ left.old) }
 {
     let mut names = count_bound(over, variables, bindings, left)?;
     names.extend_from_slice(variables)?;
@@ -190,14 +191,14 @@ fn count_let<'a>(
 fn count_bound<'a>(
     over: Definitions<'_>,
     variables: &[&'a [u8]],
-    bindings: &'a [Tree],
+    bindings: Trees<'a>,
     left: &mut u64,
 ) -> Result<Vec<&'a [u8]>, Memory>
-    requires { costs_bound (costs_seen over) (names_seen variables.now) (sexps_of bindings.now) ≤ left.old }
+    requires { costs_bound (costs_seen over) (names_seen variables.now) (sexps_of bindings) ≤ left.old }
     ensures names { IfOk result (λ names.
-        names_seen names.items ≡ map (λ b. b.0) (named_trees (sexps_of bindings.now))) }
+        names_seen names.items ≡ map (λ b. b.0) (named_trees (sexps_of bindings.entry))) }
     ensures counted { OnOk result (left.new
-        + costs_bound (costs_seen over.entry) (names_seen variables.now) (sexps_of bindings.now)
+        + costs_bound (costs_seen over.entry) (names_seen variables.now) (sexps_of bindings.entry)
         ≡ left.old) }
 {
     let mut names = Vec::new(over.alloc);
@@ -215,15 +216,15 @@ fn count_bound<'a>(
 fn count_call<'a>(
     over: Definitions<'_>,
     variables: &[&'a [u8]],
-    head: &'a Tree,
-    args: &'a [Tree],
+    head: Tree<'a>,
+    args: Trees<'a>,
     left: &mut u64,
 ) -> Result<(), Memory>
-    requires { 1 + head_cost (costs_seen over) (applied (sexp_of head.now) (sexps_of args.now))
-        + costs_of (costs_seen over) (names_seen variables.now) (sexps_of args.now) ≤ left.old }
+    requires { 1 + head_cost (costs_seen over) (applied (sexp_of head) (sexps_of args))
+        + costs_of (costs_seen over) (names_seen variables.now) (sexps_of args) ≤ left.old }
     ensures { OnOk result (left.new
-        + (1 + head_cost (costs_seen over.entry) (applied (sexp_of head.now) (sexps_of args.now))
-        + costs_of (costs_seen over.entry) (names_seen variables.now) (sexps_of args.now)) ≡ left.old) }
+        + (1 + head_cost (costs_seen over.entry) (applied (sexp_of head.entry) (sexps_of args.entry))
+        + costs_of (costs_seen over.entry) (names_seen variables.now) (sexps_of args.entry)) ≡ left.old) }
 {
     *left -= 1;
     match applied_identifier(over.alloc, head, args) {
@@ -240,15 +241,15 @@ fn count_call<'a>(
 fn count_all<'a>(
     over: Definitions<'_>,
     variables: &[&'a [u8]],
-    terms: &'a [Tree],
+    terms: Trees<'a>,
     left: &mut u64,
 ) -> Result<(), Memory>
-    requires { costs_of (costs_seen over) (names_seen variables.now) (sexps_of terms.now) ≤ left.old }
+    requires { costs_of (costs_seen over) (names_seen variables.now) (sexps_of terms) ≤ left.old }
     ensures { OnOk result (left.new
-        + costs_of (costs_seen over.entry) (names_seen variables.now) (sexps_of terms.now) ≡ left.old) }
+        + costs_of (costs_seen over.entry) (names_seen variables.now) (sexps_of terms.entry) ≡ left.old) }
 {
     let mut rest = terms;
-    while let Some((term, more)) = split_first(rest) {
+    while let Some((term, more)) = rest.split_first() {
         count_term(over, variables, term, left)?;
         rest = more;
     }

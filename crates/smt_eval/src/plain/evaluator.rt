@@ -2,7 +2,7 @@
 
 ghost use Rattle.std.specs.Prelude.{◌≡◌, [], IfOk};
 ghost use Rattle.smt_trees.specs.Sexp.{Atom, Cons, Items, Reserved, Symbol};
-ghost use Rattle.smt_trees.specs.Tree.{sexp_of, sexps_of};
+ghost use Rattle.smt_trees.specs.View.{sexp_of, sexps_of};
 ghost use Rattle.smt_trees.specs.declared.reserved.Word.TheVariants.{Let};
 ghost use Rattle.smt_values.specs.Element.{known_elements};
 ghost use Rattle.smt_forms.specs.Identifier.{applied, indexed};
@@ -16,7 +16,8 @@ use smt_forms::{
     Variable, applied_identifier, find_variable, indexed_identifier, split_let, split_named,
 };
 use smt_terms::TermFault;
-use smt_trees::{Tree, Trees, Word, split_first};
+use smt_trees::Word;
+use smt_trees::view::{Tree, Trees};
 use smt_values::{Value, bin, hex, numeral};
 
 /// What is known of a term over the definitions that it sees. The variables have these values, the innermost
@@ -25,15 +26,15 @@ use smt_values::{Value, bin, hex, numeral};
 pub(crate) fn known_value<'a>(
     over: Definitions<'_>,
     scope: &[Variable<'a, Option<Value>>],
-    term: &'a Tree,
+    term: Tree<'a>,
 ) -> Result<Option<Value>, Memory>
-    ensures { Gives (known_of (meaning_of over.entry) (known_scope scope.now) (sexp_of term.now)) result }
+    ensures { Gives (known_of (meaning_of over.entry) (known_scope scope.now) (sexp_of term.entry)) result }
 {
     match term {
-        Tree::Symbol(name) => known_symbol(over, scope, name.as_slice()),
-        Tree::Numeral(digits) => Ok(numeral(digits.as_slice())),
-        Tree::Hex(digits) => Ok(hex(digits.as_slice())),
-        Tree::Bin(digits) => Ok(bin(digits.as_slice())),
+        Tree::Symbol(name) => known_symbol(over, scope, name),
+        Tree::Numeral(digits) => Ok(numeral(digits)),
+        Tree::Hex(digits) => Ok(hex(digits)),
+        Tree::Bin(digits) => Ok(bin(digits)),
         Tree::List(parts) => known_list(over, scope, parts),
         Tree::Decimal(_) | Tree::Text(_) => Ok(None),
         Tree::Keyword(_) | Tree::Reserved(_) => Ok(None),
@@ -60,15 +61,15 @@ fn known_symbol(
 fn known_list<'a>(
     over: Definitions<'_>,
     scope: &[Variable<'a, Option<Value>>],
-    parts: &'a Trees,
+    parts: Trees<'a>,
 ) -> Result<Option<Value>, Memory>
-    ensures { Gives (known_of (meaning_of over.entry) (known_scope scope.now) (Items parts.now)) result }
+    ensures { Gives (known_of (meaning_of over.entry) (known_scope scope.now) (Items (sexps_of parts.entry))) result }
 {
-    let Some((head, args)) = split_first(parts.as_slice()) else {
+    let Some((head, args)) = parts.split_first() else {
         return Ok(None);
     };
     match head {
-        Tree::Reserved(word) => known_reserved(over, scope, *word, args),
+        Tree::Reserved(word) => known_reserved(over, scope, word, args),
         _ => known_call(over, scope, head, args),
     }
 }
@@ -79,15 +80,15 @@ fn known_reserved<'a>(
     over: Definitions<'_>,
     scope: &[Variable<'a, Option<Value>>],
     word: Word,
-    args: &'a [Tree],
+    args: Trees<'a>,
 ) -> Result<Option<Value>, Memory>
     ensures { Gives (known_of (meaning_of over.entry) (known_scope scope.now)
-        (Items (Cons (Reserved word) (sexps_of args.now)))) result }
+        (Items (Cons (Reserved word) (sexps_of args.entry)))) result }
 {
     match word {
         Word::Underscore => known_indexed(over, args),
         Word::Let => known_let(over, scope, args),
-        Word::Bang => match split_first(args) {
+        Word::Bang => match args.split_first() {
             Some((term, _)) => known_value(over, scope, term),
             None => Ok(None),
         },
@@ -96,8 +97,8 @@ fn known_reserved<'a>(
 }
 
 // What is known of the identifier `(_ symbol index ..)`, by the parts after the `_`.
-fn known_indexed(over: Definitions<'_>, parts: &[Tree]) -> Result<Option<Value>, Memory>
-    ensures { Gives (known_by (indexed (sexps_of parts.now)) (λ f. meaning_of over.entry f [])) result }
+fn known_indexed(over: Definitions<'_>, parts: Trees<'_>) -> Result<Option<Value>, Memory>
+    ensures { Gives (known_by (indexed (sexps_of parts.entry)) (λ f. meaning_of over.entry f [])) result }
 {
     match indexed_identifier(over.alloc, parts) {
         Ok(identifier) => Ok(known_of_operator(identifier.operator(over.theories), &[])),
@@ -111,10 +112,10 @@ fn known_indexed(over: Definitions<'_>, parts: &[Tree]) -> Result<Option<Value>,
 fn known_let<'a>(
     over: Definitions<'_>,
     scope: &[Variable<'a, Option<Value>>],
-    args: &'a [Tree],
+    args: Trees<'a>,
 ) -> Result<Option<Value>, Memory>
     ensures { Gives (known_of (meaning_of over.entry) (known_scope scope.now)
-        (Items (Cons (Reserved Let) (sexps_of args.now)))) result }
+        (Items (Cons (Reserved Let) (sexps_of args.entry)))) result }
 {
     let Some((bindings, body)) = split_let(args) else {
         return Ok(None);
@@ -129,10 +130,10 @@ fn known_let<'a>(
 fn knowns_bound_by<'a>(
     over: Definitions<'_>,
     scope: &[Variable<'a, Option<Value>>],
-    bindings: &'a [Tree],
+    bindings: Trees<'a>,
 ) -> Result<Vec<Variable<'a, Option<Value>>>, Memory>
     ensures { IfOk result (λ variables. known_scope variables.items
-        ≡ knowns_bound (meaning_of over.entry) (known_scope scope.now) (sexps_of bindings.now)) }
+        ≡ knowns_bound (meaning_of over.entry) (known_scope scope.now) (sexps_of bindings.entry)) }
 {
     let mut variables = Vec::new(over.alloc);
     let mut left = bindings;
@@ -149,12 +150,12 @@ fn knowns_bound_by<'a>(
 fn known_call<'a>(
     over: Definitions<'_>,
     scope: &[Variable<'a, Option<Value>>],
-    head: &'a Tree,
-    args: &'a [Tree],
+    head: Tree<'a>,
+    args: Trees<'a>,
 ) -> Result<Option<Value>, Memory>
-    ensures { Gives (known_by (applied (sexp_of head.now) (sexps_of args.now))
+    ensures { Gives (known_by (applied (sexp_of head.entry) (sexps_of args.entry))
         (λ f. meaning_of over.entry f
-        (knowns_of (meaning_of over.entry) (known_scope scope.now) (sexps_of args.now)))) result }
+        (knowns_of (meaning_of over.entry) (known_scope scope.now) (sexps_of args.entry)))) result }
 {
     match applied_identifier(over.alloc, head, args) {
         Ok(identifier) => {
@@ -171,14 +172,14 @@ fn known_call<'a>(
 fn known_all<'a>(
     over: Definitions<'_>,
     scope: &[Variable<'a, Option<Value>>],
-    terms: &'a [Tree],
+    terms: Trees<'a>,
 ) -> Result<Vec<Option<Value>>, Memory>
     ensures { IfOk result (λ known. known_elements known.items
-        ≡ knowns_of (meaning_of over.entry) (known_scope scope.now) (sexps_of terms.now)) }
+        ≡ knowns_of (meaning_of over.entry) (known_scope scope.now) (sexps_of terms.entry)) }
 {
     let mut known = Vec::with_capacity(over.alloc, terms.len())?;
     let mut left = terms;
-    while let Some((term, rest)) = split_first(left) {
+    while let Some((term, rest)) = left.split_first() {
         known.push(known_value(over, scope, term)?)?;
         left = rest;
     }

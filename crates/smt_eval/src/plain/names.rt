@@ -3,7 +3,7 @@
 
 ghost use Rattle.std.specs.Prelude.{◌≡◌, ◌≤◌, ◌+◌, MatchOption, IfSome, List, Option};
 ghost use Rattle.smt_trees.specs.Sexp.{weight};
-ghost use Rattle.smt_trees.specs.Tree.{sexp_of};
+ghost use Rattle.smt_trees.specs.View.{sexp_of};
 ghost use Rattle.smt_values.specs.Element.{Element, known_element, known_elements};
 ghost use Rattle.smt_forms.specs.Identifier.{Plain};
 ghost use Rattle.smt_forms.specs.IdentifierView.{identifier_view};
@@ -96,7 +96,7 @@ pub(crate) fn last_named<'a>(
     ensures costs { MatchOption result (costs_after no_costs (entries_of definitions.now) name.now ≡ 0)
         (λ found. costs_after no_costs (entries_of definitions.now) name.now
         ≡ body_cost (costs_after no_costs (entries_of found.1.now)) (origin_of found.0.now)) }
-    ensures lighter { IfSome result (λ found. bodies_weight found.1.now + weight (sexp_of found.0.now.body.now)
+    ensures lighter { IfSome result (λ found. bodies_weight found.1.now + weight (sexp_of found.0.now.body)
         ≤ bodies_weight definitions.now) }
 {
     let mut count = definitions.len();

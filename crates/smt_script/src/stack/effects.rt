@@ -1,10 +1,10 @@
 //! What each command does to what is in force, and the fault of its effect. What levels do is in `levels`.
 //! This file gets the parts of a command, and does not know how the command was written.
 
-ghost use Rattle.std.specs.Prelude.{◌≡◌, ◌∷◌, ◌||◌, ℕ, List, [], None, IfErr, MatchResult, OnOk, OnErr};
+ghost use Rattle.std.specs.Prelude.{◌≡◌, ◌∷◌, ◌||◌, ℕ, List, [], None, IfErr, MatchResult, OnOk, OnErr, option_map};
 ghost use Rattle.std.specs.Str.Parse.{digits_value};
 ghost use Rattle.smt_trees.specs.Sexp.{Sexp};
-ghost use Rattle.smt_trees.specs.Tree.{sexp_of, sexps_of};
+ghost use Rattle.smt_trees.specs.View.{sexp_of, sexps_of};
 ghost use Rattle.smt_forms.specs.Bindings.{named_trees};
 ghost use Rattle.smt_script.specs.Command as commands;
 ghost use Rattle.smt_script.specs.Command.{SetLogic, DeclareConst, DeclareFun, DefineFun, DefineSort, Assert};
@@ -30,7 +30,7 @@ use smt_forms::params_of;
 use smt_terms::laws::{marks_are_kept, terms_are_kept};
 use smt_terms::{Library, TermId};
 use smt_theory::{Sort, theories_of};
-use smt_trees::{Bytes, Tree, split_first};
+use smt_trees::view::{Tree, Trees};
 use std::alloc::Global;
 
 // What a mark counts, and what each term is, stays the same when the contents grow.
@@ -43,7 +43,11 @@ fn contents_are_kept()
 
 impl Stack {
     // Makes the effect of a command, except for its notes; where the command is refused, nothing changes.
-    pub(super) fn try_effect(&mut self, number: u64, command: &Command) -> Result<(), CommandFault>
+    pub(super) fn try_effect(
+        &mut self,
+        number: u64,
+        command: &Command<'_>,
+    ) -> Result<(), CommandFault>
         ensures effect { OnOk result (HasEffect self.old self.new number (command_view command.now)) }
         ensures refused { IfErr result (λ fault. IsRefused self.old number (command_view command.now) fault) }
         ensures unchanged { OnErr result (IsUnchanged self.old self.new) }
@@ -65,7 +69,7 @@ impl Stack {
 
     // Makes the effect of a command, except for its notes. Where the command is refused, the library may hold
     // more.
-    fn take_effect(&mut self, number: u64, command: &Command) -> Result<(), CommandFault>
+    fn take_effect(&mut self, number: u64, command: &Command<'_>) -> Result<(), CommandFault>
         ensures effect { OnOk result (HasEffect self.old self.new number (command_view command.now)) }
         ensures refused { IfErr result (λ fault. IsRefused self.old number (command_view command.now) fault) }
         ensures unchanged { OnErr result (HasMore self.old self.new) }
@@ -76,28 +80,24 @@ impl Stack {
     {
         contents_are_kept();
         match command {
-            Command::SetLogic { name } => self.set_logic(name.as_slice()),
-            Command::DeclareConst { name, sort } => self.declare_const(
-                number,
-                name.as_slice(),
-                sort,
-            ),
+            Command::SetLogic { name } => self.set_logic(*name),
+            Command::DeclareConst { name, sort } => self.declare_const(number, *name, *sort),
             Command::DeclareFun { name, params, sort } => {
-                self.declare_fun(number, name.as_slice(), params.as_slice(), sort)
+                self.declare_fun(number, *name, *params, *sort)
             }
             Command::DefineFun {
                 name,
                 params,
                 sort,
                 body,
-            } => self.define(name.as_slice(), params.as_slice(), sort, body),
+            } => self.define(*name, *params, *sort, *body),
             Command::DefineConst { name, sort, body } => {
-                self.define(name.as_slice(), &[], sort, body)
+                self.define(*name, Trees::of(&[]), *sort, *body)
             }
-            Command::DefineSort { name, sort } => self.define_sort(name.as_slice(), sort),
-            Command::Assert { term } => self.assert(number, term),
-            Command::Push { levels } => self.push(digits_of(levels)),
-            Command::Pop { levels } => self.pop(digits_of(levels)),
+            Command::DefineSort { name, sort } => self.define_sort(*name, *sort),
+            Command::Assert { term } => self.assert(number, *term),
+            Command::Push { levels } => self.push(digits_of(*levels)),
+            Command::Pop { levels } => self.pop(digits_of(*levels)),
             Command::Reset => self.reset(),
             Command::ResetAssertions => self.reset_assertions(),
             Command::SetPrintSuccess { .. } => Ok(()),
@@ -106,7 +106,7 @@ impl Stack {
             Command::SetInfo { .. } => Ok(()),
             Command::Exit => Ok(()),
             Command::CheckSat => Ok(()),
-            Command::CheckSatAssuming { literals } => self.assume(literals.as_slice()),
+            Command::CheckSatAssuming { literals } => self.assume(*literals),
             Command::GetModel => Ok(()),
             Command::Echo { .. } => Ok(()),
             Command::Get { .. } => Ok(()),
@@ -115,7 +115,7 @@ impl Stack {
 
     // Notes, of a command that took effect, whether a logic may be set, whether declarations are global,
     // whether `success` is printed, and whether it was `exit`.
-    pub(super) fn note(&mut self, command: &Command)
+    pub(super) fn note(&mut self, command: &Command<'_>)
         ensures { self.new ≡ with_notes (command_view command.now) self.old }
     {
         let kind = command.kind();
@@ -133,7 +133,7 @@ impl Stack {
     }
 
     // Ends the assumptions where the command changes what is in force, or is a check that assumes nothing.
-    pub(super) fn end_assumptions(&mut self, command: &Command)
+    pub(super) fn end_assumptions(&mut self, command: &Command<'_>)
         ensures { IsEnded (command_view command.now) self.old self.new }
     {
         let ends = match command {
@@ -196,31 +196,36 @@ impl Stack {
         Ok(())
     }
 
-    fn declare_const(&mut self, number: u64, name: &[u8], sort: &Tree) -> Result<(), CommandFault>
+    fn declare_const(
+        &mut self,
+        number: u64,
+        name: &[u8],
+        sort: Tree<'_>,
+    ) -> Result<(), CommandFault>
         ensures effect { OnOk result
-            (HasEffect self.old self.new number (DeclareConst name.now (sexp_of sort.now))) }
+            (HasEffect self.old self.new number (DeclareConst name.now (sexp_of sort.entry))) }
         ensures refused { IfErr result
-            (λ fault. IsRefused self.old number (DeclareConst name.now (sexp_of sort.now)) fault) }
+            (λ fault. IsRefused self.old number (DeclareConst name.now (sexp_of sort.entry)) fault) }
         ensures unchanged { OnErr result (HasMore self.old self.new) }
         ensures grown { Extends (contents_of self.old.library) (contents_of self.new.library) }
     {
         contents_are_kept();
-        Ok(self.library.declare(number, name, &[], sort)?)
+        Ok(self.library.declare(number, name, Trees::of(&[]), sort)?)
     }
 
     fn declare_fun(
         &mut self,
         number: u64,
         name: &[u8],
-        params: &[Tree],
-        sort: &Tree,
+        params: Trees<'_>,
+        sort: Tree<'_>,
     ) -> Result<(), CommandFault>
         ensures effect { OnOk result
             (HasEffect self.old self.new number
-            (DeclareFun name.now (sexps_of params.now) (sexp_of sort.now))) }
+            (DeclareFun name.now (sexps_of params.entry) (sexp_of sort.entry))) }
         ensures refused { IfErr result
             (λ fault. IsRefused self.old number
-            (DeclareFun name.now (sexps_of params.now) (sexp_of sort.now)) fault) }
+            (DeclareFun name.now (sexps_of params.entry) (sexp_of sort.entry)) fault) }
         ensures unchanged { OnErr result (HasMore self.old self.new) }
         ensures grown { Extends (contents_of self.old.library) (contents_of self.new.library) }
     {
@@ -231,16 +236,16 @@ impl Stack {
     fn define(
         &mut self,
         name: &[u8],
-        params: &[Tree],
-        sort: &Tree,
-        body: &Tree,
+        params: Trees<'_>,
+        sort: Tree<'_>,
+        body: Tree<'_>,
     ) -> Result<(), CommandFault>
         ensures effect { OnOk result
             ((number : ℕ) → HasEffect self.old self.new number
-            (DefineFun name.now (named_trees (sexps_of params.now)) (sexp_of sort.now) (sexp_of body.now))) }
+            (DefineFun name.now (named_trees (sexps_of params.entry)) (sexp_of sort.entry) (sexp_of body.entry))) }
         ensures refused { IfErr result
             (λ fault. (number : ℕ) → IsRefused self.old number
-            (DefineFun name.now (named_trees (sexps_of params.now)) (sexp_of sort.now) (sexp_of body.now))
+            (DefineFun name.now (named_trees (sexps_of params.entry)) (sexp_of sort.entry) (sexp_of body.entry))
             fault) }
         ensures unchanged { OnErr result (HasMore self.old self.new) }
         ensures grown { Extends (contents_of self.old.library) (contents_of self.new.library) }
@@ -250,11 +255,11 @@ impl Stack {
         Ok(self.library.define(name, params.as_slice(), sort, body)?)
     }
 
-    fn define_sort(&mut self, name: &[u8], sort: &Tree) -> Result<(), CommandFault>
+    fn define_sort(&mut self, name: &[u8], sort: Tree<'_>) -> Result<(), CommandFault>
         ensures effect { OnOk result
-            ((number : ℕ) → HasEffect self.old self.new number (DefineSort name.now (sexp_of sort.now))) }
+            ((number : ℕ) → HasEffect self.old self.new number (DefineSort name.now (sexp_of sort.entry))) }
         ensures refused { IfErr result
-            (λ fault. (number : ℕ) → IsRefused self.old number (DefineSort name.now (sexp_of sort.now)) fault) }
+            (λ fault. (number : ℕ) → IsRefused self.old number (DefineSort name.now (sexp_of sort.entry)) fault) }
         ensures unchanged { OnErr result (HasMore self.old self.new) }
         ensures grown { Extends (contents_of self.old.library) (contents_of self.new.library) }
     {
@@ -263,15 +268,15 @@ impl Stack {
     }
 
     // Makes literals the assumptions, in place of the earlier ones.
-    fn assume(&mut self, literals: &[Tree]) -> Result<(), CommandFault>
+    fn assume(&mut self, literals: Trees<'_>) -> Result<(), CommandFault>
         ensures effect { OnOk result ((number : ℕ) → HasEffect self.old self.new number
-            (CheckSatAssuming (sexps_of literals.now))) }
+            (CheckSatAssuming (sexps_of literals.entry))) }
         ensures refused { IfErr result (λ fault. (number : ℕ)
-            → IsRefused self.old number (CheckSatAssuming (sexps_of literals.now)) fault) }
+            → IsRefused self.old number (CheckSatAssuming (sexps_of literals.entry)) fault) }
         ensures unchanged { OnErr result (HasMore self.old self.new) }
         ensures assumed { OnOk result ((s : Signature) → libraries.StandsFor self.old.library s
             → AreTerms (terms_of self.new.library) self.new.assumptions.items
-            (trees_of (sexps_of literals.now))) }
+            (trees_of (sexps_of literals.entry))) }
         ensures held { contents_of self.new.library ≡ contents_of self.old.library }
     {
         contents_are_kept();
@@ -288,9 +293,9 @@ impl Stack {
         }
     }
 
-    fn assert(&mut self, number: u64, term: &Tree) -> Result<(), CommandFault>
-        ensures effect { OnOk result (HasEffect self.old self.new number (Assert (sexp_of term.now))) }
-        ensures refused { IfErr result (λ fault. IsRefused self.old number (Assert (sexp_of term.now)) fault) }
+    fn assert(&mut self, number: u64, term: Tree<'_>) -> Result<(), CommandFault>
+        ensures effect { OnOk result (HasEffect self.old self.new number (Assert (sexp_of term.entry))) }
+        ensures refused { IfErr result (λ fault. IsRefused self.old number (Assert (sexp_of term.entry)) fault) }
         ensures unchanged { OnErr result (HasMore self.old self.new) }
         ensures grown { Extends (contents_of self.old.library) (contents_of self.new.library) }
     {
@@ -305,11 +310,11 @@ impl Stack {
 }
 
 // The digits of a number of levels; where there are none, those of one.
-fn digits_of(levels: &Option<Bytes>) -> &[u8]
-    ensures { digits_value 10 result.now ≡ levels_in levels.now }
+fn digits_of(levels: Option<&[u8]>) -> &[u8]
+    ensures { digits_value 10 result.now ≡ levels_in (option_map (λ digits. digits.now) levels.entry) }
 {
     match levels {
-        Some(digits) => digits.as_slice(),
+        Some(digits) => digits,
         None => b"1",
     }
 }
@@ -318,18 +323,18 @@ fn digits_of(levels: &Option<Bytes>) -> &[u8]
 fn check_literals(
     alloc: Global,
     library: &mut Library,
-    literals: &[Tree],
+    literals: Trees<'_>,
 ) -> Result<Vec<TermId>, CommandFault>
     requires { transient_of library.old ≡ [] }
     ensures terms { (s : Signature) → libraries.StandsFor library.old s
-        → MatchResult result (λ terms. (flaw_of_literals (names_of s) (sexps_of literals.now) ≡ None)
-        × AreTerms (terms_of library.new) terms.items (trees_of (sexps_of literals.now)))
-        (λ fault. TellsCommand (flaw_of_literals (names_of s) (sexps_of literals.now)) fault) }
+        → MatchResult result (λ terms. (flaw_of_literals (names_of s) (sexps_of literals.entry) ≡ None)
+        × AreTerms (terms_of library.new) terms.items (trees_of (sexps_of literals.entry)))
+        (λ fault. TellsCommand (flaw_of_literals (names_of s) (sexps_of literals.entry)) fault) }
     ensures held { contents_of library.new ≡ contents_of library.old }
 {
     let mut terms = Vec::new(alloc);
     let mut left = literals;
-    while let Some((literal, rest)) = split_first(left) {
+    while let Some((literal, rest)) = left.split_first() {
         let term = check_literal(library, literal)?;
         terms.push(term)?;
         left = rest;
@@ -338,11 +343,11 @@ fn check_literals(
 }
 
 // The term of a literal that is a formula, or its fault.
-fn check_literal(library: &mut Library, literal: &Tree) -> Result<TermId, CommandFault>
+fn check_literal(library: &mut Library, literal: Tree<'_>) -> Result<TermId, CommandFault>
     ensures term { (s : Signature) → libraries.StandsFor library.old s
-        → MatchResult result (λ term. (flaw_of_formula (sort_in (names_of s) [] (sexp_of literal.now)) ≡ None)
-        × IsTerm library.new term (sexp_of literal.now))
-        (λ fault. TellsCommand (flaw_of_formula (sort_in (names_of s) [] (sexp_of literal.now))) fault) }
+        → MatchResult result (λ term. (flaw_of_formula (sort_in (names_of s) [] (sexp_of literal.entry)) ≡ None)
+        × IsTerm library.new term (sexp_of literal.entry))
+        (λ fault. TellsCommand (flaw_of_formula (sort_in (names_of s) [] (sexp_of literal.entry))) fault) }
     ensures held { contents_of library.new ≡ contents_of library.old }
     ensures kept { (i : ℕ) (t : Sexp) → IsTerm library.old i t → IsTerm library.new i t }
 {
@@ -367,7 +372,7 @@ fn is_ended_by(kind: Kind) -> bool
 }
 
 // Whether declarations are global after a command, given whether they were before it.
-fn global_after(global: bool, command: &Command) -> bool
+fn global_after(global: bool, command: &Command<'_>) -> bool
     ensures { result ≡ stack.global_after global (command_view command.now) }
 {
     match command {

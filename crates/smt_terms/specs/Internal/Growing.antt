@@ -5,7 +5,7 @@ use Rattle.smt_nodes.specs.Node.{Row}
 use Rattle.smt_theory.specs.Operators.{is_plain_operator}
 use Rattle.smt_theory.specs.declared.sort.Sort.{Sort}
 use Rattle.smt_trees.specs.Sexp.{Sexp}
-use Rattle.smt_trees.specs.Tree.{sexp_of}
+use Rattle.smt_trees.specs.View.{sexp_of}
 use Rattle.smt_faults.specs.Outcome.{Tells}
 use Rattle.smt_faults.specs.declared.term_fault.TermFault.{TermFault}
 use Rattle.smt_terms.specs.Contents.{Contents, terms_in}
@@ -62,7 +62,7 @@ pub record HoldsUnder (bodies : Bodies) (c : Contents) (s : Signature) : Type 0 
 -- the name of a label is no plain operator's, and its node stands for its term
 pub record IsFitUnder (bodies : Bodies) (c : Contents) (s : Signature) (l : Label) : Type 0 where
   pub free : is_plain_operator s.theories l.name.items ≡ false
-  pub named : Denotes (terms_under bodies c) [] 0 0 l.node (sexp_of l.body.now)
+  pub named : Denotes (terms_under bodies c) [] 0 0 l.node (sexp_of l.body)
 
 abbrev pub AreFitUnder : Bodies → Contents → Signature → List Label → Type 0
 AreFitUnder bodies c s [] = Unit {0}

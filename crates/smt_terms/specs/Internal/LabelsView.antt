@@ -1,7 +1,7 @@
 -- What the labels are that terms gave so far.
 use Rattle.std.specs.Prelude.{◌≡◌, ℕ, List, [], ◌∷◌, ◌++◌, None, Ok, map, if◌then◌else◌}
 use Rattle.smt_trees.specs.Sexp.{Sexp}
-use Rattle.smt_trees.specs.Tree.{sexp_of}
+use Rattle.smt_trees.specs.View.{sexp_of}
 use Rattle.smt_theory.specs.Words.{look_up}
 use Rattle.smt_terms.specs.Checking.{sort_in}
 use Rattle.smt_terms.specs.Definitions.{definition}
@@ -15,7 +15,7 @@ given_names labels = map (λ l. l.name.items) labels.given.items
 
 -- the labels with their terms
 abbrev pub given_terms : Labels → List (List ℕ × Sexp)
-given_terms labels = map (λ l. (l.name.items, sexp_of l.body.now)) labels.given.items
+given_terms labels = map (λ l. (l.name.items, sexp_of l.body)) labels.given.items
 
 abbrev pub labels_view : Labels → spec.Labels
 labels_view labels = if labels.refused then spec.Refused else spec.Given (given_names labels)
@@ -23,7 +23,7 @@ labels_view labels = if labels.refused then spec.Refused else spec.Given (given_
 -- the term of each label has the label's sort, over these names and no variables
 abbrev pub AreSorted : Names → List Label → Type 0
 AreSorted names [] = Unit {0}
-AreSorted names (l ∷ ls) = (sort_in (unlabelled names) [] (sexp_of l.body.now) ≡ Ok l.sort) × AreSorted names ls
+AreSorted names (l ∷ ls) = (sort_in (unlabelled names) [] (sexp_of l.body) ≡ Ok l.sort) × AreSorted names ls
 
 -- these labels, each with its term, were given behind the old ones
 pub record AreGiven (names : Names) (old new : Labels) (more : List (List ℕ × Sexp)) : Type 0 where
@@ -33,7 +33,7 @@ pub record AreGiven (names : Names) (old new : Labels) (more : List (List ℕ ×
 
 -- what a label brings: a constant that its term defines
 abbrev pub label_entry : Label → Entry
-label_entry l = definition l.name.items [] l.sort (sexp_of l.body.now)
+label_entry l = definition l.name.items [] l.sort (sexp_of l.body)
 
 -- the name of each label stands for nothing, behind those before it
 abbrev pub AreNew : List (List ℕ × Rank) → List Label → Type 0

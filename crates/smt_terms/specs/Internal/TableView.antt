@@ -6,7 +6,7 @@ use Rattle.smt_nodes.specs.Nodes.{rows_of}
 use Rattle.smt_nodes.specs.declared.table.Nodes.{Nodes}
 use Rattle.smt_theory.specs.Operators.{is_plain_operator}
 use Rattle.smt_theory.specs.Words.{look_up}
-use Rattle.smt_trees.specs.Tree.{sexp_of}
+use Rattle.smt_trees.specs.View.{sexp_of}
 use Rattle.smt_terms.specs.Denotes.{Denotes, Head, Slots, Table}
 use Rattle.smt_terms.specs.Internal.DraftView.{inside, seen_by}
 use Rattle.smt_terms.specs.declared.labels.Label.{Label}
@@ -71,7 +71,7 @@ pub record IsReady (t : Table) : Type 0 where
 -- the node of each label stands for its term
 abbrev pub AreNamed : Table → List Label → Type 0
 AreNamed t [] = Unit {0}
-AreNamed t (l ∷ ls) = Denotes t [] 0 0 l.node (sexp_of l.body.now) × AreNamed t ls
+AreNamed t (l ∷ ls) = Denotes t [] 0 0 l.node (sexp_of l.body) × AreNamed t ls
 
 -- the variables that are bound inside, with their places in the frame of the innermost labelled term; and how
 -- many they are

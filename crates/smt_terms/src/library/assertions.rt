@@ -3,7 +3,7 @@
 
 ghost use Rattle.std.specs.Prelude.{◌≡◌, ◌⊎◌, ◌∷◌, ◌++◌, ℕ, List, [], None, Ok, Err, map, IfErr, IfOk, OnErr};
 ghost use Rattle.std.specs.Prelude.{OnOk};
-ghost use Rattle.smt_trees.specs.Tree.{sexp_of};
+ghost use Rattle.smt_trees.specs.View.{sexp_of};
 ghost use Rattle.smt_theory.specs.Words.{look_up};
 ghost use Rattle.smt_terms.specs.Assertions.{asserted_in};
 ghost use Rattle.smt_terms.specs.Contents.{Extends, contents_of};
@@ -22,7 +22,7 @@ use crate::sorts::are_equal;
 use smt_faults::{Memory, TermFault};
 use smt_nodes::TermId;
 use smt_theory::Sort;
-use smt_trees::Tree;
+use smt_trees::view::Tree;
 
 impl Library {
     /// Checks a term that is asserted, and adds the labels in it as names of their terms (SMT-LIB 2.6, sections 3.6.5
@@ -32,15 +32,15 @@ impl Library {
     /// A label has a fault where its term uses a variable bound outside it (`Label`), and then where its name is in
     /// use, a plain operator's, or that of an earlier label of the assertion (`NotFresh`). Where it refuses a term,
     /// and where memory is refused (`Memory`), nothing changes.
-    pub fn assert(&mut self, term: &Tree) -> Result<TermId, TermFault>
+    pub fn assert(&mut self, term: Tree<'_>) -> Result<TermId, TermFault>
         ensures asserted { OnOk result
             ((s : Signature) → StandsFor self.old s → (labels : List signature.Entry)
-            × (asserted_in (names_of s) (sexp_of term.now) ≡ Ok labels)
+            × (asserted_in (names_of s) (sexp_of term.entry) ≡ Ok labels)
             × StandsFor self.new (with_entries s labels)) }
         ensures term { IfOk result (λ i. (s : Signature) → StandsFor self.old s
-            → IsTermOf (contents_of self.new) i (sexp_of term.now)) }
+            → IsTermOf (contents_of self.new) i (sexp_of term.entry)) }
         ensures refused { IfErr result (λ fault. (s : Signature) → StandsFor self.old s
-            → Tells (asserted_in (names_of s) (sexp_of term.now)) fault) }
+            → Tells (asserted_in (names_of s) (sexp_of term.entry)) fault) }
         ensures unchanged { OnErr result (IsUnchanged self.old self.new) }
         ensures restored { OnErr result (contents_of self.new ≡ contents_of self.old) }
         ensures grown { Extends (contents_of self.old) (contents_of self.new) }
@@ -59,15 +59,15 @@ impl Library {
     // Checks an asserted term and adds its labels, as `assert` does. But a refusal may leave nodes, and for want of
     // memory some of the labels.
     #[tactic(auto, using(crate::proofs::ContentsLemmas::extends_itself))]
-    fn assert_checked(&mut self, term: &Tree) -> Result<TermId, TermFault>
+    fn assert_checked(&mut self, term: Tree<'_>) -> Result<TermId, TermFault>
         ensures asserted { OnOk result
             ((s : Signature) → StandsFor self.old s → (labels : List signature.Entry)
-            × (asserted_in (names_of s) (sexp_of term.now) ≡ Ok labels)
+            × (asserted_in (names_of s) (sexp_of term.entry) ≡ Ok labels)
             × StandsFor self.new (with_entries s labels)) }
         ensures term { IfOk result (λ i. (s : Signature) → StandsFor self.old s
-            → IsTermOf (contents_of self.new) i (sexp_of term.now)) }
+            → IsTermOf (contents_of self.new) i (sexp_of term.entry)) }
         ensures refused { IfErr result (λ fault. (s : Signature) → StandsFor self.old s
-            → Tells (asserted_in (names_of s) (sexp_of term.now)) fault) }
+            → Tells (asserted_in (names_of s) (sexp_of term.entry)) fault) }
         ensures grown { Extends (contents_of self.old) (contents_of self.new) }
         ensures transient { self.new.transient ≡ self.old.transient }
     {

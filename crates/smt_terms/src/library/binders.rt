@@ -3,7 +3,7 @@
 
 ghost use Rattle.std.specs.Prelude.{◌≡◌, ◌+◌, ◌++◌, ◌∷◌, ℕ, List, [], true, length, map, IfOk, OnOk};
 ghost use Rattle.smt_trees.specs.Sexp.{Cons, Items, Reserved};
-ghost use Rattle.smt_trees.specs.Tree.{sexp_of, sexps_of};
+ghost use Rattle.smt_trees.specs.View.{sexp_of, sexps_of};
 ghost use Rattle.smt_trees.specs.declared.reserved.Word.TheVariants.{Bang, Let};
 ghost use Rattle.smt_forms.specs.Bindings as bindings;
 ghost use Rattle.smt_forms.specs.Bindings.{are_named_trees};
@@ -30,7 +30,7 @@ use smt_faults::TermFault;
 use smt_forms::{NameSet, Variable, are_attributes, are_named, label_at, split_let, split_named};
 use smt_nodes::{Node, TermId};
 use smt_theory::Sort;
-use smt_trees::{Tree, split_first};
+use smt_trees::view::{Tree, Trees};
 
 impl Library {
     // The sort and the node of a `let`, by the trees after its word (SMT-LIB 2.6, section 3.6.1). Its variables come
@@ -39,18 +39,18 @@ impl Library {
     pub(super) fn sort_of_let<'a>(
         &self,
         draft: &mut Draft<'a>,
-        args: &'a [Tree],
+        args: Trees<'a>,
     ) -> Result<CheckedTerm, TermFault>
         requires { IsPlaced (seen_by draft.old) draft.old.base }
-        ensures sort { HasSort self.now draft.old (Items (Cons (Reserved Let) (sexps_of args.now))) result }
+        ensures sort { HasSort self.now draft.old (Items (Cons (Reserved Let) (sexps_of args.entry))) result }
         ensures labels { GivesLabels self.now draft.old draft.new
-            (Items (Cons (Reserved Let) (sexps_of args.now))) result }
+            (Items (Cons (Reserved Let) (sexps_of args.entry))) result }
         ensures kept { OnOk result (SeesTheSame draft.old draft.new) }
         ensures waiting { OnOk result (HasTheSame draft.old draft.new) }
         ensures open { IfOk result (λ c. c.is_open
-            ≡ is_open draft.old (Items (Cons (Reserved Let) (sexps_of args.now)))) }
+            ≡ is_open draft.old (Items (Cons (Reserved Let) (sexps_of args.entry)))) }
         ensures node { IfOk result (Stands self.now draft.old draft.new
-            (Items (Cons (Reserved Let) (sexps_of args.now)))) }
+            (Items (Cons (Reserved Let) (sexps_of args.entry)))) }
         ensures longer { GrowsTo draft.old draft.new }
     {
         let Some((bindings, body)) = split_let(args) else {
@@ -76,22 +76,22 @@ impl Library {
     fn bound_by<'a>(
         &self,
         draft: &mut Draft<'a>,
-        bindings: &'a [Tree],
+        bindings: Trees<'a>,
     ) -> Result<(Vec<Variable<'a, Sort>>, bool), TermFault>
         requires placed { IsPlaced (seen_by draft.old) draft.old.base }
-        requires named { are_named_trees (sexps_of bindings.now) ≡ true }
+        requires named { are_named_trees (sexps_of bindings) ≡ true }
         ensures bound { IsOutcome (λ found. scope_view found.0.items)
             (bound_in (names_for self.now (labels_view draft.old.labels)) (sorts_seen draft.old) []
-            (sexps_of bindings.now)) result }
+            (sexps_of bindings.entry)) result }
         ensures labels { OnOk result
             (AreGiven (names_of_library self.now) draft.old.labels draft.new.labels
-            (labels_in_bindings (sexps_of bindings.now))) }
+            (labels_in_bindings (sexps_of bindings.entry))) }
         ensures kept { OnOk result (SeesTheSame draft.old draft.new) }
         ensures sorts { OnOk result (HasMoreSorts draft.old draft.new) }
-        ensures open { IfOk result (λ found. found.1 ≡ are_open_bindings draft.old (sexps_of bindings.now)) }
+        ensures open { IfOk result (λ found. found.1 ≡ are_open_bindings draft.old (sexps_of bindings.entry)) }
         ensures nodes { IfOk result (λ found. (nodes : List ℕ)
             × (argument_terms draft.new.arguments ≡ argument_terms draft.old.arguments ++ nodes)
-            × BindingsStand self.now draft.old draft.new (sexps_of bindings.now) nodes found.1) }
+            × BindingsStand self.now draft.old draft.new (sexps_of bindings.entry) nodes found.1) }
         ensures longer { GrowsTo draft.old draft.new }
     {
         let mut names = NameSet::new(self.alloc);
@@ -118,21 +118,21 @@ impl Library {
     pub(super) fn sort_of_annotated<'a>(
         &self,
         draft: &mut Draft<'a>,
-        args: &'a [Tree],
+        args: Trees<'a>,
     ) -> Result<CheckedTerm, TermFault>
         requires { IsPlaced (seen_by draft.old) draft.old.base }
-        ensures sort { HasSort self.now draft.old (Items (Cons (Reserved Bang) (sexps_of args.now))) result }
+        ensures sort { HasSort self.now draft.old (Items (Cons (Reserved Bang) (sexps_of args.entry))) result }
         ensures labels { GivesLabels self.now draft.old draft.new
-            (Items (Cons (Reserved Bang) (sexps_of args.now))) result }
+            (Items (Cons (Reserved Bang) (sexps_of args.entry))) result }
         ensures kept { OnOk result (SeesTheSame draft.old draft.new) }
         ensures waiting { OnOk result (HasTheSame draft.old draft.new) }
         ensures open { IfOk result (λ c. c.is_open
-            ≡ is_open draft.old (Items (Cons (Reserved Bang) (sexps_of args.now)))) }
+            ≡ is_open draft.old (Items (Cons (Reserved Bang) (sexps_of args.entry)))) }
         ensures node { IfOk result (Stands self.now draft.old draft.new
-            (Items (Cons (Reserved Bang) (sexps_of args.now)))) }
+            (Items (Cons (Reserved Bang) (sexps_of args.entry)))) }
         ensures longer { GrowsTo draft.old draft.new }
     {
-        let Some((term, attributes)) = split_first(args) else {
+        let Some((term, attributes)) = args.split_first() else {
             return Err(TermFault::Form);
         };
         if !are_attributes(attributes) {
@@ -152,22 +152,22 @@ impl Library {
     fn sort_of_labelled<'a>(
         &self,
         draft: &mut Draft<'a>,
-        term: &'a Tree,
-        attributes: &'a [Tree],
+        term: Tree<'a>,
+        attributes: Trees<'a>,
     ) -> Result<CheckedTerm, TermFault>
         requires placed { IsPlaced (seen_by draft.old) draft.old.base }
-        requires form { bindings.are_attributes (sexps_of attributes.now) ≡ true }
-        requires labelled { has_labels (labels_among (sexps_of attributes.now)) ≡ true }
+        requires form { bindings.are_attributes (sexps_of attributes) ≡ true }
+        requires labelled { has_labels (labels_among (sexps_of attributes)) ≡ true }
         ensures sort { HasSort self.now draft.old
-            (Items (Cons (Reserved Bang) (Cons (sexp_of term.now) (sexps_of attributes.now)))) result }
+            (Items (Cons (Reserved Bang) (Cons (sexp_of term.entry) (sexps_of attributes.entry)))) result }
         ensures labels { GivesLabels self.now draft.old draft.new
-            (Items (Cons (Reserved Bang) (Cons (sexp_of term.now) (sexps_of attributes.now)))) result }
+            (Items (Cons (Reserved Bang) (Cons (sexp_of term.entry) (sexps_of attributes.entry)))) result }
         ensures kept { OnOk result (SeesTheSame draft.old draft.new) }
         ensures waiting { OnOk result (HasTheSame draft.old draft.new) }
         ensures open { IfOk result (λ c. c.is_open ≡ is_open draft.old
-            (Items (Cons (Reserved Bang) (Cons (sexp_of term.now) (sexps_of attributes.now))))) }
+            (Items (Cons (Reserved Bang) (Cons (sexp_of term.entry) (sexps_of attributes.entry))))) }
         ensures node { IfOk result (Stands self.now draft.old draft.new
-            (Items (Cons (Reserved Bang) (Cons (sexp_of term.now) (sexps_of attributes.now))))) }
+            (Items (Cons (Reserved Bang) (Cons (sexp_of term.entry) (sexps_of attributes.entry))))) }
         ensures longer { GrowsTo draft.old draft.new }
     {
         let base = draft.base;
@@ -188,24 +188,24 @@ impl Library {
     fn give_labels<'a>(
         &self,
         labels: &mut Labels<'a>,
-        term: &'a Tree,
+        term: Tree<'a>,
         checked: &CheckedTerm,
-        attributes: &'a [Tree],
+        attributes: Trees<'a>,
     ) -> Result<(), TermFault>
-        requires { IsSortedUnlessOpen self.now checked.now (sexp_of term.now) }
+        requires { IsSortedUnlessOpen self.now checked.now (sexp_of term) }
         ensures fault { TellsOfLabels (names_for self.now (labels_view labels.old)) checked.now.is_open
-            (sexp_of term.now) (labels_among (sexps_of attributes.now)) result }
+            (sexp_of term.entry) (labels_among (sexps_of attributes.entry)) result }
         ensures labels { OnOk result
             (AreGiven (names_of_library self.now) labels.old labels.new
-            (map (λ x. (x, sexp_of term.now)) (labels_among (sexps_of attributes.now)))) }
+            (map (λ x. (x, sexp_of term.entry)) (labels_among (sexps_of attributes.entry)))) }
         ensures nodes { OnOk result (nodes_given labels.new ≡ nodes_given labels.old
-            ++ map (λ x. checked.now.node) (labels_among (sexps_of attributes.now))) }
+            ++ map (λ x. checked.now.node) (labels_among (sexps_of attributes.entry))) }
         ensures longer { (more : List Label) × (labels.new.given.items ≡ labels.old.given.items ++ more) }
         ensures named { OnOk result ((t : Table) → AreNamed t labels.old.given.items
-            → Denotes t [] 0 0 checked.now.node (sexp_of term.now) → AreNamed t labels.new.given.items) }
+            → Denotes t [] 0 0 checked.now.node (sexp_of term.entry) → AreNamed t labels.new.given.items) }
     {
         let mut left = attributes;
-        while let Some((tree, rest)) = split_first(left) {
+        while let Some((tree, rest)) = left.split_first() {
             self.give_label_at(labels, term, checked, tree, rest)?;
             left = rest;
         }
@@ -217,22 +217,22 @@ impl Library {
     fn give_label_at<'a>(
         &self,
         labels: &mut Labels<'a>,
-        term: &'a Tree,
+        term: Tree<'a>,
         checked: &CheckedTerm,
-        tree: &'a Tree,
-        rest: &'a [Tree],
+        tree: Tree<'a>,
+        rest: Trees<'a>,
     ) -> Result<(), TermFault>
-        requires { IsSortedUnlessOpen self.now checked.now (sexp_of term.now) }
+        requires { IsSortedUnlessOpen self.now checked.now (sexp_of term) }
         ensures fault { TellsOfLabels (names_for self.now (labels_view labels.old)) checked.now.is_open
-            (sexp_of term.now) (label_of_tree (sexp_of tree.now) (sexps_of rest.now)) result }
+            (sexp_of term.entry) (label_of_tree (sexp_of tree.entry) (sexps_of rest.entry)) result }
         ensures labels { OnOk result
             (AreGiven (names_of_library self.now) labels.old labels.new
-            (map (λ x. (x, sexp_of term.now)) (label_of_tree (sexp_of tree.now) (sexps_of rest.now)))) }
+            (map (λ x. (x, sexp_of term.entry)) (label_of_tree (sexp_of tree.entry) (sexps_of rest.entry)))) }
         ensures nodes { OnOk result (nodes_given labels.new ≡ nodes_given labels.old
-            ++ map (λ x. checked.now.node) (label_of_tree (sexp_of tree.now) (sexps_of rest.now))) }
+            ++ map (λ x. checked.now.node) (label_of_tree (sexp_of tree.entry) (sexps_of rest.entry))) }
         ensures longer { (more : List Label) × (labels.new.given.items ≡ labels.old.given.items ++ more) }
         ensures named { OnOk result ((t : Table) → AreNamed t labels.old.given.items
-            → Denotes t [] 0 0 checked.now.node (sexp_of term.now) → AreNamed t labels.new.given.items) }
+            → Denotes t [] 0 0 checked.now.node (sexp_of term.entry) → AreNamed t labels.new.given.items) }
     {
         match label_at(tree, rest) {
             Some(name) => self.give_label(labels, term, checked, name),
@@ -244,20 +244,20 @@ impl Library {
     fn give_label<'a>(
         &self,
         labels: &mut Labels<'a>,
-        term: &'a Tree,
+        term: Tree<'a>,
         checked: &CheckedTerm,
         name: &'a [u8],
     ) -> Result<(), TermFault>
-        requires { IsSortedUnlessOpen self.now checked.now (sexp_of term.now) }
+        requires { IsSortedUnlessOpen self.now checked.now (sexp_of term) }
         ensures fault { TellsOfLabel (names_for self.now (labels_view labels.old)) (labels_view labels.old)
-            checked.now.is_open (sexp_of term.now) name.now result }
+            checked.now.is_open (sexp_of term.entry) name.now result }
         ensures labels { OnOk result
-            (AreGiven (names_of_library self.now) labels.old labels.new ((name.now, sexp_of term.now) ∷ [])) }
+            (AreGiven (names_of_library self.now) labels.old labels.new ((name.now, sexp_of term.entry) ∷ [])) }
         ensures nodes { OnOk result (nodes_given labels.new ≡ nodes_given labels.old
             ++ map (λ x. checked.now.node) (name.now ∷ [])) }
         ensures longer { (more : List Label) × (labels.new.given.items ≡ labels.old.given.items ++ more) }
         ensures named { OnOk result ((t : Table) → AreNamed t labels.old.given.items
-            → Denotes t [] 0 0 checked.now.node (sexp_of term.now) → AreNamed t labels.new.given.items) }
+            → Denotes t [] 0 0 checked.now.node (sexp_of term.entry) → AreNamed t labels.new.given.items) }
     {
         if labels.are_refused() || checked.is_open {
             return Err(TermFault::Label);
@@ -270,18 +270,18 @@ impl Library {
 }
 
 // Whether these are the bindings of a `let`: one or more.
-fn are_bindings(trees: &[Tree]) -> bool
-    ensures { result ≡ bindings.are_bindings (sexps_of trees.now) }
+fn are_bindings(trees: Trees<'_>) -> bool
+    ensures { result ≡ bindings.are_bindings (sexps_of trees.entry) }
 {
-    split_first(trees).is_some() && are_named(trees)
+    trees.split_first().is_some() && are_named(trees)
 }
 
 // Whether one of these attributes is a label.
-fn has_label(attributes: &[Tree]) -> bool
-    ensures { result ≡ has_labels (labels_among (sexps_of attributes.now)) }
+fn has_label(attributes: Trees<'_>) -> bool
+    ensures { result ≡ has_labels (labels_among (sexps_of attributes.entry)) }
 {
     let mut left = attributes;
-    while let Some((tree, rest)) = split_first(left) {
+    while let Some((tree, rest)) = left.split_first() {
         if label_at(tree, rest).is_some() {
             return true;
         }

@@ -4,7 +4,7 @@
 ghost use Rattle.std.specs.Prelude.{◌≡◌, ◌≤◌, ◌*◌, ◌++◌, ℕ, List, [], false, length, IfOk, OnOk};
 ghost use Rattle.smt_nodes.specs.NodeView.{node_view};
 ghost use Rattle.smt_trees.specs.Sexp.{Atom, Binary, Hexadecimal, Items, Numeral, Symbol};
-ghost use Rattle.smt_trees.specs.Tree.{sexp_of, sexps_of};
+ghost use Rattle.smt_trees.specs.View.{sexp_of, sexps_of};
 ghost use Rattle.smt_theory.specs.Operators.{op_by};
 ghost use Rattle.smt_theory.specs.Ranks.{are_exactly};
 ghost use Rattle.smt_theory.specs.Width.{width_of};
@@ -35,7 +35,7 @@ use smt_forms::{
 };
 use smt_nodes::{Node, Nodes, TermId};
 use smt_theory::{Op, OpFault, Sort, Width, op_of, plain_op_of, plain_rank, rank};
-use smt_trees::{Tree, Trees, split_first};
+use smt_trees::view::{Tree, Trees};
 
 impl Library {
     /// The sort and the node of a term over these names and the variables that it sees, or its first fault. Unless it
@@ -46,19 +46,19 @@ impl Library {
     pub(crate) fn sort_of<'a>(
         &self,
         draft: &mut Draft<'a>,
-        term: &'a Tree,
+        term: Tree<'a>,
     ) -> Result<CheckedTerm, TermFault>
         requires { IsPlaced (seen_by draft.old) draft.old.base }
-        ensures sort { HasSort self.now draft.old (sexp_of term.now) result }
-        ensures labels { GivesLabels self.now draft.old draft.new (sexp_of term.now) result }
+        ensures sort { HasSort self.now draft.old (sexp_of term.entry) result }
+        ensures labels { GivesLabels self.now draft.old draft.new (sexp_of term.entry) result }
         ensures kept { OnOk result (SeesTheSame draft.old draft.new) }
         ensures waiting { OnOk result (HasTheSame draft.old draft.new) }
-        ensures open { IfOk result (λ c. c.is_open ≡ is_open draft.old (sexp_of term.now)) }
-        ensures node { IfOk result (Stands self.now draft.old draft.new (sexp_of term.now)) }
+        ensures open { IfOk result (λ c. c.is_open ≡ is_open draft.old (sexp_of term.entry)) }
+        ensures node { IfOk result (Stands self.now draft.old draft.new (sexp_of term.entry)) }
         ensures longer { GrowsTo draft.old draft.new }
     {
         match term {
-            Tree::Symbol(name) => self.sort_of_symbol(draft, name.as_slice()),
+            Tree::Symbol(name) => self.sort_of_symbol(draft, name),
             _ => self.sort_of_other(draft, term),
         }
     }
@@ -68,23 +68,23 @@ impl Library {
     fn sort_of_other<'a>(
         &self,
         draft: &mut Draft<'a>,
-        term: &'a Tree,
+        term: Tree<'a>,
     ) -> Result<CheckedTerm, TermFault>
         requires { IsPlaced (seen_by draft.old) draft.old.base }
-        ensures sort { HasSort self.now draft.old (sexp_of term.now) result }
-        ensures labels { GivesLabels self.now draft.old draft.new (sexp_of term.now) result }
+        ensures sort { HasSort self.now draft.old (sexp_of term.entry) result }
+        ensures labels { GivesLabels self.now draft.old draft.new (sexp_of term.entry) result }
         ensures kept { OnOk result (SeesTheSame draft.old draft.new) }
         ensures waiting { OnOk result (HasTheSame draft.old draft.new) }
-        ensures open { IfOk result (λ c. c.is_open ≡ is_open draft.old (sexp_of term.now)) }
-        ensures node { IfOk result (Stands self.now draft.old draft.new (sexp_of term.now)) }
+        ensures open { IfOk result (λ c. c.is_open ≡ is_open draft.old (sexp_of term.entry)) }
+        ensures node { IfOk result (Stands self.now draft.old draft.new (sexp_of term.entry)) }
         ensures longer { GrowsTo draft.old draft.new }
     {
         match term {
-            Tree::Symbol(name) => self.sort_of_symbol(draft, name.as_slice()),
-            Tree::Numeral(digits) => self.push_numeral(draft, digits.as_slice()),
+            Tree::Symbol(name) => self.sort_of_symbol(draft, name),
+            Tree::Numeral(digits) => self.push_numeral(draft, digits),
             Tree::List(parts) => self.sort_of_list(draft, parts),
-            Tree::Hex(digits) => self.push_hex(draft, digits.as_slice()),
-            Tree::Bin(digits) => self.push_bin(draft, digits.as_slice()),
+            Tree::Hex(digits) => self.push_hex(draft, digits),
+            Tree::Bin(digits) => self.push_bin(draft, digits),
             Tree::Decimal(_) | Tree::Text(_) => Err(TermFault::Unsupported),
             Tree::Keyword(_) | Tree::Reserved(_) => Err(TermFault::Form),
         }
@@ -176,18 +176,18 @@ impl Library {
     fn sort_of_list<'a>(
         &self,
         draft: &mut Draft<'a>,
-        parts: &'a Trees,
+        parts: Trees<'a>,
     ) -> Result<CheckedTerm, TermFault>
         requires { IsPlaced (seen_by draft.old) draft.old.base }
-        ensures sort { HasSort self.now draft.old (Items parts.now) result }
-        ensures labels { GivesLabels self.now draft.old draft.new (Items parts.now) result }
+        ensures sort { HasSort self.now draft.old (Items (sexps_of parts.entry)) result }
+        ensures labels { GivesLabels self.now draft.old draft.new (Items (sexps_of parts.entry)) result }
         ensures kept { OnOk result (SeesTheSame draft.old draft.new) }
         ensures waiting { OnOk result (HasTheSame draft.old draft.new) }
-        ensures open { IfOk result (λ c. c.is_open ≡ is_open draft.old (Items parts.now)) }
-        ensures node { IfOk result (Stands self.now draft.old draft.new (Items parts.now)) }
+        ensures open { IfOk result (λ c. c.is_open ≡ is_open draft.old (Items (sexps_of parts.entry))) }
+        ensures node { IfOk result (Stands self.now draft.old draft.new (Items (sexps_of parts.entry))) }
         ensures longer { GrowsTo draft.old draft.new }
     {
-        let Some((head, args)) = split_first(parts.as_slice()) else {
+        let Some((head, args)) = parts.split_first() else {
             return Err(TermFault::Form);
         };
         if is_underscore(head) {
@@ -212,24 +212,24 @@ impl Library {
     // Adds the sorts and the nodes of terms to the waiting arguments, in order. Returns whether one of the terms uses
     // a variable from outside, or the first fault.
     #[cycle(check)]
-    fn sorts_of<'a>(&self, draft: &mut Draft<'a>, terms: &'a [Tree]) -> Result<bool, TermFault>
+    fn sorts_of<'a>(&self, draft: &mut Draft<'a>, terms: Trees<'a>) -> Result<bool, TermFault>
         requires { IsPlaced (seen_by draft.old) draft.old.base }
         ensures sorts { HasSorts draft.old draft.new
             (sorts_in (names_for self.now (labels_view draft.old.labels)) (sorts_seen draft.old)
-            (sexps_of terms.now)) result }
+            (sexps_of terms.entry)) result }
         ensures labels { OnOk result
             (AreGiven (names_of_library self.now) draft.old.labels draft.new.labels
-            (labels_in_all (sexps_of terms.now))) }
+            (labels_in_all (sexps_of terms.entry))) }
         ensures kept { OnOk result (SeesTheSame draft.old draft.new) }
-        ensures open { IfOk result (λ is_open. is_open ≡ are_open draft.old (sexps_of terms.now)) }
+        ensures open { IfOk result (λ is_open. is_open ≡ are_open draft.old (sexps_of terms.entry)) }
         ensures nodes { IfOk result (λ is_open. (nodes : List ℕ)
             × (argument_terms draft.new.arguments ≡ argument_terms draft.old.arguments ++ nodes)
-            × TermsStand self.now draft.old draft.new (sexps_of terms.now) nodes is_open) }
+            × TermsStand self.now draft.old draft.new (sexps_of terms.entry) nodes is_open) }
         ensures longer { GrowsTo draft.old draft.new }
     {
         let mut is_open = false;
         let mut left = terms;
-        while let Some((term, rest)) = split_first(left) {
+        while let Some((term, rest)) = left.split_first() {
             let checked = self.sort_of(draft, term)?;
             draft.arguments.push(checked.sort, checked.node)?;
             is_open |= checked.is_open;

@@ -4,7 +4,7 @@
 ghost use Rattle.std.specs.Prelude.{◌≡◌, ◌⊎◌, ◌∷◌, ◌++◌, ◌-◌, ℕ, List, [], None, Ok, Err, length, map, take};
 ghost use Rattle.std.specs.Prelude.{OnOk, OnErr, IfErr, false};
 ghost use Rattle.smt_trees.specs.Sexp.{Sexp};
-ghost use Rattle.smt_trees.specs.Tree.{sexp_of};
+ghost use Rattle.smt_trees.specs.View.{sexp_of};
 ghost use Rattle.smt_theory.specs.Operators.{is_plain_operator};
 ghost use Rattle.smt_theory.specs.Words.{look_up};
 ghost use Rattle.smt_terms.specs.Contents.{Extends, contents_of};
@@ -28,7 +28,7 @@ use smt_faults::{Memory, TermFault};
 use smt_forms::{Param, Variable};
 use smt_nodes::TermId;
 use smt_theory::Sort;
-use smt_trees::Tree;
+use smt_trees::view::Tree;
 
 impl Library {
     /// Defines a name by its parameters, the tree of its sort, and its body (SMT-LIB 2.6, section 4.2.3). The body
@@ -48,14 +48,14 @@ impl Library {
         &mut self,
         name: &[u8],
         params: &[Param<'_>],
-        sort: &Tree,
-        body: &Tree,
+        sort: Tree<'_>,
+        body: Tree<'_>,
     ) -> Result<(), TermFault>
         ensures defined { OnOk result ((s : Signature) → StandsFor self.old s → (e : signature.Entry)
-            × (defined_in s name.now (map param_view params.now) (sexp_of sort.now) (sexp_of body.now) ≡ Ok e)
+            × (defined_in s name.now (map param_view params.now) (sexp_of sort.entry) (sexp_of body.entry) ≡ Ok e)
             × StandsFor self.new (with_entry s e)) }
         ensures refused { IfErr result (λ fault. (s : Signature) → StandsFor self.old s
-            → Tells (defined_in s name.now (map param_view params.now) (sexp_of sort.now) (sexp_of body.now))
+            → Tells (defined_in s name.now (map param_view params.now) (sexp_of sort.entry) (sexp_of body.entry))
             fault) }
         ensures unchanged { OnErr result (IsUnchanged self.old self.new) }
         ensures restored { OnErr result (contents_of self.new ≡ contents_of self.old) }
@@ -77,13 +77,13 @@ impl Library {
         name: &[u8],
         parameters: &[Variable<'_, Sort>],
         sort: Sort,
-        body: &Tree,
+        body: Tree<'_>,
     ) -> Result<(), TermFault>
         requires { look_up (names_of_library self.old).ranks name.now ≡ None }
         ensures added { AddsDefinition self.old self.new name.now (scope_view parameters.now) sort
-            (sexp_of body.now) result }
+            (sexp_of body.entry) result }
         ensures refused { RefusesDefinition self.old name.now (scope_view parameters.now) sort
-            (sexp_of body.now) result }
+            (sexp_of body.entry) result }
         ensures restored { OnErr result (contents_of self.new ≡ contents_of self.old) }
         ensures grown { Extends (contents_of self.old) (contents_of self.new) }
         ensures theories { self.new.sorts.theories ≡ self.old.sorts.theories }
@@ -106,13 +106,13 @@ impl Library {
         name: &[u8],
         parameters: &[Variable<'_, Sort>],
         sort: Sort,
-        body: &Tree,
+        body: Tree<'_>,
     ) -> Result<(), TermFault>
         requires { look_up (names_of_library self.old).ranks name.now ≡ None }
         ensures added { AddsDefinition self.old self.new name.now (scope_view parameters.now) sort
-            (sexp_of body.now) result }
+            (sexp_of body.entry) result }
         ensures refused { RefusesDefinition self.old name.now (scope_view parameters.now) sort
-            (sexp_of body.now) result }
+            (sexp_of body.entry) result }
         ensures grown { Extends (contents_of self.old) (contents_of self.new) }
         ensures sorts { self.new.sorts ≡ self.old.sorts }
         ensures transient { self.new.transient ≡ self.old.transient }

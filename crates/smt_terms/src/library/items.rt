@@ -3,7 +3,7 @@
 
 ghost use Rattle.std.specs.Prelude.{◌≡◌, ◌&&◌, map, option_map, None, Some, Ok, Err, Option, OnOk, OnErr, IfErr};
 ghost use Rattle.std.specs.Prelude.{IfOk};
-ghost use Rattle.smt_trees.specs.Tree.{sexp_of};
+ghost use Rattle.smt_trees.specs.View.{sexp_of};
 ghost use Rattle.smt_theory.specs.Ranks.{are_exactly};
 ghost use Rattle.smt_theory.specs.Sort.{is_same_sort};
 ghost use Rattle.smt_terms.specs.Contents.{Extends, contents_of};
@@ -24,7 +24,7 @@ use crate::sorts::are_equal;
 use smt_faults::{Memory, TermFault};
 use smt_forms::{ItemForm, Variable, item_form};
 use smt_theory::Sort;
-use smt_trees::Tree;
+use smt_trees::view::Tree;
 
 impl Library {
     /// A library for the items of a model of these names (SMT-LIB 2.6, section 4.2.6). It has the theories of this
@@ -58,14 +58,14 @@ impl Library {
     /// adds nothing and does not look at the body. It refuses such an item for its form, its parameters and its sort
     /// like others, and for another rank than the definition's (`IllSorted`).
     #[tactic(auto, using(crate::proofs::ContentsLemmas::extends_itself))]
-    pub fn define_item(&mut self, script: &Library, item: &Tree) -> Result<(), TermFault>
+    pub fn define_item(&mut self, script: &Library, item: Tree<'_>) -> Result<(), TermFault>
         requires { HasTheoriesOf self.old script.now }
         ensures defined { OnOk result ((s m : Signature) → StandsFor script.now s → StandsFor self.old m
-            → (o : Option signature.Entry) × (item_in s m.entries (sexp_of item.now) ≡ Ok o)
+            → (o : Option signature.Entry) × (item_in s m.entries (sexp_of item.entry) ≡ Ok o)
             × StandsFor self.new (with_entries m (list_of o))) }
         ensures refused { IfErr result
             (λ fault. (s m : Signature) → StandsFor script.now s → StandsFor self.old m
-            → Tells (item_in s m.entries (sexp_of item.now)) fault) }
+            → Tells (item_in s m.entries (sexp_of item.entry)) fault) }
         ensures unchanged { OnErr result (IsUnchanged self.old self.new) }
         ensures restored { OnErr result (contents_of self.new ≡ contents_of self.old) }
         ensures grown { Extends (contents_of self.old) (contents_of self.new) }

@@ -1,7 +1,7 @@
 //! The parameters of definitions, with their sorts. This file knows no bodies.
 
 ghost use Rattle.std.specs.Prelude.{◌≡◌, [], Ok, Err, map, IfOk};
-ghost use Rattle.smt_trees.specs.Tree.{sexps_of};
+ghost use Rattle.smt_trees.specs.View.{sexps_of};
 ghost use Rattle.smt_forms.specs.Bindings.{named_trees};
 ghost use Rattle.smt_terms.specs.Definitions.{parameters_named};
 ghost use Rattle.smt_terms.specs.Internal.LibraryView.{sort_names};
@@ -14,7 +14,7 @@ use crate::sorts::SortNames;
 use smt_faults::{Memory, TermFault};
 use smt_forms::{NameSet, Param, Variable, params_of};
 use smt_theory::Sort;
-use smt_trees::Tree;
+use smt_trees::view::Trees;
 use std::alloc::Global;
 
 // The parameters as variables with their sorts, or the first fault. Of each parameter the sort is checked first,
@@ -60,10 +60,10 @@ fn push_sorted<'a>(
 pub(super) fn sorted_params_of<'a>(
     alloc: Global,
     sorts: &SortNames,
-    trees: &'a [Tree],
+    trees: Trees<'a>,
 ) -> Result<Vec<Variable<'a, Sort>>, TermFault>
     ensures { IsOutcome (λ variables. scope_view variables.items)
-        (parameters_named (sort_names sorts.now) [] (named_trees (sexps_of trees.now))) result }
+        (parameters_named (sort_names sorts.now) [] (named_trees (sexps_of trees.entry))) result }
 {
     let params = params_of(alloc, trees)?;
     sorted_params(alloc, sorts, params.as_slice())

@@ -5,7 +5,7 @@ ghost use Rattle.std.specs.Prelude.{◌≡◌, ◌++◌, ℕ, [], List, Ok, Matc
 ghost use Rattle.smt_nodes.specs.Node.{Row};
 ghost use Rattle.smt_nodes.specs.Nodes.{rows_of};
 ghost use Rattle.smt_trees.specs.Sexp.{Sexp};
-ghost use Rattle.smt_trees.specs.Tree.{sexp_of};
+ghost use Rattle.smt_trees.specs.View.{sexp_of};
 ghost use Rattle.smt_faults.specs.Outcome.{Tells};
 ghost use Rattle.smt_terms.specs.Checking.{sort_in};
 ghost use Rattle.smt_terms.specs.Contents.{contents_of};
@@ -19,18 +19,18 @@ use crate::library::draft::Draft;
 use smt_faults::TermFault;
 use smt_nodes::{Nodes, TermId};
 use smt_theory::Sort;
-use smt_trees::Tree;
+use smt_trees::view::Tree;
 use std::mem;
 
 impl Library {
     /// Checks a term without labels over the names, as `check` does, and makes its nodes transient (SMT-LIB 2.6,
     /// sections 3.6 and 5.2). It returns the number of the term's node and its sort, or its first fault; then nothing
     /// changes. The number has a meaning until the library changes otherwise than by this call.
-    pub fn check_transient(&mut self, term: &Tree) -> Result<(TermId, Sort), TermFault>
+    pub fn check_transient(&mut self, term: Tree<'_>) -> Result<(TermId, Sort), TermFault>
         ensures answer { (s : Signature) → StandsFor self.old s
-            → MatchResult result (λ p. (sort_in (names_of s) [] (sexp_of term.now) ≡ Ok p.1)
-            × IsTerm self.new p.0 (sexp_of term.now))
-            (λ fault. Tells (sort_in (names_of s) [] (sexp_of term.now)) fault) }
+            → MatchResult result (λ p. (sort_in (names_of s) [] (sexp_of term.entry) ≡ Ok p.1)
+            × IsTerm self.new p.0 (sexp_of term.entry))
+            (λ fault. Tells (sort_in (names_of s) [] (sexp_of term.entry)) fault) }
         ensures held { contents_of self.new ≡ contents_of self.old }
         ensures grown { (more : List Row) × (transient_of self.new ≡ transient_of self.old ++ more) }
         ensures kept { (i : ℕ) (t : Sexp) → IsTerm self.old i t → IsTerm self.new i t }

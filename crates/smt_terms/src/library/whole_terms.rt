@@ -3,7 +3,7 @@
 ghost use Rattle.std.specs.Prelude.{◌≡◌, ◌++◌, [], List, length, map, IfOk, OnOk, OnErr};
 ghost use Rattle.smt_nodes.specs.Node.{Row};
 ghost use Rattle.smt_nodes.specs.Nodes.{rows_of};
-ghost use Rattle.smt_trees.specs.Tree.{sexp_of};
+ghost use Rattle.smt_trees.specs.View.{sexp_of};
 ghost use Rattle.smt_forms.specs.Labels.{labels_in};
 ghost use Rattle.smt_forms.specs.ScopeView.{scope_view};
 ghost use Rattle.smt_faults.specs.Outcome.{IsOutcome};
@@ -23,7 +23,7 @@ use smt_faults::TermFault;
 use smt_forms::Variable;
 use smt_nodes::Nodes;
 use smt_theory::Sort;
-use smt_trees::Tree;
+use smt_trees::view::Tree;
 use std::mem;
 
 impl Library {
@@ -34,18 +34,18 @@ impl Library {
         &mut self,
         variables: &[Variable<'a, Sort>],
         labels: Labels<'a>,
-        term: &'a Tree,
+        term: Tree<'a>,
     ) -> Result<(CheckedTerm, Vec<Label<'a>>), TermFault>
         requires { labels.given.items ≡ [] }
         ensures sort { IsOutcome (λ found. found.0.sort) (sort_in (names_for self.old (labels_view labels.entry))
-            (scope_view variables.now) (sexp_of term.now)) result }
+            (scope_view variables.now) (sexp_of term.entry)) result }
         ensures given { IfOk result (λ found.
-            (map (λ l. (l.name.items, sexp_of l.body.now)) found.1.items ≡ labels_in (sexp_of term.now))
+            (map (λ l. (l.name.items, sexp_of l.body)) found.1.items ≡ labels_in (sexp_of term.entry))
             × AreSorted (names_of_library self.old) found.1.items) }
         ensures node { IfOk result (λ found. IsReady (table_of self.old)
             → Denotes (table_with self.old found.1.items (rows_of self.new.nodes))
             (slots_from 0 (map (λ v. v.0) (scope_view variables.now))) (length variables.now) 0 found.0.node
-            (sexp_of term.now)
+            (sexp_of term.entry)
             × AreNamed (table_with self.old found.1.items (rows_of self.new.nodes)) found.1.items) }
         ensures grown { OnOk result ((more : List Row)
             × (rows_of self.new.nodes ≡ rows_of self.old.nodes ++ more)) }
@@ -81,18 +81,18 @@ impl Library {
         &self,
         draft: &mut Draft<'a>,
         variables: &[Variable<'a, Sort>],
-        term: &'a Tree,
+        term: Tree<'a>,
     ) -> Result<CheckedTerm, TermFault>
         requires none { seen_by draft.old ≡ [] }
         requires base { draft.old.base ≡ 0 }
         ensures sort { IsOutcome (λ c. c.sort) (sort_in (names_for self.now (labels_view draft.old.labels))
-            (scope_view variables.now) (sexp_of term.now)) result }
+            (scope_view variables.now) (sexp_of term.entry)) result }
         ensures labels { OnOk result (AreGiven (names_of_library self.now) draft.old.labels draft.new.labels
-            (labels_in (sexp_of term.now))) }
+            (labels_in (sexp_of term.entry))) }
         ensures node { IfOk result (λ c. IsReady (table_in self.now draft.old)
             → Denotes (table_in self.now draft.new)
             (slots_from 0 (map (λ v. v.0) (scope_view variables.now))) (length variables.now) 0 c.node
-            (sexp_of term.now)) }
+            (sexp_of term.entry)) }
         ensures named { OnOk result (KeepsNamed self.now draft.old draft.new) }
         ensures longer { GrowsTo draft.old draft.new }
     {

@@ -1,6 +1,7 @@
 use Rattle.std.proofs.Common.{◌≡◌, ap, sym, ◌∙◌, subst}
 use Rattle.std.proofs.lemmas.Result.{IfOk-weaker}
 use Rattle.smt_terms.specs.Library.{terms_of}
+use Rattle.smt_eval.specs.Model.{model_in}
 use Rattle.smt_script.specs.Stack.{signature_in_force}
 use Rattle.smt_script.specs.StackView.{profile_of}
 use Rattle.smt_dialogue.specs.Internal.Claims.{AreClaimed, claims_in_force, claims_left}
@@ -15,9 +16,10 @@ returns-in-Ok c = λ commands stands.
     let read = c.in-Ok.ensures.model script names in
     let terms = subst (λ l. AreClaimed (terms_of l) (claims_left c.new-claims.result) all)
     (sym c.library-library.ensures.view) (c.new-claims.ensures commands stands) in
+    let same = c.of.ensures ∙ c.as_slice.ensures in
     IfOk-weaker c.judge_read-judgement.result _
     (λ j. j ≡ judgement_of c.args.limit.steps script all c.args.model.now)
-    (λ j h. h ∙ ap (judged_in c.args.limit.steps script all) (sym read.1))
+    (λ j h. h ∙ ap (judged_in c.args.limit.steps script all) (sym read.1 ∙ ap (model_in script) same))
     (c.judge_read-judgement.ensures script read.0 all names read.2 terms)
 
 pub judge_read-judgement-requires-clause-fits : goal.judge_read-judgement-requires-clause-fits

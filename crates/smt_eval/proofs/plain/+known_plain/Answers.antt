@@ -1,6 +1,6 @@
 use Rattle.std.proofs.Common.{map, refl, ap, sym, ◌∙◌}
 use Rattle.smt_trees.specs.Sexp.{Cons, Items, Reserved}
-use Rattle.smt_trees.specs.Tree.{sexp_of, sexps_of}
+use Rattle.smt_trees.specs.View.{sexp_of, sexps_of}
 use Rattle.smt_trees.specs.declared.reserved.Word.TheVariants.{Bang}
 use Rattle.smt_theory.specs.Index.{index_view}
 use Rattle.smt_theory.specs.Operators.{op_by}
@@ -28,21 +28,21 @@ pub evaluator::known_list-returns-in-Reserved : goal.evaluator::known_list-retur
 evaluator::known_list-returns-in-Reserved t c =
     if_known c.known_reserved.result _ _ c.known_reserved.ensures
     (sym (ap (λ ps. known_of (meaning_of c.args.over) (known_scope c.args.scope.now) (Items ps))
-    (sym c.as_slice.ensures ∙ c.in-Some.ensures ∙ ap
-    (λ h. Cons (sexp_of h) (sexps_of c.in-Some.args.now)) c.in-Reserved.is)))
+    (c.in-Some.ensures ∙ ap
+    (λ h. Cons (sexp_of h) (sexps_of c.in-Some.args)) c.in-Reserved.is)))
 
 pub evaluator::known_list-returns-in_default-head : goal.evaluator::known_list-returns-in_default-head
 evaluator::known_list-returns-in_default-head t c =
     if_known c.known_call.result _ _ c.known_call.ensures
-    (sym (list_called (meaning_of c.args.over) (known_scope c.args.scope.now) (sexp_of c.in-Some.head.now)
-    (sexps_of c.in-Some.args.now) c.args.parts.now (sym c.as_slice.ensures ∙ c.in-Some.ensures)
-    (not_reserved c.in-Some.head.now c.in_default-head.not-Reserved)))
+    (sym (list_called (meaning_of c.args.over) (known_scope c.args.scope.now) (sexp_of c.in-Some.head)
+    (sexps_of c.in-Some.args) (sexps_of c.args.parts) (c.in-Some.ensures)
+    (not_reserved c.in-Some.head c.in_default-head.not-Reserved)))
 
 pub evaluator::known_reserved-returns-in-Some : goal.evaluator::known_reserved-returns-in-Some
 evaluator::known_reserved-returns-in-Some t c =
     if_known c.known_value.result _ _ c.known_value.ensures
     (sym (ap (λ w. known_of (meaning_of c.args.over) (known_scope c.args.scope.now)
-    (Items (Cons (Reserved w) (sexps_of c.args.args.now)))) c.in-Bang.is
+    (Items (Cons (Reserved w) (sexps_of c.args.args)))) c.in-Bang.is
     ∙ ap (λ ts. known_of (meaning_of c.args.over) (known_scope c.args.scope.now)
     (Items (Cons (Reserved Bang) ts))) c.in-Some.ensures))
 
@@ -50,9 +50,9 @@ pub evaluator::known_let-returns : goal.evaluator::known_let-returns
 evaluator::known_let-returns t c =
     let m = meaning_of c.args.over in
     let scope = known_scope c.args.scope.now in
-    let bindings = sexps_of c.in-Some.bindings.now in
+    let bindings = sexps_of c.in-Some.bindings in
     if_known c.known_value.result _ _ c.known_value.ensures
-    (sym (let_known m scope (sexps_of c.args.args.now) bindings (sexp_of c.in-Some.body.now)
+    (sym (let_known m scope (sexps_of c.args.args) bindings (sexp_of c.in-Some.body)
     c.as_slice.result.now c.in_ok-variables.variables.items c.args.scope.now c.in-Some.ensures
     c.in_ok-variables.ensures
     (c.as_slice.ensures.value ∙ c.in_ok-extend_from_slice.ensures.items) refl))

@@ -1,36 +1,36 @@
 use Rattle.std.proofs.Common.{◌≡◌, ◌+◌, ◌*◌, ◌≤◌, ◌++◌}
 use Rattle.smt_trees.specs.Sexp.{weight, weight_all}
-use Rattle.smt_trees.specs.Tree.{sexp_of, sexps_of}
+use Rattle.smt_trees.specs.View.{sexp_of, sexps_of}
 use Rattle.smt_values.specs.Element.{known_elements}
 use Rattle.smt_eval.specs.Internal.PlainEvaluation.{known_scope, meaning_of, seen_weight}
 use Rattle.smt_eval.specs.Known.{knowns_bound, knowns_of}
 use Rattle.smt_eval.proofs.plain.+known_plain.Given as goal
 
 abbrev pub decreases-evaluator::known_value : goal.decreases-evaluator::known_value
-decreases-evaluator::known_value l = 8 * (seen_weight l.over + weight (sexp_of l.term.now)) + 1
+decreases-evaluator::known_value l = 8 * (seen_weight l.over + weight (sexp_of l.term)) + 1
 
 abbrev pub decreases-evaluator::known_symbol : goal.decreases-evaluator::known_symbol
 decreases-evaluator::known_symbol l = 8 * seen_weight l.over + 6
 
 abbrev pub decreases-evaluator::known_list : goal.decreases-evaluator::known_list
-decreases-evaluator::known_list l = 8 * (seen_weight l.over + weight_all l.parts.now) + 7
+decreases-evaluator::known_list l = 8 * (seen_weight l.over + weight_all (sexps_of l.parts)) + 7
 
 abbrev pub decreases-evaluator::known_reserved : goal.decreases-evaluator::known_reserved
 decreases-evaluator::known_reserved l =
-    8 * (seen_weight l.over + weight_all (sexps_of l.args.now)) + 6
+    8 * (seen_weight l.over + weight_all (sexps_of l.args)) + 6
 
 abbrev pub decreases-evaluator::known_let : goal.decreases-evaluator::known_let
-decreases-evaluator::known_let l = 8 * (seen_weight l.over + weight_all (sexps_of l.args.now)) + 5
+decreases-evaluator::known_let l = 8 * (seen_weight l.over + weight_all (sexps_of l.args)) + 5
 
 abbrev pub decreases-evaluator::knowns_bound_by : goal.decreases-evaluator::knowns_bound_by
 decreases-evaluator::knowns_bound_by l =
-    8 * (seen_weight l.over + weight_all (sexps_of l.bindings.now)) + 4
+    8 * (seen_weight l.over + weight_all (sexps_of l.bindings)) + 4
 
 abbrev pub decreases-evaluator::known_call : goal.decreases-evaluator::known_call
-decreases-evaluator::known_call l = 8 * (seen_weight l.over + weight_all (sexps_of l.args.now)) + 6
+decreases-evaluator::known_call l = 8 * (seen_weight l.over + weight_all (sexps_of l.args)) + 6
 
 abbrev pub decreases-evaluator::known_all : goal.decreases-evaluator::known_all
-decreases-evaluator::known_all l = 8 * (seen_weight l.over + weight_all (sexps_of l.terms.now)) + 4
+decreases-evaluator::known_all l = 8 * (seen_weight l.over + weight_all (sexps_of l.terms)) + 4
 
 abbrev pub decreases-names::known_applied : goal.decreases-names::known_applied
 decreases-names::known_applied l = 8 * seen_weight l.over + 5
@@ -40,7 +40,7 @@ decreases-names::known_named l = 8 * seen_weight l.over + 4
 
 abbrev pub decreases-names::known_body : goal.decreases-names::known_body
 decreases-names::known_body l =
-    8 * (seen_weight l.earlier + weight (sexp_of l.definition.now.body.now)) + 2
+    8 * (seen_weight l.earlier + weight (sexp_of l.definition.now.body)) + 2
 
 abbrev pub invariant-evaluator::known_all-loop-term :
     goal.invariant-evaluator::known_all-loop-term

@@ -1,6 +1,6 @@
 use Rattle.std.proofs.Common.{◌≡◌}
 use Rattle.smt_trees.specs.Sexp.{weight_all}
-use Rattle.smt_trees.specs.Tree.{sexps_of}
+use Rattle.smt_trees.specs.View.{sexps_of}
 use Rattle.smt_forms.specs.Bindings.{go_on}
 use Rattle.smt_forms.proofs.attributes.go_on.Given as goal
 

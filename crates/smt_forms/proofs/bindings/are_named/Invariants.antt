@@ -1,6 +1,6 @@
 use Rattle.std.proofs.Common.{◌≡◌}
 use Rattle.smt_trees.specs.Sexp.{weight_all}
-use Rattle.smt_trees.specs.Tree.{sexps_of}
+use Rattle.smt_trees.specs.View.{sexps_of}
 use Rattle.smt_forms.specs.Bindings.{are_named_trees}
 use Rattle.smt_forms.proofs.bindings.are_named.Given as goal
 

@@ -1,6 +1,6 @@
 use Rattle.std.proofs.Common.{◌≡◌, is_some}
 use Rattle.smt_trees.specs.Sexp.{weight_all}
-use Rattle.smt_trees.specs.Tree.{sexps_of}
+use Rattle.smt_trees.specs.View.{sexps_of}
 use Rattle.smt_forms.specs.Identifier.{all_indexes}
 use Rattle.smt_forms.proofs.identifier.are_indexes.Given as goal
 

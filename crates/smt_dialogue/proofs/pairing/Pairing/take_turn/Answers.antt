@@ -1,7 +1,10 @@
 use Rattle.std.proofs.Common.{◌≡◌, ◌∙◌, ap, arith, false, is_some, refl, subst, sym, true}
+use Rattle.smt_trees.specs.Tree.{sexp_of}
+use Rattle.smt_trees.specs.View as view
+use Rattle.smt_script.specs.CommandView.{command_view}
 use Rattle.smt_script.specs.StackView.{profile_of}
 use Rattle.smt_dialogue.proofs.AdvanceLemmas.{answers_at_most, checks_at_most, room_for_one}
-use Rattle.smt_dialogue.proofs.PairingLemmas.{next_there, taken_up, turned_behind}
+use Rattle.smt_dialogue.proofs.PairingLemmas.{next_there, read_again, taken_up, turned_behind, unread}
 use Rattle.smt_dialogue.specs.Internal.PairingView.{IsClosing, IsInTurn, IsNext}
 use Rattle.smt_dialogue.proofs.pairing.Pairing.take_turn.Goals as goal
 
@@ -17,6 +20,18 @@ unreachable-requires c =
     c.in_default.is c.in_ok-instead.ensures.next way.4 in
     let none : false ≡ true = sym (ap is_some c.in_default-command.is) ∙ next.1 in cc
 
+pub unreachable-requires-in_default-read_command : goal.unreachable-requires-in_default-read_command
+unreachable-requires-in_default-read_command c =
+    let way = c.requires.room.way in
+    let m = c.next_command.new.self in
+    let h = (next_there c.in_ok-instead.field-0 c.args.self.now m way.0 way.1 way.2 way.3 c.in_default.is
+    c.in_ok-instead.ensures.next way.4).0 in
+    let turn = subst (λ o. IsInTurn (profile_of m.dialogue.stack) o way.1 way.2 h.left) c.in-Some-command.is h.in_turn in
+    unread c.read_command.result c.profile.result (view.sexp_of c.view_of.result) turn.0
+    c.in_default-read_command.not-Ok c.read_command.ensures
+    (read_again c.profile.result (profile_of m.dialogue.stack) (view.sexp_of c.view_of.result)
+    (sexp_of c.in-Some-command.tree) _ (sym c.profile.ensures) (sym c.view_of.ensures) turn.2)
+
 pub take_up-requires-clause-commands : goal.take_up-requires-clause-commands
 take_up-requires-clause-commands c =
     let way = c.requires.room.way in
@@ -24,7 +39,7 @@ take_up-requires-clause-commands c =
     let h = (next_there c.in_ok-instead.field-0 c.args.self.now m way.0 way.1 way.2 way.3 c.in_default.is
     c.in_ok-instead.ensures.next way.4).0 in
     let turn = subst (λ o. IsInTurn (profile_of m.dialogue.stack) o way.1 way.2 h.left) c.in-Some-command.is h.in_turn in
-    let most = room_for_one c.requires.room.few m way.0 way.1 turn.0 h.left way.2 way.3 turn.1 h in
+    let most = room_for_one c.requires.room.few m way.0 way.1 (sexp_of c.in-Some-command.tree) h.left way.2 way.3 turn.1 h in
     omega (arith, most, c.next_command.ensures.fed.script, c.requires.room.script)
 
 pub take_up-requires-clause-answers : goal.take_up-requires-clause-answers
@@ -34,7 +49,7 @@ take_up-requires-clause-answers c =
     let h = (next_there c.in_ok-instead.field-0 c.args.self.now m way.0 way.1 way.2 way.3 c.in_default.is
     c.in_ok-instead.ensures.next way.4).0 in
     let turn = subst (λ o. IsInTurn (profile_of m.dialogue.stack) o way.1 way.2 h.left) c.in-Some-command.is h.in_turn in
-    let most = room_for_one c.requires.room.few m way.0 way.1 turn.0 h.left way.2 way.3 turn.1 h in
+    let most = room_for_one c.requires.room.few m way.0 way.1 (sexp_of c.in-Some-command.tree) h.left way.2 way.3 turn.1 h in
     omega (
       arith,
       most,
@@ -50,7 +65,7 @@ take_up-requires-clause-checks c =
     let h = (next_there c.in_ok-instead.field-0 c.args.self.now m way.0 way.1 way.2 way.3 c.in_default.is
     c.in_ok-instead.ensures.next way.4).0 in
     let turn = subst (λ o. IsInTurn (profile_of m.dialogue.stack) o way.1 way.2 h.left) c.in-Some-command.is h.in_turn in
-    let most = room_for_one c.requires.room.few m way.0 way.1 turn.0 h.left way.2 way.3 turn.1 h in
+    let most = room_for_one c.requires.room.few m way.0 way.1 (sexp_of c.in-Some-command.tree) h.left way.2 way.3 turn.1 h in
     omega (
       arith,
       most,
@@ -69,7 +84,9 @@ take_up-requires-clause-stands c =
       h.early,
       way.1,
       h.stands,
-      λ e. subst (λ o. IsClosing o way.0 way.2) c.in-Some-command.is (h.closing e),
+      λ e. subst (λ o. IsClosing (profile_of c.next_command.new.self.dialogue.stack) o way.0 way.2) c.in-Some-command.is (h.closing e)
+          (command_view c.in-Ok.command) (read_again (profile_of c.next_command.new.self.dialogue.stack) c.profile.result (sexp_of c.in-Some-command.tree)
+          (view.sexp_of c.view_of.result) _ c.profile.ensures c.view_of.ensures c.in-Ok.ensures),
     )
 
 pub take_up-requires-clause-front : goal.take_up-requires-clause-front
@@ -91,7 +108,9 @@ returns-in-GoesOn-clause-turn c = λ texts pairs later rest way.
     let h = (next_there c.in_ok-instead.field-0 c.args.self.now m texts pairs later rest c.in_default.is
     c.in_ok-instead.ensures.next way).0 in
     turned_behind c.in_ok-turn.turn c.args.self.now m _ texts pairs later rest c.next_command.ensures.dialogue
-    (taken_up c.in_ok-turn.turn m _ texts pairs later rest c.in-Some-command.command c.in-Some-command.is refl
+    (taken_up c.in_ok-turn.turn m _ texts pairs later rest c.in-Some-command.tree (command_view c.in-Ok.command) c.in-Some-command.is
+    (read_again (profile_of m.dialogue.stack) c.profile.result (sexp_of c.in-Some-command.tree)
+    (view.sexp_of c.view_of.result) _ c.profile.ensures c.view_of.ensures c.in-Ok.ensures) refl
     c.in_ok-turn.ensures.start (λ e. refl) (λ closed e. absurd (cc))
     (λ early stands check. c.in_ok-turn.ensures.turn texts.answers_bytes texts.answers rest texts.taken early pairs h.answers_front
     stands check) h)
@@ -102,7 +121,9 @@ returns-in_default-turn-clause-turn c = λ texts pairs later rest way.
     let h = (next_there c.in_ok-instead.field-0 c.args.self.now m texts pairs later rest c.in_default.is
     c.in_ok-instead.ensures.next way).0 in
     turned_behind c.in_ok-turn.turn c.args.self.now m _ texts pairs later rest c.next_command.ensures.dialogue
-    (taken_up c.in_ok-turn.turn m _ texts pairs later rest c.in-Some-command.command c.in-Some-command.is refl
+    (taken_up c.in_ok-turn.turn m _ texts pairs later rest c.in-Some-command.tree (command_view c.in-Ok.command) c.in-Some-command.is
+    (read_again (profile_of m.dialogue.stack) c.profile.result (sexp_of c.in-Some-command.tree)
+    (view.sexp_of c.view_of.result) _ c.profile.ensures c.view_of.ensures c.in-Ok.ensures) refl
     c.in_ok-turn.ensures.start (λ e. absurd (c.in_default-turn.not-GoesOn e)) (λ closed e. c.in-Some-command.is)
     (λ early stands check. c.in_ok-turn.ensures.turn texts.answers_bytes texts.answers rest texts.taken early pairs h.answers_front
     stands check) h)

@@ -1,8 +1,8 @@
 use Rattle.std.proofs.Common.{ℕ, refl, Option, ap, ◌∙◌}
-use Rattle.smt_trees.specs.Tree.{sexps_of}
+use Rattle.smt_trees.specs.View.{sexps_of}
 use Rattle.smt_terms.specs.Items.{items_before}
 use Rattle.smt_terms.specs.Library.{held_terms_of}
-use Rattle.smt_eval.specs.Model.{complete_or, items_of}
+use Rattle.smt_eval.specs.Model.{complete_or}
 use Rattle.smt_eval.proofs.CompleteModelLemmas.{TakenAreItems}
 use Rattle.smt_eval.proofs.GivenBodyLemmas.{bodies_given, lacking_told}
 use Rattle.smt_eval.proofs.ReadLemmas.{model_whole}
@@ -19,11 +19,11 @@ returns-in-Ok-clause-model c = λ s stands.
       ranked = λ f at. c.items_are_well_sorted.ensures.ranked script earlier tree e f h at;
       free = c.items_are_well_sorted.ensures.free script earlier tree e h;
     } in
-    let defined = items_defined law s (sexps_of c.items.result.now) read.0 read.1 in
+    let defined = items_defined law s (sexps_of c.items.result) read.0 read.1 in
     let given = c.in-Ok.ensures s d stands read.2 defined in
     let whole =
-    model_whole s c.args.model.now (sexps_of c.items.result.now) read.0
-    (c.items.ensures ∙ ap items_of c.as_slice.ensures) read.1
+    model_whole s (sexps_of c.args.model) (sexps_of c.items.result) read.0
+    c.items.ensures read.1
     ∙ ap (λ (o : Option ℕ). complete_or o d) given.0 in (
       d,
       whole,
@@ -31,9 +31,9 @@ returns-in-Ok-clause-model c = λ s stands.
         stands = read.2;
         defined = defined;
         theories = refl;
-        distinct = c.structures_are_distinct.ensures s c.args.model.now d whole stands.distinct;
-        bodies = bodies_given s d c.args.model.now (held_terms_of c.in_ok-definitions.definitions).bodies _
-            (c.models_are_complete.ensures s c.args.model.now d whole) stands.distinct given.1;
+        distinct = c.structures_are_distinct.ensures s (sexps_of c.args.model) d whole stands.distinct;
+        bodies = bodies_given s d (sexps_of c.args.model) (held_terms_of c.in_ok-definitions.definitions).bodies _
+            (c.models_are_complete.ensures s (sexps_of c.args.model) d whole) stands.distinct given.1;
       },
     )
 
@@ -47,7 +47,7 @@ returns-in-Err-clause-model c = λ s stands.
       ranked = λ f at. c.items_are_well_sorted.ensures.ranked script earlier tree e f h at;
       free = c.items_are_well_sorted.ensures.free script earlier tree e h;
     } in
-    let defined = items_defined law s (sexps_of c.items.result.now) read.0 read.1 in
-    lacking_told s d c.args.model.now _ _
-    (model_whole s c.args.model.now (sexps_of c.items.result.now) read.0
-    (c.items.ensures ∙ ap items_of c.as_slice.ensures) read.1) (c.in-Err.ensures s d stands read.2 defined)
+    let defined = items_defined law s (sexps_of c.items.result) read.0 read.1 in
+    lacking_told s d (sexps_of c.args.model) _ _
+    (model_whole s (sexps_of c.args.model) (sexps_of c.items.result) read.0
+    c.items.ensures read.1) (c.in-Err.ensures s d stands read.2 defined)

@@ -1,6 +1,6 @@
 use Rattle.std.proofs.Common.{◌≡◌, [], ◌∙◌, ap, arith, sym, Result, Ok, Err, OnOk}
 use Rattle.smt_trees.specs.Sexp.{Sexp}
-use Rattle.smt_trees.specs.Tree.{sexp_of}
+use Rattle.smt_trees.specs.View.{sexp_of}
 use Rattle.smt_terms.specs.Signature.{Signature}
 use Rattle.smt_eval.proofs.CostLemmas.{cost_some}
 use Rattle.smt_eval.proofs.LeastLemmas.{least_within}
@@ -18,7 +18,7 @@ always (Err e) p = tt
 -- what is counted is the cost of the term that stands here
 counted_cost : (closed : Closed) (over : Definitions) (structure : Signature) (term : Sexp)
     → over.seen.now ≡ closed.definitions.now → IsPlain closed structure term
-    → cost_over structure term ≡ cost_of (costs_seen over) [] (sexp_of closed.tree.now)
+    → cost_over structure term ≡ cost_of (costs_seen over) [] (sexp_of closed.tree)
 counted_cost closed over structure term seen q =
     ap (λ es. cost_of (costs_after no_costs es) [] term) (q.definitions ∙ sym (ap entries_of seen))
     ∙ ap (λ t. cost_of (costs_seen over) [] t) q.tree
@@ -32,7 +32,7 @@ count_term-requires c =
 
 pub returns-clause-fewer : goal.returns-clause-fewer
 returns-clause-fewer c =
-    let some = cost_some (costs_seen c.over.result) [] (sexp_of c.args.self.now.tree.now) in
+    let some = cost_some (costs_seen c.over.result) [] (sexp_of c.args.self.now.tree) in
     always c.value.result (omega (arith, c.in_ok-count_term.ensures, some))
 
 pub returns-clause-counted : goal.returns-clause-counted

@@ -1,13 +1,13 @@
 use Rattle.std.proofs.Common.{◌≡◌, ◌+◌, ◌*◌, ◌≤◌, ◌++◌, map}
 use Rattle.smt_trees.specs.Sexp.{weight, weight_all}
-use Rattle.smt_trees.specs.Tree.{sexp_of, sexps_of}
+use Rattle.smt_trees.specs.View.{sexp_of, sexps_of}
 use Rattle.smt_forms.specs.Bindings.{named_trees}
 use Rattle.smt_eval.specs.Cost.{costs_bound, costs_of}
 use Rattle.smt_eval.specs.Internal.PlainEvaluation.{costs_seen, names_seen, seen_weight}
 use Rattle.smt_eval.proofs.plain.counting.+count_plain.Given as goal
 
 abbrev pub decreases-count_term : goal.decreases-count_term
-decreases-count_term l = 8 * (seen_weight l.over + weight (sexp_of l.term.now)) + 1
+decreases-count_term l = 8 * (seen_weight l.over + weight (sexp_of l.term)) + 1
 
 abbrev pub decreases-count_symbol : goal.decreases-count_symbol
 decreases-count_symbol l = 8 * seen_weight l.over + 6
@@ -16,23 +16,23 @@ abbrev pub decreases-count_body : goal.decreases-count_body
 decreases-count_body l = 8 * seen_weight l.over + 4
 
 abbrev pub decreases-count_list : goal.decreases-count_list
-decreases-count_list l = 8 * (seen_weight l.over + weight_all l.parts.now) + 7
+decreases-count_list l = 8 * (seen_weight l.over + weight_all (sexps_of l.parts)) + 7
 
 abbrev pub decreases-count_reserved : goal.decreases-count_reserved
-decreases-count_reserved l = 8 * (seen_weight l.over + weight_all (sexps_of l.args.now)) + 6
+decreases-count_reserved l = 8 * (seen_weight l.over + weight_all (sexps_of l.args)) + 6
 
 abbrev pub decreases-count_let : goal.decreases-count_let
 decreases-count_let l =
-    8 * (seen_weight l.over + weight_all (sexps_of l.bindings.now) + weight (sexp_of l.body.now)) + 5
+    8 * (seen_weight l.over + weight_all (sexps_of l.bindings) + weight (sexp_of l.body)) + 5
 
 abbrev pub decreases-count_bound : goal.decreases-count_bound
-decreases-count_bound l = 8 * (seen_weight l.over + weight_all (sexps_of l.bindings.now)) + 4
+decreases-count_bound l = 8 * (seen_weight l.over + weight_all (sexps_of l.bindings)) + 4
 
 abbrev pub decreases-count_call : goal.decreases-count_call
-decreases-count_call l = 8 * (seen_weight l.over + weight_all (sexps_of l.args.now)) + 6
+decreases-count_call l = 8 * (seen_weight l.over + weight_all (sexps_of l.args)) + 6
 
 abbrev pub decreases-count_all : goal.decreases-count_all
-decreases-count_all l = 8 * (seen_weight l.over + weight_all (sexps_of l.terms.now)) + 4
+decreases-count_all l = 8 * (seen_weight l.over + weight_all (sexps_of l.terms)) + 4
 
 abbrev pub invariant-count_all-loop-term : goal.invariant-count_all-loop-term
 invariant-count_all-loop-term l = record {

@@ -1,5 +1,5 @@
 use Rattle.std.proofs.Common.{[], ap, sym, ◌∙◌}
-use Rattle.smt_trees.specs.Tree.{sexps_of}
+use Rattle.smt_trees.specs.View.{sexps_of}
 use Rattle.smt_forms.specs.IdentifierView.{identifier_view}
 use Rattle.smt_eval.specs.Internal.PlainEvaluation.{meaning_of}
 use Rattle.smt_eval.specs.Known.{known_by, known_of_op}
@@ -13,5 +13,5 @@ returns-in-Ok c =
     c.known_of_operator.ensures
     ∙ ap (λ o. known_of_op o []) c.operator.ensures
     ∙ sym (indexed_is_operator c.args.over.theories (entries_of c.args.over.seen.now) f
-    (sexps_of c.args.parts.now) c.in-Ok.ensures)
+    (sexps_of c.args.parts) c.in-Ok.ensures)
     ∙ sym (ap (λ o. known_by o (λ g. meaning_of c.args.over g [])) c.in-Ok.ensures)

@@ -1,19 +1,19 @@
 use Rattle.std.proofs.Common.{◌+◌, ◌*◌, ◌≤◌}
 use Rattle.smt_trees.specs.Sexp.{weight, weight_all}
-use Rattle.smt_trees.specs.Tree.{sexp_of, sexps_of}
+use Rattle.smt_trees.specs.View.{sexp_of, sexps_of}
 use Rattle.smt_explain.proofs.sorts.Sorter.+sort.Given as goal
 
 abbrev pub decreases-sort_of : goal.decreases-sort_of
-decreases-sort_of l = 4 * weight (sexp_of l.term.now) + 1
+decreases-sort_of l = 4 * weight (sexp_of l.term) + 1
 
 abbrev pub decreases-sort_of_list : goal.decreases-sort_of_list
-decreases-sort_of_list l = 4 * weight_all (sexps_of l.parts.now) + 3
+decreases-sort_of_list l = 4 * weight_all (sexps_of l.parts) + 3
 
 abbrev pub decreases-sort_of_application : goal.decreases-sort_of_application
-decreases-sort_of_application l = 4 * weight_all (sexps_of l.args.now) + 2
+decreases-sort_of_application l = 4 * weight_all (sexps_of l.args) + 2
 
 abbrev pub decreases-sort_of_let : goal.decreases-sort_of_let
-decreases-sort_of_let l = 4 * weight_all (sexps_of l.args.now) + 2
+decreases-sort_of_let l = 4 * weight_all (sexps_of l.args) + 2
 
 abbrev pub invariant-sort_of_application-loop-arg : goal.invariant-sort_of_application-loop-arg
 invariant-sort_of_application-loop-arg l = weight_all (sexps_of l.left) ≤ weight_all (sexps_of l.args)

@@ -1,7 +1,7 @@
 -- all are literals where those that are left are
 use Rattle.std.proofs.Common.{◌≡◌}
 use Rattle.smt_trees.specs.Sexp.{weight_all}
-use Rattle.smt_trees.specs.Tree.{sexps_of}
+use Rattle.smt_trees.specs.View.{sexps_of}
 use Rattle.smt_script.specs.Parts.{are_literals}
 use Rattle.smt_script.proofs.forms.shapes.are_literals.Given as goal
 

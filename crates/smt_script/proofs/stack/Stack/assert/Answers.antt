@@ -1,6 +1,6 @@
 use Rattle.std.proofs.Common.{refl}
 use Rattle.std.proofs.lemmas.Result.{err_from_is_err_and}
-use Rattle.smt_trees.specs.Tree.{sexp_of}
+use Rattle.smt_trees.specs.View.{sexp_of}
 use Rattle.smt_terms.specs.Assertions.{asserted_in}
 use Rattle.smt_terms.specs.Signature.{names_of}
 use Rattle.smt_script.specs.Stack.{signature_in_force}
@@ -11,7 +11,7 @@ use Rattle.smt_script.proofs.stack.Stack.assert.Goals as goal
 pub returns-in_err-term-clause-refused : goal.returns-in_err-term-clause-refused
 returns-in_err-term-clause-refused c =
     let p = err_from_is_err_and c.from_residual.result c.from_residual.ensures.1 in
-    let term = sexp_of c.args.term.now in
+    let term = sexp_of c.args.term in
     rw p.1
     (λ cs h.
     let s = signature_in_force (profile_of c.args.self.now) cs in
@@ -27,7 +27,7 @@ returns-in_err-term-clause-unchanged c =
 pub returns-in-Ok-clause-effect : goal.returns-in-Ok-clause-effect
 returns-in-Ok-clause-effect c =
     assert_effect c.contents_are_kept.ensures c.args.self.now c.assert.new.self c.push.new.self
-    (record { command = c.args.number; term = c.in_ok-term.term }) (sexp_of c.args.term.now)
+    (record { command = c.args.number; term = c.in_ok-term.term }) (sexp_of c.args.term)
     c.in_ok-term.ensures.asserted c.in_ok-term.ensures.term c.in_ok-term.ensures.grown c.in-Ok.ensures.items
 
 pub returns-in-Err-clause-unchanged : goal.returns-in-Err-clause-unchanged

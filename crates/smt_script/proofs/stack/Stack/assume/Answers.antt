@@ -1,5 +1,5 @@
 use Rattle.std.proofs.Common.{refl, sym, subst, ◌∙◌}
-use Rattle.smt_trees.specs.Tree.{sexps_of}
+use Rattle.smt_trees.specs.View.{sexps_of}
 use Rattle.smt_terms.specs.Contents.{Contents, Extends, contents_of}
 use Rattle.smt_terms.specs.Library.{Holds}
 use Rattle.smt_script.specs.Stack.{signature_in_force}
@@ -13,7 +13,7 @@ returns-in-Ok-clause-effect c = λ number.
     let old = contents_of c.args.self.now.library in
     let same = c.check_literals.ensures.held ∙ c.take_transient-before.ensures.held in
     assume_effect c.contents_are_kept.ensures c.args.self.now c.check_literals.new.library c.in-Ok.terms
-    number (sexps_of c.args.literals.now) (λ s h. subst (λ (x : Contents). Holds x s) (sym same) h)
+    number (sexps_of c.args.literals) (λ s h. subst (λ (x : Contents). Holds x s) (sym same) h)
     (subst (λ (x : Contents). Extends old x) (sym same) (extends_itself old))
     (λ s h. (c.in-Ok.ensures.terms s
     (subst (λ (x : Contents). Holds x s) (sym c.take_transient-before.ensures.held) h)).0)

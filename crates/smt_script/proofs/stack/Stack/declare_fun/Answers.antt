@@ -1,6 +1,6 @@
 use Rattle.std.proofs.Common.{refl}
 use Rattle.std.proofs.lemmas.Result.{err_from_is_err_and}
-use Rattle.smt_trees.specs.Tree.{sexp_of, sexps_of}
+use Rattle.smt_trees.specs.View.{sexp_of, sexps_of}
 use Rattle.smt_terms.specs.Declarations.{declared_in}
 use Rattle.smt_script.specs.Stack.{signature_in_force}
 use Rattle.smt_script.specs.StackView.{profile_of}
@@ -11,8 +11,8 @@ pub returns-in_err-declare-clause-refused : goal.returns-in_err-declare-clause-r
 returns-in_err-declare-clause-refused c =
     let p = err_from_is_err_and c.from_residual.result c.from_residual.ensures.1 in
     let name = c.args.name.now in
-    let params = sexps_of c.args.params.now in
-    let sort = sexp_of c.args.sort.now in
+    let params = sexps_of c.args.params in
+    let sort = sexp_of c.args.sort in
     rw p.1
     (λ cs h.
     let s = signature_in_force (profile_of c.args.self.now) cs in
@@ -28,5 +28,5 @@ returns-in_err-declare-clause-unchanged c =
 pub returns-clause-effect : goal.returns-clause-effect
 returns-clause-effect c =
     declare_fun_effect c.contents_are_kept.ensures c.args.self.now c.declare.new.self c.args.number
-    c.args.name.now (sexps_of c.args.params.now) (sexp_of c.args.sort.now)
+    c.args.name.now (sexps_of c.args.params) (sexp_of c.args.sort)
     c.in_ok-declare.ensures.declared c.in_ok-declare.ensures.grown

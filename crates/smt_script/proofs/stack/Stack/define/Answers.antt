@@ -1,7 +1,7 @@
 use Rattle.std.proofs.Common.{ℕ, List, map, ap, subst, ◌∙◌, refl}
 use Rattle.std.proofs.lemmas.Result.{err_from_is_err_and}
 use Rattle.smt_trees.specs.Sexp.{Sexp}
-use Rattle.smt_trees.specs.Tree.{sexp_of, sexps_of}
+use Rattle.smt_trees.specs.View.{sexp_of, sexps_of}
 use Rattle.smt_forms.specs.Bindings.{named_trees}
 use Rattle.smt_terms.specs.Definitions.{defined_in}
 use Rattle.smt_forms.specs.ParamView.{param_view}
@@ -16,9 +16,9 @@ returns-in_err-define-clause-refused c =
     let p = err_from_is_err_and c.from_residual-in_err-define.result c.from_residual-in_err-define.ensures.1
     in
     let name = c.args.name.now in
-    let sort = sexp_of c.args.sort.now in
-    let body = sexp_of c.args.body.now in
-    let params = named_trees (sexps_of c.args.params.now) in
+    let sort = sexp_of c.args.sort in
+    let body = sexp_of c.args.body in
+    let params = named_trees (sexps_of c.args.params) in
     let named = ap (λ qs. map param_view qs) c.as_slice.ensures.value ∙ c.in_ok-params.ensures in
     rw p.1
     (λ n cs h.
@@ -38,10 +38,10 @@ returns-in_err-define-clause-unchanged c =
 pub returns-clause-effect : goal.returns-clause-effect
 returns-clause-effect c =
     let P : List (List ℕ × Sexp) → Type 0 =
-    λ ps. DefinesIn c.args.self.now.library c.define.new.self c.args.name.now ps (sexp_of c.args.sort.now)
-    (sexp_of c.args.body.now) in
+    λ ps. DefinesIn c.args.self.now.library c.define.new.self c.args.name.now ps (sexp_of c.args.sort)
+    (sexp_of c.args.body) in
     let named = ap (λ qs. map param_view qs) c.as_slice.ensures.value ∙ c.in_ok-params.ensures in
     λ n.
     define_effect c.contents_are_kept.ensures c.args.self.now c.define.new.self n c.args.name.now
-    (named_trees (sexps_of c.args.params.now)) (sexp_of c.args.sort.now) (sexp_of c.args.body.now)
+    (named_trees (sexps_of c.args.params)) (sexp_of c.args.sort) (sexp_of c.args.body)
     (subst P named c.in_ok-define.ensures.defined) c.in_ok-define.ensures.grown

@@ -1,6 +1,6 @@
 use Rattle.std.proofs.Common.{refl}
 use Rattle.std.proofs.lemmas.Result.{err_from_is_err_and}
-use Rattle.smt_trees.specs.Tree.{sexp_of}
+use Rattle.smt_trees.specs.View.{sexp_of}
 use Rattle.smt_terms.specs.Signature.{sort_names_of}
 use Rattle.smt_terms.specs.Declarations.{abbreviated_in}
 use Rattle.smt_script.specs.Stack.{signature_in_force}
@@ -12,7 +12,7 @@ pub returns-in_err-abbreviate-clause-refused : goal.returns-in_err-abbreviate-cl
 returns-in_err-abbreviate-clause-refused c =
     let p = err_from_is_err_and c.from_residual.result c.from_residual.ensures.1 in
     let name = c.args.name.now in
-    let sort = sexp_of c.args.sort.now in
+    let sort = sexp_of c.args.sort in
     rw p.1
     (λ n cs h.
     let s = signature_in_force (profile_of c.args.self.now) cs in
@@ -28,4 +28,4 @@ returns-in_err-abbreviate-clause-unchanged c =
 pub returns-clause-effect : goal.returns-clause-effect
 returns-clause-effect c = λ n.
     define_sort_effect c.contents_are_kept.ensures c.args.self.now c.abbreviate.new.self n c.args.name.now
-    (sexp_of c.args.sort.now) c.in_ok-abbreviate.ensures.abbreviated c.in_ok-abbreviate.ensures.grown
+    (sexp_of c.args.sort) c.in_ok-abbreviate.ensures.abbreviated c.in_ok-abbreviate.ensures.grown

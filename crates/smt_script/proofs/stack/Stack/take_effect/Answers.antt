@@ -1,6 +1,6 @@
 use Rattle.std.proofs.Common.{◌≡◌, ℕ, List, [], Result, Ok, Err, IfErr, OnOk, refl, ap, sym, ◌∙◌}
 use Rattle.std.specs.Str.Parse.{digits_value}
-use Rattle.smt_trees.specs.Tree.{sexp_of, sexps_of}
+use Rattle.smt_trees.specs.View.{sexp_of, sexps_of}
 use Rattle.smt_forms.specs.Bindings.{named_trees}
 use Rattle.smt_terms.specs.Contents.{Contents, contents_of}
 use Rattle.smt_script.specs.Command.{CheckSatAssuming, Command, DefineFun, DefineSort, Pop, Push, Reset, ResetAssertions}
@@ -42,79 +42,59 @@ on_ok (Err fault) a = tt
 
 pub returns-in-SetLogic-clause-effect : goal.returns-in-SetLogic-clause-effect
 returns-in-SetLogic-clause-effect c =
-    effect_at c.set_logic.result c.args.self.now c.set_logic.new.self (SetLogic c.as_slice.result.now)
+    effect_at c.set_logic.result c.args.self.now c.set_logic.new.self (SetLogic c.in-SetLogic.name.now)
     (command_view c.args.command.now) c.args.number
-    (ap command_view c.in-SetLogic.is ∙ ap (λ (x : List ℕ). SetLogic x) (sym c.as_slice.ensures))
-    c.set_logic.ensures.effect
+    (ap command_view c.in-SetLogic.is) c.set_logic.ensures.effect
 
 pub returns-in-SetLogic-clause-refused : goal.returns-in-SetLogic-clause-refused
 returns-in-SetLogic-clause-refused c =
-    refused_at c.set_logic.result c.args.self.now (SetLogic c.as_slice.result.now)
+    refused_at c.set_logic.result c.args.self.now (SetLogic c.in-SetLogic.name.now)
     (command_view c.args.command.now) c.args.number
-    (ap command_view c.in-SetLogic.is ∙ ap (λ (x : List ℕ). SetLogic x) (sym c.as_slice.ensures))
-    c.set_logic.ensures.refused
+    (ap command_view c.in-SetLogic.is) c.set_logic.ensures.refused
 
 pub returns-in-DefineFun-clause-effect : goal.returns-in-DefineFun-clause-effect
 returns-in-DefineFun-clause-effect c =
-    effect_at c.define.result c.args.self.now c.define.new.self
-    (DefineFun c.as_slice-in-DefineFun.result.now
-    (named_trees (sexps_of c.as_slice-in-DefineFun-2.result.now)) (sexp_of c.in-DefineFun.sort)
-    (sexp_of c.in-DefineFun.body)) (command_view c.args.command.now) c.args.number
-    (ap command_view c.in-DefineFun.is
-    ∙ ap (λ ps. DefineFun c.in-DefineFun.name (named_trees ps) (sexp_of c.in-DefineFun.sort)
-    (sexp_of c.in-DefineFun.body)) (sym c.as_slice-in-DefineFun-2.ensures)
-    ∙ ap (λ x. DefineFun x (named_trees (sexps_of c.as_slice-in-DefineFun-2.result.now))
-    (sexp_of c.in-DefineFun.sort) (sexp_of c.in-DefineFun.body)) (sym c.as_slice-in-DefineFun.ensures))
-    c.define.ensures.effect
+    effect_at c.define.result c.args.self.now c.define.new.self (DefineFun c.in-DefineFun.name.now (named_trees (sexps_of c.in-DefineFun.params)) (sexp_of c.in-DefineFun.sort)
+    (sexp_of c.in-DefineFun.body))
+    (command_view c.args.command.now) c.args.number
+    (ap command_view c.in-DefineFun.is) c.define.ensures.effect
 
 pub returns-in-DefineFun-clause-refused : goal.returns-in-DefineFun-clause-refused
 returns-in-DefineFun-clause-refused c =
-    refused_at c.define.result c.args.self.now
-    (DefineFun c.as_slice-in-DefineFun.result.now
-    (named_trees (sexps_of c.as_slice-in-DefineFun-2.result.now)) (sexp_of c.in-DefineFun.sort)
-    (sexp_of c.in-DefineFun.body)) (command_view c.args.command.now) c.args.number
-    (ap command_view c.in-DefineFun.is
-    ∙ ap (λ ps. DefineFun c.in-DefineFun.name (named_trees ps) (sexp_of c.in-DefineFun.sort)
-    (sexp_of c.in-DefineFun.body)) (sym c.as_slice-in-DefineFun-2.ensures)
-    ∙ ap (λ x. DefineFun x (named_trees (sexps_of c.as_slice-in-DefineFun-2.result.now))
-    (sexp_of c.in-DefineFun.sort) (sexp_of c.in-DefineFun.body)) (sym c.as_slice-in-DefineFun.ensures))
-    c.define.ensures.refused
+    refused_at c.define.result c.args.self.now (DefineFun c.in-DefineFun.name.now (named_trees (sexps_of c.in-DefineFun.params)) (sexp_of c.in-DefineFun.sort)
+    (sexp_of c.in-DefineFun.body))
+    (command_view c.args.command.now) c.args.number
+    (ap command_view c.in-DefineFun.is) c.define.ensures.refused
 
 pub returns-in-DefineConst-clause-effect : goal.returns-in-DefineConst-clause-effect
 returns-in-DefineConst-clause-effect c =
-    effect_at c.define-in-DefineConst.result c.args.self.now c.define-in-DefineConst.new.self
-    (DefineFun c.as_slice-in-DefineConst.result.now [] (sexp_of c.in-DefineConst.sort) (sexp_of c.in-DefineConst.body))
+    effect_at c.define-in-DefineConst.result c.args.self.now c.define-in-DefineConst.new.self (DefineFun c.in-DefineConst.name.now (named_trees (sexps_of c.of.result)) (sexp_of c.in-DefineConst.sort)
+    (sexp_of c.in-DefineConst.body))
     (command_view c.args.command.now) c.args.number
     (ap command_view c.in-DefineConst.is
-    ∙ ap (λ x. DefineFun x [] (sexp_of c.in-DefineConst.sort) (sexp_of c.in-DefineConst.body))
-    (sym c.as_slice-in-DefineConst.ensures)) c.define-in-DefineConst.ensures.effect
+    ∙ ap (λ ps. DefineFun c.in-DefineConst.name.now (named_trees ps) (sexp_of c.in-DefineConst.sort)
+    (sexp_of c.in-DefineConst.body)) (sym c.of.ensures)) c.define-in-DefineConst.ensures.effect
 
 pub returns-in-DefineConst-clause-refused : goal.returns-in-DefineConst-clause-refused
 returns-in-DefineConst-clause-refused c =
-    refused_at c.define-in-DefineConst.result c.args.self.now
-    (DefineFun c.as_slice-in-DefineConst.result.now [] (sexp_of c.in-DefineConst.sort) (sexp_of c.in-DefineConst.body))
+    refused_at c.define-in-DefineConst.result c.args.self.now (DefineFun c.in-DefineConst.name.now (named_trees (sexps_of c.of.result)) (sexp_of c.in-DefineConst.sort)
+    (sexp_of c.in-DefineConst.body))
     (command_view c.args.command.now) c.args.number
     (ap command_view c.in-DefineConst.is
-    ∙ ap (λ x. DefineFun x [] (sexp_of c.in-DefineConst.sort) (sexp_of c.in-DefineConst.body))
-    (sym c.as_slice-in-DefineConst.ensures)) c.define-in-DefineConst.ensures.refused
+    ∙ ap (λ ps. DefineFun c.in-DefineConst.name.now (named_trees ps) (sexp_of c.in-DefineConst.sort)
+    (sexp_of c.in-DefineConst.body)) (sym c.of.ensures)) c.define-in-DefineConst.ensures.refused
 
 pub returns-in-DefineSort-clause-effect : goal.returns-in-DefineSort-clause-effect
 returns-in-DefineSort-clause-effect c =
-    effect_at c.define_sort.result c.args.self.now c.define_sort.new.self
-    (DefineSort c.as_slice-in-DefineSort.result.now (sexp_of c.in-DefineSort.sort))
+    effect_at c.define_sort.result c.args.self.now c.define_sort.new.self (DefineSort c.in-DefineSort.name.now (sexp_of c.in-DefineSort.sort))
     (command_view c.args.command.now) c.args.number
-    (ap command_view c.in-DefineSort.is
-    ∙ ap (λ (x : List ℕ). DefineSort x (sexp_of c.in-DefineSort.sort))
-    (sym c.as_slice-in-DefineSort.ensures)) c.define_sort.ensures.effect
+    (ap command_view c.in-DefineSort.is) c.define_sort.ensures.effect
 
 pub returns-in-DefineSort-clause-refused : goal.returns-in-DefineSort-clause-refused
 returns-in-DefineSort-clause-refused c =
-    refused_at c.define_sort.result c.args.self.now
-    (DefineSort c.as_slice-in-DefineSort.result.now (sexp_of c.in-DefineSort.sort))
+    refused_at c.define_sort.result c.args.self.now (DefineSort c.in-DefineSort.name.now (sexp_of c.in-DefineSort.sort))
     (command_view c.args.command.now) c.args.number
-    (ap command_view c.in-DefineSort.is
-    ∙ ap (λ (x : List ℕ). DefineSort x (sexp_of c.in-DefineSort.sort))
-    (sym c.as_slice-in-DefineSort.ensures)) c.define_sort.ensures.refused
+    (ap command_view c.in-DefineSort.is) c.define_sort.ensures.refused
 
 pub returns-in-Push-clause-effect : goal.returns-in-Push-clause-effect
 returns-in-Push-clause-effect c =
@@ -232,17 +212,17 @@ returns-in-Get-clause-effect c =
 pub returns-in-CheckSatAssuming-clause-effect : goal.returns-in-CheckSatAssuming-clause-effect
 returns-in-CheckSatAssuming-clause-effect c =
     effect_at c.assume.result c.args.self.now c.assume.new.self
-    (CheckSatAssuming (sexps_of c.as_slice-in-CheckSatAssuming.result.now)) (command_view c.args.command.now)
+    (CheckSatAssuming (sexps_of c.in-CheckSatAssuming.literals)) (command_view c.args.command.now)
     c.args.number
-    (ap command_view c.in-CheckSatAssuming.is ∙ ap CheckSatAssuming (sym c.as_slice-in-CheckSatAssuming.ensures))
+    (ap command_view c.in-CheckSatAssuming.is)
     c.assume.ensures.effect
 
 pub returns-in-CheckSatAssuming-clause-refused : goal.returns-in-CheckSatAssuming-clause-refused
 returns-in-CheckSatAssuming-clause-refused c =
     refused_at c.assume.result c.args.self.now
-    (CheckSatAssuming (sexps_of c.as_slice-in-CheckSatAssuming.result.now)) (command_view c.args.command.now)
+    (CheckSatAssuming (sexps_of c.in-CheckSatAssuming.literals)) (command_view c.args.command.now)
     c.args.number
-    (ap command_view c.in-CheckSatAssuming.is ∙ ap CheckSatAssuming (sym c.as_slice-in-CheckSatAssuming.ensures))
+    (ap command_view c.in-CheckSatAssuming.is)
     c.assume.ensures.refused
 
 -- ---- what the library holds

@@ -1,6 +1,6 @@
 use Rattle.std.proofs.Common.{◌++◌, ◌∷◌, [], List, ap, sym, ◌∙◌, subst, append_assoc}
 use Rattle.smt_trees.specs.Sexp.{Sexps}
-use Rattle.smt_trees.specs.Tree.{sexp_of, sexps_of}
+use Rattle.smt_trees.specs.View.{sexp_of, sexps_of}
 use Rattle.smt_terms.specs.Contents.{Contents}
 use Rattle.smt_terms.specs.Library.{Holds, terms_of}
 use Rattle.smt_terms.specs.Signature.{names_of}
@@ -14,13 +14,13 @@ loop-literal-preserved c =
     let i = c.loop-literal.invariant in
     let before = c.loop-literal.library in
     let after = c.check_literal.new.library in
-    let literal = sexp_of c.in-Some.literal.now in
-    let rest = sexps_of c.in-Some.rest.now in
+    let literal = sexp_of c.in-Some.literal in
+    let rest = sexps_of c.in-Some.rest in
     let first = c.in-Some.ensures in
     record {
       held = c.check_literal.ensures.held ∙ i.held;
       flaw = λ s h. i.flaw s h
-          ∙ literal_next (names_of s) literal rest (sexps_of c.loop-literal.left.now) first
+          ∙ literal_next (names_of s) literal rest (sexps_of c.loop-literal.left) first
           (c.in_ok-term.ensures.term s (subst (λ (x : Contents). Holds x s) (sym i.held) h)).0;
       done = λ s h.
           let d = i.done s h in

@@ -1,7 +1,7 @@
 -- the literals so far are formulas, whose terms these are, and the fault of all is that of those that are left
 use Rattle.std.proofs.Common.{◌≡◌, ◌++◌, List}
 use Rattle.smt_trees.specs.Sexp.{Sexp, weight_all}
-use Rattle.smt_trees.specs.Tree.{sexps_of}
+use Rattle.smt_trees.specs.View.{sexps_of}
 use Rattle.smt_terms.specs.Contents.{contents_of}
 use Rattle.smt_terms.specs.Library as libraries
 use Rattle.smt_terms.specs.Library.{terms_of}

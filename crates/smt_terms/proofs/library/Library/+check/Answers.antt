@@ -2,7 +2,7 @@ use Rattle.std.proofs.Common.{◌||◌, ◌++◌, [], Ok, ◌∷◌, map, take, 
 use Rattle.std.proofs.lemmas.List.{map-append}
 use Rattle.std.proofs.lemmas.Result.{err_from_is_err_and}
 use Rattle.smt_trees.specs.Sexp.{Cons, Items, Reserved, weight_all}
-use Rattle.smt_trees.specs.Tree.{sexp_of, sexps_of}
+use Rattle.smt_trees.specs.View.{sexp_of, sexps_of}
 use Rattle.smt_trees.specs.declared.reserved.Word.TheVariants.{Bang, Let}
 use Rattle.smt_forms.specs.Bindings.{are_named_trees}
 use Rattle.smt_forms.specs.IdentifierView.{identifier_view}
@@ -48,8 +48,8 @@ bound_by-returns-then-contains-clause-bound t c =
     let x = c.in-Some.name.now in
     inr (c.loop-name.invariant.answer
     ∙ bound_in-twice (names_for c.args.self.now (labels_view c.loop-name.draft.labels))
-    (sorts_seen c.args.draft.now) (scope_view c.loop-name.bound.items) x (sexp_of c.in-Some.term.now)
-    (sexps_of c.in-Some.rest.now) (sexps_of c.loop-name.left.now) c.in-Some.ensures
+    (sorts_seen c.args.draft.now) (scope_view c.loop-name.bound.items) x (sexp_of c.in-Some.term)
+    (sexps_of c.in-Some.rest) (sexps_of c.loop-name.left) c.in-Some.ensures
     (sym (among (scope_view c.loop-name.bound.items) x)
     ∙ ap (λ xs. is_among xs x) (sym c.loop-name.invariant.names)
     ∙ sym c.contains.ensures ∙ c.if-contains.true))
@@ -63,19 +63,19 @@ bound_by-returns-in_err-checked-clause-bound t c =
     rw (p.1, p.2)
     (tells_same _ _ _ c.loop-name.invariant.answer
     (bound_in-fault names (sorts_seen c.args.draft.now) (scope_view c.loop-name.bound.items) x
-    (sexp_of c.in-Some.term.now) (sexps_of c.in-Some.rest.now) (sexps_of c.loop-name.left.now) _
+    (sexp_of c.in-Some.term) (sexps_of c.in-Some.rest) (sexps_of c.loop-name.left) _
     c.in-Some.ensures
     (sym (among (scope_view c.loop-name.bound.items) x)
     ∙ ap (λ xs. is_among xs x) (sym c.loop-name.invariant.names)
     ∙ sym c.contains.ensures ∙ c.if-contains.false)
-    (tells_same _ _ _ (ap (λ vs. sort_in names vs (sexp_of c.in-Some.term.now))
+    (tells_same _ _ _ (ap (λ vs. sort_in names vs (sexp_of c.in-Some.term))
     (sym (sorts_kept c.args.draft.now c.loop-name.draft c.loop-name.invariant.kept)))
     c.in_err-checked.ensures.sort)))
 
 pub bound_by-loop-name-preserved : goal.bound_by-loop-name-preserved
 bound_by-loop-name-preserved t c =
     let names = names_of_library c.args.self.now in
-    let term = sexp_of c.in-Some.term.now in
+    let term = sexp_of c.in-Some.term in
     let x = c.in-Some.name.now in
     let here = names_for c.args.self.now (labels_view c.loop-name.draft.labels) in
     let d = c.args.draft.now in
@@ -91,7 +91,7 @@ bound_by-loop-name-preserved t c =
           (names_for c.args.self.now (labels_view c.sort_of.new.draft.labels)) (sorts_seen c.args.draft.now)
           (scope_view c.loop-name.bound.items)
           (scope_view c.push_variable.new.variables.items) x term
-          (sexps_of c.in-Some.rest.now) (sexps_of c.loop-name.left.now) c.in_ok-checked.checked.sort
+          (sexps_of c.in-Some.rest) (sexps_of c.loop-name.left) c.in_ok-checked.checked.sort
           (names_behind c.args.self.now names c.loop-name.draft.labels c.sort_of.new.draft.labels
           (labels_in term) c.in_ok-checked.ensures.labels) c.in-Some.ensures
           (sym (among (scope_view c.loop-name.bound.items) x)
@@ -101,17 +101,17 @@ bound_by-loop-name-preserved t c =
           (sym (sorts_kept c.args.draft.now c.loop-name.draft c.loop-name.invariant.kept))
           ∙ c.in_ok-checked.ensures.sort) c.in_ok-push_variable.ensures;
       given = AreGivenOf-next names c.args.draft.now.labels c.loop-name.draft.labels c.sort_of.new.draft.labels
-          (labels_in_bindings (sexps_of c.args.bindings.now))
-          (labels_in_bindings (sexps_of c.loop-name.left.now)) (labels_in term)
-          (labels_in_bindings (sexps_of c.in-Some.rest.now)) c.loop-name.invariant.given
+          (labels_in_bindings (sexps_of c.args.bindings))
+          (labels_in_bindings (sexps_of c.loop-name.left)) (labels_in term)
+          (labels_in_bindings (sexps_of c.in-Some.rest)) c.loop-name.invariant.given
           (ap labels_in_bindings c.in-Some.ensures) c.in_ok-checked.ensures.labels;
       kept = sees_with d last arguments
           (kept_on d c.loop-name.draft last c.loop-name.invariant.kept c.in_ok-checked.ensures.kept);
       waiting = more.2;
-      opened = opened_next (are_open_bindings c.args.draft.now (sexps_of c.args.bindings.now))
+      opened = opened_next (are_open_bindings c.args.draft.now (sexps_of c.args.bindings))
           c.loop-name.is_open c.in_ok-checked.checked.is_open (is_open c.args.draft.now term)
-          (are_open_bindings c.args.draft.now (sexps_of c.in-Some.rest.now))
-          (are_open_bindings c.args.draft.now (sexps_of c.loop-name.left.now)) c.loop-name.invariant.opened
+          (are_open_bindings c.args.draft.now (sexps_of c.in-Some.rest))
+          (are_open_bindings c.args.draft.now (sexps_of c.loop-name.left)) c.loop-name.invariant.opened
           (ap (are_open_bindings c.args.draft.now) c.in-Some.ensures)
           (c.in_ok-checked.ensures.open
           ∙ open_kept c.args.draft.now c.loop-name.draft c.loop-name.invariant.kept term);
@@ -121,19 +121,19 @@ bound_by-loop-name-preserved t c =
           ∙ ap (λ vs. map (λ v. v.0) vs) (sym c.in_ok-push_variable.ensures);
       named = sym (ap are_named_trees c.in-Some.ensures) ∙ c.loop-name.invariant.named;
       lighter = omega (arith, ap weight_all c.in-Some.ensures, c.loop-name.invariant.lighter);
-      stand = so_far_with AreBound c.args.self.now d last arguments (sexps_of c.args.bindings.now)
-          (sexps_of c.in-Some.rest.now) (terms_since d new) (c.loop-name.is_open || c.in_ok-checked.checked.is_open)
+      stand = so_far_with AreBound c.args.self.now d last arguments (sexps_of c.args.bindings)
+          (sexps_of c.in-Some.rest) (terms_since d new) (c.loop-name.is_open || c.in_ok-checked.checked.is_open)
           (so_far-next AreBound c.args.self.now d c.loop-name.draft last
-          (sexps_of c.args.bindings.now) (sexps_of c.loop-name.left.now) (sexps_of c.in-Some.rest.now)
+          (sexps_of c.args.bindings) (sexps_of c.loop-name.left) (sexps_of c.in-Some.rest)
           (terms_since d c.loop-name.draft) (terms_since d new) c.loop-name.is_open term c.in_ok-checked.checked
           c.loop-name.invariant.stand c.loop-name.invariant.kept
-          (binding_first x term (sexps_of c.loop-name.left.now) (sexps_of c.in-Some.rest.now) c.in-Some.ensures)
+          (binding_first x term (sexps_of c.loop-name.left) (sexps_of c.in-Some.rest) c.in-Some.ensures)
           c.sort_of.ensures.longer c.in_ok-checked.ensures.node more.1);
     }
 
 pub bound_by-loop-name-init : goal.bound_by-loop-name-init
 bound_by-loop-name-init t c =
-    let bindings = sexps_of c.args.bindings.now in
+    let bindings = sexps_of c.args.bindings in
     let none = since_none c.args.draft.now in
     record {
       answer = ap (λ vs. bound_in (names_for c.args.self.now (labels_view c.args.draft.now.labels))
@@ -181,10 +181,10 @@ bound_by-returns-clause-nodes t c =
     let mid = c.loop-name.draft in (
       terms_since d mid,
       c.loop-name.invariant.waiting.terms,
-      so_far-all AreBound c.args.self.now d mid (sexps_of c.args.bindings.now)
-          (sexps_of c.loop-name.left.now) (terms_since d mid) c.loop-name.is_open
-          (no_binding (sexps_of c.loop-name.left.now)
-          (none_left (sexps_of c.loop-name.left.now) c.loop-name.invariant.named c.in_default.ensures))
+      so_far-all AreBound c.args.self.now d mid (sexps_of c.args.bindings)
+          (sexps_of c.loop-name.left) (terms_since d mid) c.loop-name.is_open
+          (no_binding (sexps_of c.loop-name.left)
+          (none_left (sexps_of c.loop-name.left) c.loop-name.invariant.named c.in_default.ensures))
           c.loop-name.invariant.stand,
     )
 
@@ -207,16 +207,16 @@ sort_of_annotated-returns-in_err-checked-clause-sort t c =
     let p = err_from_is_err_and c.from_residual.result c.from_residual.ensures.1 in
     rw (p.1, p.2)
     (fault_of_annotated (names_for c.args.self.now (labels_view c.args.draft.now.labels))
-    (sorts_seen c.args.draft.now) (sexps_of c.args.args.now) (sexps_of c.in-Some.attributes.now)
-    (sexp_of c.in-Some.term.now) _ c.in-Some.ensures
+    (sorts_seen c.args.draft.now) (sexps_of c.args.args) (sexps_of c.in-Some.attributes)
+    (sexp_of c.in-Some.term) _ c.in-Some.ensures
     (sym c.are_attributes.ensures ∙ c.if-not-are_attributes.false) c.in_err-checked.ensures.sort)
 
 pub sort_of_annotated-returns-in_ok-annotate-clause-sort :
     goal.sort_of_annotated-returns-in_ok-annotate-clause-sort
 sort_of_annotated-returns-in_ok-annotate-clause-sort t c =
     annotated_alone (names_for c.args.self.now (labels_view c.args.draft.now.labels))
-    (sorts_seen c.args.draft.now) (sexps_of c.args.args.now) (sexps_of c.in-Some.attributes.now)
-    (sexp_of c.in-Some.term.now) c.in-Some.ensures
+    (sorts_seen c.args.draft.now) (sexps_of c.args.args) (sexps_of c.in-Some.attributes)
+    (sexp_of c.in-Some.term) c.in-Some.ensures
     (sym c.are_attributes.ensures ∙ c.if-not-are_attributes.false)
     (sym c.has_label.ensures ∙ c.if-has_label.false)
     ∙ c.in_ok-checked.ensures.sort ∙ ap (λ s. Ok s) (sym c.in_ok-annotate.ensures.sort)
@@ -224,13 +224,13 @@ sort_of_annotated-returns-in_ok-annotate-clause-sort t c =
 pub sort_of_annotated-returns-in_ok-annotate-clause-labels :
     goal.sort_of_annotated-returns-in_ok-annotate-clause-labels
 sort_of_annotated-returns-in_ok-annotate-clause-labels t c =
-    let term = sexp_of c.in-Some.term.now in
+    let term = sexp_of c.in-Some.term in
     let none =
-    no_labels (labels_among (sexps_of c.in-Some.attributes.now)) (sym c.has_label.ensures ∙ c.if-has_label.false)
+    no_labels (labels_among (sexps_of c.in-Some.attributes)) (sym c.has_label.ensures ∙ c.if-has_label.false)
     in
     let names = names_of_library c.args.self.now in
     subst (λ ls. AreGiven names c.args.draft.now.labels ls
-    (labels_in (Items (Cons (Reserved Bang) (sexps_of c.args.args.now))))) (sym c.annotate.ensures.labels)
+    (labels_in (Items (Cons (Reserved Bang) (sexps_of c.args.args))))) (sym c.annotate.ensures.labels)
     (subst (AreGiven names c.args.draft.now.labels c.sort_of.new.draft.labels)
     (sym (ap (λ ts. labels_in (Items (Cons (Reserved Bang) ts))) c.in-Some.ensures
     ∙ ap (λ xs. labels_in term ++ map (λ x. (x, term)) xs) none ∙ append-nil (labels_in term)))
@@ -246,7 +246,7 @@ pub sort_of_annotated-returns-in_ok-annotate-clause-node :
     goal.sort_of_annotated-returns-in_ok-annotate-clause-node
 sort_of_annotated-returns-in_ok-annotate-clause-node t c =
     annotated_stands c.args.self.now c.args.draft.now c.sort_of.new.draft c.annotate.new.self
-    (sexps_of c.args.args.now) (sexps_of c.in-Some.attributes.now) (sexp_of c.in-Some.term.now)
+    (sexps_of c.args.args) (sexps_of c.in-Some.attributes) (sexp_of c.in-Some.term)
     c.in_ok-checked.checked _ c.in-Some.ensures (sym c.has_label.ensures ∙ c.if-has_label.false)
     c.sort_of.ensures.longer c.in_ok-checked.ensures.node c.annotate.ensures.longer
     c.in_ok-annotate.ensures.added c.in_ok-annotate.ensures.open
@@ -266,7 +266,7 @@ sort_of_annotated-returns-in_err-annotate-clause-longer t c =
 pub sort_of_labelled-give_labels-requires : goal.sort_of_labelled-give_labels-requires
 sort_of_labelled-give_labels-requires t c = λ closed_term.
     let names = names_for c.args.self.now (labels_view c.args.draft.now.labels) in
-    let term = sexp_of c.args.term.now in
+    let term = sexp_of c.args.term in
     closed (unlabelled names) (sorts_seen c.args.draft.now) term c.in_ok-checked.checked.sort refl
     (sym (open_whole (seen_by c.args.draft.now) c.len-draft.result c.len-draft.ensures term)
     ∙ sym c.in_ok-checked.ensures.open ∙ closed_term)
@@ -279,11 +279,11 @@ sort_of_labelled-returns-in_err-give_labels-clause-sort t c =
     let p =
     err_from_is_err_and c.from_residual-in_err-give_labels.result
     c.from_residual-in_err-give_labels.ensures.1 in
-    let term = sexp_of c.args.term.now in
+    let term = sexp_of c.args.term in
     rw (p.1, p.2)
     (fault_of_annotation (names_for c.args.self.now (labels_view c.args.draft.now.labels))
     (names_for c.args.self.now (labels_view c.sort_of.new.draft.labels)) (sorts_seen c.args.draft.now)
-    (Cons term (sexps_of c.args.attributes.now)) (sexps_of c.args.attributes.now)
+    (Cons term (sexps_of c.args.attributes)) (sexps_of c.args.attributes)
     term c.in_ok-checked.checked.sort _
     (names_behind c.args.self.now (names_of_library c.args.self.now) c.args.draft.now.labels
     c.sort_of.new.draft.labels (labels_in term) c.in_ok-checked.ensures.labels) refl
@@ -294,10 +294,10 @@ sort_of_labelled-returns-in_err-give_labels-clause-sort t c =
 
 pub sort_of_labelled-returns-clause-sort : goal.sort_of_labelled-returns-clause-sort
 sort_of_labelled-returns-clause-sort t c =
-    let term = sexp_of c.args.term.now in
+    let term = sexp_of c.args.term in
     annotated (names_for c.args.self.now (labels_view c.args.draft.now.labels))
     (names_for c.args.self.now (labels_view c.sort_of.new.draft.labels)) (sorts_seen c.args.draft.now)
-    (Cons term (sexps_of c.args.attributes.now)) (sexps_of c.args.attributes.now)
+    (Cons term (sexps_of c.args.attributes)) (sexps_of c.args.attributes)
     term c.in_ok-checked.checked.sort
     (names_behind c.args.self.now (names_of_library c.args.self.now) c.args.draft.now.labels
     c.sort_of.new.draft.labels (labels_in term) c.in_ok-checked.ensures.labels) refl
@@ -309,11 +309,11 @@ sort_of_labelled-returns-clause-sort t c =
 
 pub sort_of_labelled-returns-clause-open : goal.sort_of_labelled-returns-clause-open
 sort_of_labelled-returns-clause-open t c =
-    let term = sexp_of c.args.term.now in
+    let term = sexp_of c.args.term in
     c.in_ok-push.ensures.open
     ∙ sym (closed_within (seen_by c.args.draft.now) c.args.draft.now.base term
     (closed_by_labels c.args.self.now c.sort_of.new.draft.labels (sorts_seen c.args.draft.now) term
-    (labels_among (sexps_of c.args.attributes.now)) c.requires.labelled
+    (labels_among (sexps_of c.args.attributes)) c.requires.labelled
     (c.in_ok-give_labels.ensures.fault (sorts_seen c.args.draft.now)
     (sym (open_whole (seen_by c.args.draft.now) c.len-draft.result c.len-draft.ensures term)
     ∙ sym c.in_ok-checked.ensures.open))))
@@ -342,14 +342,14 @@ sort_of_labelled-returns-clause-node t c =
     let d = c.args.draft.now in
     let mid = c.sort_of.new.draft in
     let given = record mid { labels = c.give_labels.new.labels; base = d.base } in
-    let term = sexp_of c.args.term.now in
+    let term = sexp_of c.args.term in
     let whole = open_whole (seen_by d) c.len-draft.result c.len-draft.ensures term in
     let unused =
     closed_by_labels c.args.self.now mid.labels (sorts_seen d) term
-    (labels_among (sexps_of c.args.attributes.now)) c.requires.labelled
+    (labels_among (sexps_of c.args.attributes)) c.requires.labelled
     (c.in_ok-give_labels.ensures.fault (sorts_seen d) (sym whole ∙ sym c.in_ok-checked.ensures.open)) in
     labelled_stands c.args.self.now d (record d { base = c.len-draft.result }) mid given c.push.new.self term
-    (sexps_of c.args.attributes.now) _ c.in_ok-checked.checked _ _ refl refl c.len-draft.ensures
+    (sexps_of c.args.attributes) _ c.in_ok-checked.checked _ _ refl refl c.len-draft.ensures
     c.sort_of.ensures.longer c.in_ok-checked.ensures.node (c.in_ok-checked.ensures.open ∙ whole ∙ unused) unused
     (omega (arith, c.len.ensures, c.len-2.ensures)) c.requires.labelled refl c.give_labels.ensures.longer.1
     c.in_ok-give_labels.ensures.labels.given c.in_ok-give_labels.ensures.nodes c.in_ok-give_labels.ensures.named
@@ -362,8 +362,8 @@ sort_of_let-returns-in_err-bound-clause-sort t c =
     let p = err_from_is_err_and c.from_residual.result c.from_residual.ensures.1 in
     rw (p.1, p.2)
     (fault_of_bindings (names_for c.args.self.now (labels_view c.args.draft.now.labels))
-    (sorts_seen c.args.draft.now) (sexps_of c.args.args.now) (sexps_of c.in-Some.bindings.now)
-    (sexp_of c.in-Some.body.now) _ c.in-Some.ensures
+    (sorts_seen c.args.draft.now) (sexps_of c.args.args) (sexps_of c.in-Some.bindings)
+    (sexp_of c.in-Some.body) _ c.in-Some.ensures
     (sym c.are_bindings.ensures ∙ c.if-not-are_bindings.false) c.in_err-bound.ensures.bound)
 
 pub sort_of_let-sort_of-requires : goal.sort_of_let-sort_of-requires
@@ -382,7 +382,7 @@ sort_of_let-returns-in_err-inner-clause-sort t c =
     rw (p.1, p.2)
     (tells_same _ _ _
     (let_sorted c.args.self.now c.args.draft.now c.bound_by.new.draft c.bind.new.self (scope_view c.as_slice.result.now)
-    (sexps_of c.args.args.now) (sexps_of c.in-Some.bindings.now) (sexp_of c.in-Some.body.now) c.in-Some.ensures
+    (sexps_of c.args.args) (sexps_of c.in-Some.bindings) (sexp_of c.in-Some.body) c.in-Some.ensures
     (sym c.are_bindings.ensures ∙ c.if-not-are_bindings.false)
     (c.in_ok-bound.ensures.bound ∙ ap (λ vs. Ok (scope_view vs)) (sym c.as_slice.ensures.value))
     c.in_ok-bound.ensures.labels c.in_ok-bound.ensures.kept c.in_ok-bind.ensures.bound c.bind.ensures.labels)
@@ -391,7 +391,7 @@ sort_of_let-returns-in_err-inner-clause-sort t c =
 pub sort_of_let-returns-clause-sort : goal.sort_of_let-returns-clause-sort
 sort_of_let-returns-clause-sort t c =
     let_sorted c.args.self.now c.args.draft.now c.bound_by.new.draft c.bind.new.self (scope_view c.as_slice.result.now)
-    (sexps_of c.args.args.now) (sexps_of c.in-Some.bindings.now) (sexp_of c.in-Some.body.now) c.in-Some.ensures
+    (sexps_of c.args.args) (sexps_of c.in-Some.bindings) (sexp_of c.in-Some.body) c.in-Some.ensures
     (sym c.are_bindings.ensures ∙ c.if-not-are_bindings.false)
     (c.in_ok-bound.ensures.bound ∙ ap (λ vs. Ok (scope_view vs)) (sym c.as_slice.ensures.value))
     c.in_ok-bound.ensures.labels c.in_ok-bound.ensures.kept c.in_ok-bind.ensures.bound c.bind.ensures.labels
@@ -400,11 +400,11 @@ sort_of_let-returns-clause-sort t c =
 pub sort_of_let-returns-clause-open : goal.sort_of_let-returns-clause-open
 sort_of_let-returns-clause-open t c =
     let names = names_for c.args.self.now (labels_view c.args.draft.now.labels) in
-    let bindings = sexps_of c.in-Some.bindings.now in
+    let bindings = sexps_of c.in-Some.bindings in
     let bound = scope_view c.as_slice.result.now in
     c.in_ok-checked.ensures.open
-    ∙ open_let c.args.draft.now c.bound_by.new.draft c.bind.new.self bindings (sexps_of c.args.args.now)
-    (sexp_of c.in-Some.body.now) bound c.in_ok-bound.is_open c.in_ok-inner.inner.is_open
+    ∙ open_let c.args.draft.now c.bound_by.new.draft c.bind.new.self bindings (sexps_of c.args.args)
+    (sexp_of c.in-Some.body) bound c.in_ok-bound.is_open c.in_ok-inner.inner.is_open
     c.in_ok-bound.ensures.kept c.requires.within c.in_ok-bind.ensures.bound c.bind.ensures.base
     (bound-names names (sorts_seen c.args.draft.now) [] bindings bound
     (c.in_ok-bound.ensures.bound ∙ ap (λ vs. Ok (scope_view vs)) (sym c.as_slice.ensures.value)))
@@ -434,13 +434,13 @@ sort_of_let-returns-clause-node t c =
     let names = names_for c.args.self.now (labels_view d.labels) in
     let last = c.sort_of.new.draft in
     let cut = record last { scope = c.cut.new.self } in
-    let bindings = sexps_of c.in-Some.bindings.now in
+    let bindings = sexps_of c.in-Some.bindings in
     let bound = scope_view c.as_slice.result.now in
     let nodes = c.in_ok-bound.ensures.nodes in
     stands_with c.args.self.now d c.push_let.new.self c.truncate.new.self
-    (Items (Cons (Reserved Let) (sexps_of c.args.args.now))) c.in_ok-checked.checked
+    (Items (Cons (Reserved Let) (sexps_of c.args.args))) c.in_ok-checked.checked
     (let_stands c.args.self.now d c.bound_by.new.draft c.bind.new.self last cut c.push_let.new.self
-    (sexps_of c.args.args.now) bindings (sexp_of c.in-Some.body.now) bound nodes.0
+    (sexps_of c.args.args) bindings (sexp_of c.in-Some.body) bound nodes.0
     c.in_ok-bound.is_open c.in_ok-inner.inner _ c.in-Some.ensures c.in_ok-bound.ensures.kept
     c.requires.within c.in_ok-bind.ensures.bound c.bind.ensures.base c.bind.ensures.labels c.bind.ensures.nodes
     (bound-names names (sorts_seen d) [] bindings bound
@@ -484,35 +484,35 @@ pub sort_of_list-returns-then-is_let-clause-sort : goal.sort_of_list-returns-the
 sort_of_list-returns-then-is_let-clause-sort t c =
     let names = names_for c.args.self.now (labels_view c.args.draft.now.labels) in
     let scope = sorts_seen c.args.draft.now in
-    carried_sort c.sort_of_let.result (let_in names scope (sexps_of c.in-Some.args.now))
-    (sort_in names scope (Items c.args.parts.now))
+    carried_sort c.sort_of_let.result (let_in names scope (sexps_of c.in-Some.args))
+    (sort_in names scope (Items (sexps_of c.args.parts)))
     (ap (λ ps. sort_in names scope (Items ps))
-    (sym c.as_slice.ensures ∙ c.in-Some.ensures ∙ ap (λ h. Cons h (sexps_of c.in-Some.args.now))
-    (let_head (sexp_of c.in-Some.head.now) (sym c.if-is_let.ensures)))) c.sort_of_let.ensures.sort
+    (c.in-Some.ensures ∙ ap (λ h. Cons h (sexps_of c.in-Some.args))
+    (let_head (sexp_of c.in-Some.head) (sym c.if-is_let.ensures)))) c.sort_of_let.ensures.sort
 
 pub sort_of_list-returns-then-is_let-clause-open : goal.sort_of_list-returns-then-is_let-clause-open
 sort_of_list-returns-then-is_let-clause-open t c =
     carried_open c.sort_of_let.result _ _
     (ap (λ ps. is_open c.args.draft.now (Items ps))
-    (sym c.as_slice.ensures ∙ c.in-Some.ensures ∙ ap (λ h. Cons h (sexps_of c.in-Some.args.now))
-    (let_head (sexp_of c.in-Some.head.now) (sym c.if-is_let.ensures)))) c.sort_of_let.ensures.open
+    (c.in-Some.ensures ∙ ap (λ h. Cons h (sexps_of c.in-Some.args))
+    (let_head (sexp_of c.in-Some.head) (sym c.if-is_let.ensures)))) c.sort_of_let.ensures.open
 
 pub sort_of_list-returns-then-is_bang-clause-sort : goal.sort_of_list-returns-then-is_bang-clause-sort
 sort_of_list-returns-then-is_bang-clause-sort t c =
     let names = names_for c.args.self.now (labels_view c.args.draft.now.labels) in
     let scope = sorts_seen c.args.draft.now in
-    carried_sort c.sort_of_annotated.result (bang_in names scope (sexps_of c.in-Some.args.now))
-    (sort_in names scope (Items c.args.parts.now))
+    carried_sort c.sort_of_annotated.result (bang_in names scope (sexps_of c.in-Some.args))
+    (sort_in names scope (Items (sexps_of c.args.parts)))
     (ap (λ ps. sort_in names scope (Items ps))
-    (sym c.as_slice.ensures ∙ c.in-Some.ensures ∙ ap (λ h. Cons h (sexps_of c.in-Some.args.now))
-    (bang_head (sexp_of c.in-Some.head.now) (sym c.if-is_bang.ensures)))) c.sort_of_annotated.ensures.sort
+    (c.in-Some.ensures ∙ ap (λ h. Cons h (sexps_of c.in-Some.args))
+    (bang_head (sexp_of c.in-Some.head) (sym c.if-is_bang.ensures)))) c.sort_of_annotated.ensures.sort
 
 pub sort_of_list-returns-then-is_bang-clause-open : goal.sort_of_list-returns-then-is_bang-clause-open
 sort_of_list-returns-then-is_bang-clause-open t c =
     carried_open c.sort_of_annotated.result _ _
     (ap (λ ps. is_open c.args.draft.now (Items ps))
-    (sym c.as_slice.ensures ∙ c.in-Some.ensures ∙ ap (λ h. Cons h (sexps_of c.in-Some.args.now))
-    (bang_head (sexp_of c.in-Some.head.now) (sym c.if-is_bang.ensures)))) c.sort_of_annotated.ensures.open
+    (c.in-Some.ensures ∙ ap (λ h. Cons h (sexps_of c.in-Some.args))
+    (bang_head (sexp_of c.in-Some.head) (sym c.if-is_bang.ensures)))) c.sort_of_annotated.ensures.open
 
 pub sort_of_list-returns-in_err-is_open-clause-sort : goal.sort_of_list-returns-in_err-is_open-clause-sort
 sort_of_list-returns-in_err-is_open-clause-sort t c =
@@ -520,10 +520,10 @@ sort_of_list-returns-in_err-is_open-clause-sort t c =
     rw (p.1, p.2)
     (fault_of_args (names_for c.args.self.now (labels_view c.args.draft.now.labels))
     (sorts_seen c.args.draft.now)
-    (sexp_of c.in-Some.head.now) (sexps_of c.in-Some.args.now) c.args.parts.now
+    (sexp_of c.in-Some.head) (sexps_of c.in-Some.args) (sexps_of c.args.parts)
     (identifier_view c.in_ok-identifier-2.identifier) _
-    (sym c.as_slice.ensures ∙ c.in-Some.ensures)
-    (plain_head (sexp_of c.in-Some.head.now) c.if-is_underscore.ensures c.if-is_let.ensures c.if-is_bang.ensures)
+    (c.in-Some.ensures)
+    (plain_head (sexp_of c.in-Some.head) c.if-is_underscore.ensures c.if-is_let.ensures c.if-is_bang.ensures)
     c.in_ok-identifier-2.ensures c.in_err-is_open.ensures.sorts)
 
 pub sort_of_list-returns-then-is_underscore-clause-sort :
@@ -535,9 +535,9 @@ sort_of_list-returns-then-is_underscore-clause-sort t c =
     let names = names_for c.args.self.now (labels_view d.labels) in
     carried_sort c.sort_applied.result
     (sort_applied (names_of_library c.args.self.now) f (sorts_from start d.arguments))
-    (sort_in names (sorts_seen d) (Items c.args.parts.now))
-    (indexed_ok names (sorts_seen d) (sexp_of c.in-Some.head.now) (sexps_of c.in-Some.args.now) c.args.parts.now f
-    (sym c.as_slice.ensures ∙ c.in-Some.ensures) (sym c.if-is_underscore.ensures) c.in_ok-identifier.ensures
+    (sort_in names (sorts_seen d) (Items (sexps_of c.args.parts)))
+    (indexed_ok names (sorts_seen d) (sexp_of c.in-Some.head) (sexps_of c.in-Some.args) (sexps_of c.args.parts) f
+    (c.in-Some.ensures) (sym c.if-is_underscore.ensures) c.in_ok-identifier.ensures
     ∙ applied_without_labels c.args.self.now (labels_view d.labels) f []
     ∙ ap (λ ss. sort_applied (names_of_library c.args.self.now) f ss)
     (sym (no_sorts d start c.len-start.ensures)))
@@ -547,8 +547,8 @@ pub sort_of_list-returns-then-is_underscore-clause-labels :
     goal.sort_of_list-returns-then-is_underscore-clause-labels
 sort_of_list-returns-then-is_underscore-clause-labels t c =
     given_by_indexed c.sort_applied.result (names_of_library c.args.self.now) c.args.draft.now.labels
-    c.sort_applied.new.draft.labels (sexp_of c.in-Some.head.now) (sexps_of c.in-Some.args.now) c.args.parts.now
-    (sym c.as_slice.ensures ∙ c.in-Some.ensures) (sym c.if-is_underscore.ensures) c.sort_applied.ensures.labels
+    c.sort_applied.new.draft.labels (sexp_of c.in-Some.head) (sexps_of c.in-Some.args) (sexps_of c.args.parts)
+    (c.in-Some.ensures) (sym c.if-is_underscore.ensures) c.sort_applied.ensures.labels
 
 pub sort_of_list-returns-then-is_underscore-clause-node :
     goal.sort_of_list-returns-then-is_underscore-clause-node
@@ -559,9 +559,9 @@ sort_of_list-returns-then-is_underscore-clause-node t c =
     let start = c.len-start.result in
     if_answered c.sort_applied.result
     (AddsApplied c.args.self.now d new f (sorts_from start d.arguments) (terms_from start d.arguments))
-    (Stands c.args.self.now d new (Items c.args.parts.now))
-    (λ found adds. indexed_stands c.args.self.now d new (sexp_of c.in-Some.head.now)
-    (sexps_of c.in-Some.args.now) c.args.parts.now f found (sym c.as_slice.ensures ∙ c.in-Some.ensures)
+    (Stands c.args.self.now d new (Items (sexps_of c.args.parts)))
+    (λ found adds. indexed_stands c.args.self.now d new (sexp_of c.in-Some.head)
+    (sexps_of c.in-Some.args) (sexps_of c.args.parts) f found (c.in-Some.ensures)
     (sym c.if-is_underscore.ensures) c.in_ok-identifier.ensures c.sort_applied.ensures.longer
     (applied_alone c.args.self.now d new f start c.len-start.ensures found adds))
     c.sort_applied.ensures.added
@@ -577,20 +577,20 @@ sort_of_list-returns-in_err-checked-clause-sort t c =
     let p = err_from_is_err_and c.from_residual-in_err-checked.result c.from_residual-in_err-checked.ensures.1 in
     let found = c.in_ok-is_open.ensures.sorts in
     rw (p.1, p.2)
-    (tells_same _ _ _ (called_from c.args.self.now c.args.draft.now c.sorts_of.new.draft (sexp_of c.in-Some.head.now)
-    (sexps_of c.in-Some.args.now) c.args.parts.now (identifier_view c.in_ok-identifier-2.identifier)
-    c.len-start-2.result found.0 (sym c.as_slice.ensures ∙ c.in-Some.ensures)
-    (plain_head (sexp_of c.in-Some.head.now) c.if-is_underscore.ensures c.if-is_let.ensures c.if-is_bang.ensures)
+    (tells_same _ _ _ (called_from c.args.self.now c.args.draft.now c.sorts_of.new.draft (sexp_of c.in-Some.head)
+    (sexps_of c.in-Some.args) (sexps_of c.args.parts) (identifier_view c.in_ok-identifier-2.identifier)
+    c.len-start-2.result found.0 (c.in-Some.ensures)
+    (plain_head (sexp_of c.in-Some.head) c.if-is_underscore.ensures c.if-is_let.ensures c.if-is_bang.ensures)
     c.in_ok-identifier-2.ensures found.1 found.2 c.len-start-2.ensures c.in_ok-is_open.ensures.kept)
     c.in_err-checked.ensures.sort)
 
 pub sort_of_list-returns-clause-sort : goal.sort_of_list-returns-clause-sort
 sort_of_list-returns-clause-sort t c =
     let found = c.in_ok-is_open.ensures.sorts in
-    called_from c.args.self.now c.args.draft.now c.sorts_of.new.draft (sexp_of c.in-Some.head.now)
-    (sexps_of c.in-Some.args.now) c.args.parts.now (identifier_view c.in_ok-identifier-2.identifier)
-    c.len-start-2.result found.0 (sym c.as_slice.ensures ∙ c.in-Some.ensures)
-    (plain_head (sexp_of c.in-Some.head.now) c.if-is_underscore.ensures c.if-is_let.ensures c.if-is_bang.ensures)
+    called_from c.args.self.now c.args.draft.now c.sorts_of.new.draft (sexp_of c.in-Some.head)
+    (sexps_of c.in-Some.args) (sexps_of c.args.parts) (identifier_view c.in_ok-identifier-2.identifier)
+    c.len-start-2.result found.0 (c.in-Some.ensures)
+    (plain_head (sexp_of c.in-Some.head) c.if-is_underscore.ensures c.if-is_let.ensures c.if-is_bang.ensures)
     c.in_ok-identifier-2.ensures found.1 found.2 c.len-start-2.ensures c.in_ok-is_open.ensures.kept
     ∙ c.in_ok-checked.ensures.sort
 
@@ -599,18 +599,18 @@ sort_of_list-returns-clause-labels t c =
     let names = names_of_library c.args.self.now in
     let d = c.args.draft.now in
     given_by_args {E = TermFault} (Ok c.in_ok-checked.checked) names d.labels
-    c.sort_of_call.new.draft.labels (sexp_of c.in-Some.head.now) (sexps_of c.in-Some.args.now) c.args.parts.now
-    (sym c.as_slice.ensures ∙ c.in-Some.ensures)
-    (plain_head (sexp_of c.in-Some.head.now) c.if-is_underscore.ensures c.if-is_let.ensures c.if-is_bang.ensures)
-    (subst (λ ls. AreGiven names d.labels ls (labels_in_all (sexps_of c.in-Some.args.now)))
+    c.sort_of_call.new.draft.labels (sexp_of c.in-Some.head) (sexps_of c.in-Some.args) (sexps_of c.args.parts)
+    (c.in-Some.ensures)
+    (plain_head (sexp_of c.in-Some.head) c.if-is_underscore.ensures c.if-is_let.ensures c.if-is_bang.ensures)
+    (subst (λ ls. AreGiven names d.labels ls (labels_in_all (sexps_of c.in-Some.args)))
     (sym c.in_ok-checked.ensures.labels) c.in_ok-is_open.ensures.labels)
 
 pub sort_of_list-returns-clause-open : goal.sort_of_list-returns-clause-open
 sort_of_list-returns-clause-open t c =
     c.in_ok-checked.ensures.open ∙ c.in_ok-is_open.ensures.open
-    ∙ sym (open_args c.args.draft.now (sexp_of c.in-Some.head.now) (sexps_of c.in-Some.args.now)
-    c.args.parts.now (sym c.as_slice.ensures ∙ c.in-Some.ensures)
-    (plain_head (sexp_of c.in-Some.head.now) c.if-is_underscore.ensures c.if-is_let.ensures c.if-is_bang.ensures))
+    ∙ sym (open_args c.args.draft.now (sexp_of c.in-Some.head) (sexps_of c.in-Some.args)
+    (sexps_of c.args.parts) (c.in-Some.ensures)
+    (plain_head (sexp_of c.in-Some.head) c.if-is_underscore.ensures c.if-is_let.ensures c.if-is_bang.ensures))
 
 pub sort_of_list-returns-clause-node : goal.sort_of_list-returns-clause-node
 sort_of_list-returns-clause-node t c =
@@ -618,17 +618,17 @@ sort_of_list-returns-clause-node t c =
     let mid = c.sorts_of.new.draft in
     let new = c.sort_of_call.new.draft in
     let f = identifier_view c.in_ok-identifier-2.identifier in
-    let args = sexps_of c.in-Some.args.now in
+    let args = sexps_of c.in-Some.args in
     let start = c.len-start-2.result in
     let nodes = c.in_ok-is_open.ensures.nodes in
     let sorts = c.in_ok-is_open.ensures.sorts in
     let is_open = c.in_ok-is_open.is_open in
     let checked = c.in_ok-checked.checked in
-    stands_with c.args.self.now d new c.truncate.new.self (Items c.args.parts.now) checked
-    (call_stands c.args.self.now d mid new (sexp_of c.in-Some.head.now) args
-    c.args.parts.now f (sorts_from start mid.arguments) (terms_from start mid.arguments) is_open checked
-    (sym c.as_slice.ensures ∙ c.in-Some.ensures)
-    (plain_head (sexp_of c.in-Some.head.now) c.if-is_underscore.ensures c.if-is_let.ensures c.if-is_bang.ensures)
+    stands_with c.args.self.now d new c.truncate.new.self (Items (sexps_of c.args.parts)) checked
+    (call_stands c.args.self.now d mid new (sexp_of c.in-Some.head) args
+    (sexps_of c.args.parts) f (sorts_from start mid.arguments) (terms_from start mid.arguments) is_open checked
+    (c.in-Some.ensures)
+    (plain_head (sexp_of c.in-Some.head) c.if-is_underscore.ensures c.if-is_let.ensures c.if-is_bang.ensures)
     c.in_ok-identifier-2.ensures c.in_ok-checked.ensures.open c.sorts_of.ensures.longer
     (subst (λ js. TermsStand c.args.self.now d mid args js is_open)
     (sym (terms_start d mid start nodes.0 c.len-start-2.ensures nodes.1)) nodes.2)
@@ -680,7 +680,7 @@ sorts_of-loop-term-preserved t c =
     let arguments = c.push.new.self in
     let new = record last { arguments = arguments } in
     let here = names_for c.args.self.now (labels_view mid.labels) in
-    let term = sexp_of c.in-Some.term.now in
+    let term = sexp_of c.in-Some.term in
     let checked = c.in_ok-checked.checked in
     let more = since_more d mid last new checked.sort checked.node c.loop-term.invariant.waiting
     c.in_ok-checked.ensures.waiting c.in_ok-push.ensures.sorts c.in_ok-push.ensures.terms in
@@ -688,37 +688,37 @@ sorts_of-loop-term-preserved t c =
       answer = c.loop-term.invariant.answer
           ∙ sorts_behind-next here (names_for c.args.self.now (labels_view last.labels))
           (sorts_seen d) (sorts_since d mid) (sorts_since d new) term
-          (sexps_of c.in-Some.rest.now) (sexps_of c.loop-term.left.now) checked.sort
+          (sexps_of c.in-Some.rest) (sexps_of c.loop-term.left) checked.sort
           (names_behind c.args.self.now names mid.labels last.labels
           (labels_in term) c.in_ok-checked.ensures.labels) c.in-Some.ensures
           (ap (λ vs. sort_in here vs term) (sym (sorts_kept d mid c.loop-term.invariant.kept))
           ∙ c.in_ok-checked.ensures.sort) more.0;
       given = AreGivenOf-next names d.labels mid.labels last.labels
-          (labels_in_all (sexps_of c.args.terms.now)) (labels_in_all (sexps_of c.loop-term.left.now))
-          (labels_in term) (labels_in_all (sexps_of c.in-Some.rest.now))
+          (labels_in_all (sexps_of c.args.terms)) (labels_in_all (sexps_of c.loop-term.left))
+          (labels_in term) (labels_in_all (sexps_of c.in-Some.rest))
           c.loop-term.invariant.given (ap labels_in_all c.in-Some.ensures) c.in_ok-checked.ensures.labels;
       kept = sees_with d last arguments
           (kept_on d mid last c.loop-term.invariant.kept c.in_ok-checked.ensures.kept);
-      opened = opened_next (are_open d (sexps_of c.args.terms.now)) c.loop-term.is_open
-          checked.is_open (is_open d term) (are_open d (sexps_of c.in-Some.rest.now))
-          (are_open d (sexps_of c.loop-term.left.now)) c.loop-term.invariant.opened
+      opened = opened_next (are_open d (sexps_of c.args.terms)) c.loop-term.is_open
+          checked.is_open (is_open d term) (are_open d (sexps_of c.in-Some.rest))
+          (are_open d (sexps_of c.loop-term.left)) c.loop-term.invariant.opened
           (ap (are_open d) c.in-Some.ensures)
           (c.in_ok-checked.ensures.open ∙ open_kept d mid c.loop-term.invariant.kept term);
       lighter = omega (arith, ap weight_all c.in-Some.ensures, c.loop-term.invariant.lighter);
       waiting = more.2;
-      stand = so_far_with AreDenoted c.args.self.now d last arguments (sexps_of c.args.terms.now)
-          (sexps_of c.in-Some.rest.now) (terms_since d new) (c.loop-term.is_open || checked.is_open)
+      stand = so_far_with AreDenoted c.args.self.now d last arguments (sexps_of c.args.terms)
+          (sexps_of c.in-Some.rest) (terms_since d new) (c.loop-term.is_open || checked.is_open)
           (so_far-next AreDenoted c.args.self.now d mid last
-          (sexps_of c.args.terms.now) (sexps_of c.loop-term.left.now) (sexps_of c.in-Some.rest.now)
+          (sexps_of c.args.terms) (sexps_of c.loop-term.left) (sexps_of c.in-Some.rest)
           (terms_since d mid) (terms_since d new) c.loop-term.is_open term
           checked c.loop-term.invariant.stand c.loop-term.invariant.kept
-          (term_first term (sexps_of c.loop-term.left.now) (sexps_of c.in-Some.rest.now) c.in-Some.ensures)
+          (term_first term (sexps_of c.loop-term.left) (sexps_of c.in-Some.rest) c.in-Some.ensures)
           c.sort_of.ensures.longer c.in_ok-checked.ensures.node more.1);
     }
 
 pub sorts_of-loop-term-init : goal.sorts_of-loop-term-init
 sorts_of-loop-term-init t c =
-    let terms = sexps_of c.args.terms.now in
+    let terms = sexps_of c.args.terms in
     let d = c.args.draft.now in
     let none = since_none d in
     record {
@@ -749,7 +749,7 @@ sorts_of-returns-clause-sorts t c =
       sorts_since d mid,
       c.loop-term.invariant.answer
           ∙ sorts_behind-end (names_for c.args.self.now (labels_view mid.labels)) (sorts_seen d)
-          (sorts_since d mid) (sexps_of c.loop-term.left.now) c.in_default.ensures,
+          (sorts_since d mid) (sexps_of c.loop-term.left) c.in_default.ensures,
       c.loop-term.invariant.waiting.sorts,
     )
 
@@ -759,7 +759,7 @@ sorts_of-returns-clause-nodes t c =
     let mid = c.loop-term.draft in (
       terms_since d mid,
       c.loop-term.invariant.waiting.terms,
-      so_far-all AreDenoted c.args.self.now d mid (sexps_of c.args.terms.now)
-          (sexps_of c.loop-term.left.now) (terms_since d mid) c.loop-term.is_open
-          (no_term (sexps_of c.loop-term.left.now) c.in_default.ensures) c.loop-term.invariant.stand,
+      so_far-all AreDenoted c.args.self.now d mid (sexps_of c.args.terms)
+          (sexps_of c.loop-term.left) (terms_since d mid) c.loop-term.is_open
+          (no_term (sexps_of c.loop-term.left) c.in_default.ensures) c.loop-term.invariant.stand,
     )

@@ -1,6 +1,6 @@
 use Rattle.std.proofs.Common.{◌≡◌, ◌+◌, ◌*◌, ◌≤◌, ◌||◌, [], true, map}
 use Rattle.smt_trees.specs.Sexp.{weight, weight_all}
-use Rattle.smt_trees.specs.Tree.{sexp_of, sexps_of}
+use Rattle.smt_trees.specs.View.{sexp_of, sexps_of}
 use Rattle.smt_forms.specs.Bindings.{are_named_trees}
 use Rattle.smt_forms.specs.Labels.{labels_in_all, labels_in_bindings}
 use Rattle.smt_forms.specs.NamesIn.{names_in}
@@ -17,28 +17,28 @@ use Rattle.smt_terms.proofs.PartNodeLemmas.{BindingsSoFar, TermsSoFar}
 use Rattle.smt_terms.proofs.library.Library.+check.Given as goal
 
 abbrev pub decreases-sort_of : goal.decreases-sort_of
-decreases-sort_of l = 4 * weight (sexp_of l.term.now) + 1
+decreases-sort_of l = 4 * weight (sexp_of l.term) + 1
 
 abbrev pub decreases-sort_of_other : goal.decreases-sort_of_other
-decreases-sort_of_other l = 4 * weight (sexp_of l.term.now)
+decreases-sort_of_other l = 4 * weight (sexp_of l.term)
 
 abbrev pub decreases-sort_of_list : goal.decreases-sort_of_list
-decreases-sort_of_list l = 4 * weight_all l.parts.now + 3
+decreases-sort_of_list l = 4 * weight_all (sexps_of l.parts) + 3
 
 abbrev pub decreases-sort_of_let : goal.decreases-sort_of_let
-decreases-sort_of_let l = 4 * weight_all (sexps_of l.args.now) + 3
+decreases-sort_of_let l = 4 * weight_all (sexps_of l.args) + 3
 
 abbrev pub decreases-sort_of_annotated : goal.decreases-sort_of_annotated
-decreases-sort_of_annotated l = 4 * weight_all (sexps_of l.args.now) + 3
+decreases-sort_of_annotated l = 4 * weight_all (sexps_of l.args) + 3
 
 abbrev pub decreases-sort_of_labelled : goal.decreases-sort_of_labelled
-decreases-sort_of_labelled l = 4 * weight (sexp_of l.term.now) + 2
+decreases-sort_of_labelled l = 4 * weight (sexp_of l.term) + 2
 
 abbrev pub decreases-sorts_of : goal.decreases-sorts_of
-decreases-sorts_of l = 4 * weight_all (sexps_of l.terms.now) + 2
+decreases-sorts_of l = 4 * weight_all (sexps_of l.terms) + 2
 
 abbrev pub decreases-bound_by : goal.decreases-bound_by
-decreases-bound_by l = 4 * weight_all (sexps_of l.bindings.now) + 2
+decreases-bound_by l = 4 * weight_all (sexps_of l.bindings) + 2
 
 abbrev pub invariant-sorts_of-loop-term : goal.invariant-sorts_of-loop-term
 invariant-sorts_of-loop-term l = record {

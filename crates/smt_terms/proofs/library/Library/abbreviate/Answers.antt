@@ -1,6 +1,6 @@
 use Rattle.std.proofs.Common.{◌≡◌, Ok, refl, ap, sym, ◌∙◌}
 use Rattle.std.proofs.lemmas.Result.{IfErr-weaker, on_ok_weaker}
-use Rattle.smt_trees.specs.Tree.{sexp_of}
+use Rattle.smt_trees.specs.View.{sexp_of}
 use Rattle.smt_terms.specs.Contents.{contents_of}
 use Rattle.smt_terms.specs.Internal.LibraryView.{abbreviations_of, sort_names}
 use Rattle.smt_terms.specs.Signature.{sort_names_of}
@@ -18,7 +18,7 @@ returns-clause-abbreviated c =
     on_ok_weaker c.abbreviate.result
     (λ more s stands. (
       more.0,
-      ap (λ n. abbreviated_in n c.args.name.now (sexp_of c.args.sort.now))
+      ap (λ n. abbreviated_in n c.args.name.now (sexp_of c.args.sort))
           (sym (sorts_as old s stands)) ∙ more.1,
       stands_abbreviated (contents_of old) _ s c.args.name.now more.0 c.abbreviate.ensures.theories more.2
           refl refl refl refl refl refl stands,
@@ -29,7 +29,7 @@ pub returns-clause-refused : goal.returns-clause-refused
 returns-clause-refused c =
     let old = c.args.self.now in
     let x = c.args.name.now in
-    let tree = sexp_of c.args.sort.now in
+    let tree = sexp_of c.args.sort in
     IfErr-weaker c.abbreviate.result _ _
     (λ fault refused s stands.
     same_fault (abbreviated_in (sort_names old.sorts) x tree) (abbreviated_in (sort_names_of s) x tree) fault
@@ -54,7 +54,7 @@ pub returns-clause-grown : goal.returns-clause-grown
 returns-clause-grown c = record {
   theories = c.abbreviate.ensures.theories;
   abbreviations = more_abbreviations
-      (λ found. abbreviated_in (sort_names c.args.self.now.sorts) c.args.name.now (sexp_of c.args.sort.now)
+      (λ found. abbreviated_in (sort_names c.args.self.now.sorts) c.args.name.now (sexp_of c.args.sort)
       ≡ Ok found) c.abbreviate.result (abbreviations_of c.args.self.now.sorts)
       (abbreviations_of c.abbreviate.new.self) c.args.name.now c.abbreviate.ensures.abbreviated
       c.abbreviate.ensures.unchanged;

@@ -1,7 +1,7 @@
 use Rattle.std.proofs.Common.{ℕ, List, ◌++◌, ◌∷◌, [], true, false, inr, ap, sym, ◌∙◌, refl}
 use Rattle.std.proofs.lemmas.Result.{err_from_is_err_and}
 use Rattle.smt_nodes.specs.Nodes.{rows_of}
-use Rattle.smt_trees.specs.Tree.{sexp_of}
+use Rattle.smt_trees.specs.View.{sexp_of}
 use Rattle.smt_forms.specs.ScopeView.{scope_view}
 use Rattle.smt_terms.specs.Checking.{sort_in}
 use Rattle.smt_terms.specs.Contents.{contents_of, terms_in}
@@ -27,7 +27,7 @@ returns-in_err-checked-clause-refused c =
     err_from_is_err_and c.from_residual.result c.from_residual.ensures.1 in
     let old = c.args.self.now in
     let ps = scope_view c.args.parameters.now in
-    let body = sexp_of c.args.body.now in
+    let body = sexp_of c.args.body in
     let labels = labels_view c.refused.result in
     rw (p.1, p.2)
     (λ s stands. fault_of_body (names_of s) (names_of_library old) c.args.name.now ps c.args.sort body _
@@ -46,7 +46,7 @@ pub returns-then-not-are_equal-clause-refused : goal.returns-then-not-are_equal-
 returns-then-not-are_equal-clause-refused c =
     let old = c.args.self.now in
     let ps = scope_view c.args.parameters.now in
-    let body = sexp_of c.args.body.now in
+    let body = sexp_of c.args.body in
     λ s stands. inr (definition_by (names_of s) (names_of_library old) c.args.name.now ps c.args.sort
     c.in_ok-checked.checked.sort body false (names_as old s stands)
     (without_labels old (labels_view c.refused.result) ps body _ c.refused.ensures.view c.in_ok-checked.ensures.sort)
@@ -78,7 +78,7 @@ returns-clause-added c = λ s stands.
     let old = c.args.self.now in
     let now = contents_of c.check_whole.new.self in
     let ps = scope_view c.args.parameters.now in
-    let t = sexp_of c.args.body.now in
+    let t = sexp_of c.args.body in
     let e = c.check_whole.ensures in
     let given = c.in_ok-checked.field-0-1.items in
     let node = c.in_ok-checked.checked.node in

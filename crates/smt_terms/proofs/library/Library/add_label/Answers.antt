@@ -1,6 +1,6 @@
 use Rattle.std.proofs.Common.{◌++◌, ◌∷◌, [], ap, subst, ◌∙◌}
 use Rattle.std.proofs.lemmas.Result.{on_ok_weaker}
-use Rattle.smt_trees.specs.Tree.{sexp_of}
+use Rattle.smt_trees.specs.View.{sexp_of}
 use Rattle.smt_theory.specs.Operators.{is_plain_operator}
 use Rattle.smt_terms.specs.Contents.{contents_of}
 use Rattle.smt_terms.specs.Definitions.{definition}
@@ -17,8 +17,8 @@ returns-clause-added c =
     on_ok_weaker c.insert_definition.result
     (λ added bodies s stands fit.
     subst (λ x. HoldsUnder bodies (contents_of c.insert_definition.new.self)
-    (with_entry s (definition x [] l.sort (sexp_of l.body.now)))) c.as_slice.ensures.value
-    (added bodies s (sexp_of l.body.now) stands
+    (with_entry s (definition x [] l.sort (sexp_of l.body)))) c.as_slice.ensures.value
+    (added bodies s (sexp_of l.body) stands
     (ap (λ x. is_plain_operator s.theories x) c.as_slice.ensures.value ∙ fit.free) fit.named))
     c.insert_definition.ensures.added
 

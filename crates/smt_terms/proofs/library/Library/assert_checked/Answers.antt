@@ -1,7 +1,7 @@
 use Rattle.std.proofs.Common.{[], map, refl, ap, sym, subst, ◌∙◌, inr}
 use Rattle.std.proofs.lemmas.Result.{err_from_is_err_and}
 use Rattle.smt_nodes.specs.Nodes.{rows_of}
-use Rattle.smt_trees.specs.Tree.{sexp_of}
+use Rattle.smt_trees.specs.View.{sexp_of}
 use Rattle.smt_terms.specs.Contents.{contents_of, terms_in}
 use Rattle.smt_terms.specs.Internal.Growing.{AreFitUnder, HoldsUnder, bodies_in}
 use Rattle.smt_terms.specs.Internal.LabelsView.{AreNew, label_entry, labels_view}
@@ -26,7 +26,7 @@ add_labels-requires c =
     e.declared e.definitions e.bodies) in
     subst (λ ls. AreNew (ranks_of_library c.check_whole.new.self) ls) (sym c.as_slice.ensures.value)
     (subst (λ rs. AreNew rs c.in_ok-checked.given.items) (sym kept.ranks)
-    (given_are_new old (labels_view c.new.result) c.in_ok-checked.given.items (sexp_of c.args.term.now)
+    (given_are_new old (labels_view c.new.result) c.in_ok-checked.given.items (sexp_of c.args.term)
     c.in_ok-checked.checked.sort c.new.ensures.view c.in_ok-checked.ensures.sort
     c.in_ok-checked.ensures.given.0))
 
@@ -41,12 +41,12 @@ pub returns-in_err-checked-clause-refused : goal.returns-in_err-checked-clause-r
 returns-in_err-checked-clause-refused c =
     let p = err_from_is_err_and c.from_residual.result c.from_residual.ensures.1 in
     rw (p.1, p.2)
-    (λ s stands. asserted_fault c.args.self.now s (labels_view c.new.result) (sexp_of c.args.term.now) _ stands
+    (λ s stands. asserted_fault c.args.self.now s (labels_view c.new.result) (sexp_of c.args.term) _ stands
     c.new.ensures.view c.in_err-checked.ensures.sort)
 
 pub returns-then-not-are_equal-clause-refused : goal.returns-then-not-are_equal-clause-refused
 returns-then-not-are_equal-clause-refused c = λ s stands.
-    inr (asserted_ill c.args.self.now s (labels_view c.new.result) (sexp_of c.args.term.now) c.in_ok-checked.checked.sort
+    inr (asserted_ill c.args.self.now s (labels_view c.new.result) (sexp_of c.args.term) c.in_ok-checked.checked.sort
     stands c.new.ensures.view c.in_ok-checked.ensures.sort (sym c.are_equal.ensures ∙ c.if-not-are_equal.true))
 
 pub returns-then-not-are_equal-clause-grown : goal.returns-then-not-are_equal-clause-grown
@@ -60,7 +60,7 @@ pub returns-clause-asserted : goal.returns-clause-asserted
 returns-clause-asserted c = λ s stands.
     let old = c.args.self.now in
     let now = contents_of c.check_whole.new.self in
-    let term = sexp_of c.args.term.now in
+    let term = sexp_of c.args.term in
     let labels = labels_view c.new.result in
     let e = c.check_whole.ensures in
     let given = c.in_ok-checked.given.items in
@@ -118,7 +118,7 @@ returns-clause-term c = λ s stands.
     c.as_slice.ensures.value))
     c.add_labels.ensures.grown.rows in
     denotes_kept (table_with old given rows) (terms_in (contents_of c.add_labels.new.self)) longer [] 0 0
-    c.in_ok-checked.checked.node (sexp_of c.args.term.now)
+    c.in_ok-checked.checked.node (sexp_of c.args.term)
     (c.in_ok-checked.ensures.node (ready (terms_in (contents_of old)) s stands.terms)).0
 
 pub returns-clause-grown : goal.returns-clause-grown

@@ -1,6 +1,6 @@
 use Rattle.std.proofs.Common.{[], ap, refl, sym, ◌∙◌}
 use Rattle.smt_nodes.specs.Nodes.{rows_of}
-use Rattle.smt_trees.specs.Tree.{sexp_of}
+use Rattle.smt_trees.specs.View.{sexp_of}
 use Rattle.smt_terms.specs.Checking.{sort_in}
 use Rattle.smt_terms.specs.Contents.{contents_of, terms_in}
 use Rattle.smt_terms.specs.Internal.LabelsView.{labels_view}
@@ -48,7 +48,7 @@ pub returns-clause-answer : goal.returns-clause-answer
 returns-clause-answer c = λ s stands.
     let old = c.args.self.now in
     let new = c.check_whole.new.self in
-    let t = sexp_of c.args.term.now in
+    let t = sexp_of c.args.term in
     let e = c.check_whole.ensures in
     let given = c.in_ok-checked.field-0-1.items in
     let rows = rows_of new.nodes in

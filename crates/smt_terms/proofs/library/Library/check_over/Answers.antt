@@ -1,6 +1,6 @@
 use Rattle.std.proofs.Common.{◌≡◌, length, subst}
 use Rattle.std.proofs.lemmas.List.{length-map}
-use Rattle.smt_trees.specs.Tree.{sexp_of}
+use Rattle.smt_trees.specs.View.{sexp_of}
 use Rattle.smt_forms.specs.ScopeView.{scope_view}
 use Rattle.smt_terms.specs.Denotes.{Denotes, slots_from}
 use Rattle.smt_terms.specs.Internal.DraftView.{is_open}
@@ -21,7 +21,7 @@ pub returns-clause-sort : goal.returns-clause-sort
 returns-clause-sort c =
     carried_sort c.sort_of.result _ _
     (whole_sort c.args.draft.now c.bind.new.self (scope_view c.args.variables.now) c.requires.none c.requires.base
-    c.in_ok-bind.ensures.bound c.bind.ensures.base c.args.self.now (sexp_of c.args.term.now)
+    c.in_ok-bind.ensures.bound c.bind.ensures.base c.args.self.now (sexp_of c.args.term)
     c.bind.ensures.labels) c.sort_of.ensures.sort
 
 pub returns-clause-node : goal.returns-clause-node
@@ -29,7 +29,7 @@ returns-clause-node c =
     let d = c.args.draft.now in
     let inner = c.bind.new.self in
     let new = c.sort_of.new.draft in
-    let term = sexp_of c.args.term.now in
+    let term = sexp_of c.args.term in
     let bound = scope_view c.args.variables.now in
     if_both c.sort_of.result (λ found. found.is_open ≡ is_open inner term) (Stands c.args.self.now inner new term)
     (λ found. IsReady (table_in c.args.self.now d) → Denotes (table_in c.args.self.now new)
@@ -44,10 +44,10 @@ returns-clause-node c =
 pub returns-clause-named : goal.returns-clause-named
 returns-clause-named c =
     on_answered c.sort_of.result
-    (Stands c.args.self.now c.bind.new.self c.sort_of.new.draft (sexp_of c.args.term.now))
+    (Stands c.args.self.now c.bind.new.self c.sort_of.new.draft (sexp_of c.args.term))
     (KeepsNamed c.args.self.now c.args.draft.now c.sort_of.new.draft)
     (λ found. whole_named c.args.self.now c.args.draft.now c.bind.new.self c.sort_of.new.draft
-    (sexp_of c.args.term.now) found c.bind.ensures.labels c.bind.ensures.nodes) c.sort_of.ensures.node
+    (sexp_of c.args.term) found c.bind.ensures.labels c.bind.ensures.nodes) c.sort_of.ensures.node
 
 pub returns-clause-longer : goal.returns-clause-longer
 returns-clause-longer c =

@@ -2,7 +2,7 @@ use Rattle.std.proofs.Common.{List, [], ◌++◌, ◌≡◌, length, map, take, 
 use Rattle.std.proofs.Math.Seq.{take-append_seam}
 use Rattle.smt_nodes.specs.Node.{Row}
 use Rattle.smt_nodes.specs.Nodes.{rows_of}
-use Rattle.smt_trees.specs.Tree.{sexp_of}
+use Rattle.smt_trees.specs.View.{sexp_of}
 use Rattle.smt_forms.specs.Labels.{labels_in}
 use Rattle.smt_terms.specs.Checking.{sort_in}
 use Rattle.smt_terms.specs.Denotes.{Denotes}
@@ -71,7 +71,7 @@ pub returns-in-Ok-clause-answer : goal.returns-in-Ok-clause-answer
 returns-in-Ok-clause-answer c = λ s stands.
     let old = c.args.self.now in
     let new = record old { transient = c.replace.result } in
-    let t = sexp_of c.args.term.now in
+    let t = sexp_of c.args.term in
     let draft = c.new-draft.result in
     let last = c.check_over-result.new.draft in
     let e = c.in-Ok.ensures in
@@ -79,8 +79,8 @@ returns-in-Ok-clause-answer c = λ s stands.
     let none : draft.labels.given.items ≡ [] =
     ap (λ (ls : Labels). ls.given.items) labels ∙ c.refused-labels.ensures.given in
     let sort = ap (λ (ls : Labels). sort_in (names_for old (labels_view ls)) [] t) (sym labels) ∙ e.sort in
-    let given : map (λ l. (l.name.items, sexp_of l.body.now)) last.labels.given.items ≡ labels_in t =
-    e.labels.given ∙ ap (λ ls. map (λ l. (l.name.items, sexp_of l.body.now)) ls ++ labels_in t) none in
+    let given : map (λ l. (l.name.items, sexp_of l.body)) last.labels.given.items ≡ labels_in t =
+    e.labels.given ∙ ap (λ ls. map (λ l. (l.name.items, sexp_of l.body)) ls ++ labels_in t) none in
     let no_more = none_given old (labels_view c.refused-labels.result) [] t c.in-Ok.checked.sort last.labels.given.items
     c.refused-labels.ensures.view sort given in
     let moved = c.new-draft.ensures.nodes ∙ c.replace-nodes.ensures.value in

@@ -1,6 +1,6 @@
 use Rattle.std.proofs.Common.{rules, map, ap, subst, sym, ◌∙◌}
 use Rattle.std.proofs.lemmas.Result.{IfErr-weaker, on_err_weaker, on_ok_weaker}
-use Rattle.smt_trees.specs.Tree.{sexp_of}
+use Rattle.smt_trees.specs.View.{sexp_of}
 use Rattle.smt_terms.specs.Definitions.{defined_in, definition_in}
 use Rattle.smt_forms.specs.ParamView.{param_view}
 use Rattle.smt_forms.specs.ScopeView.{scope_view}
@@ -17,8 +17,8 @@ add_definition-requires c = not_taken _ _ (sym c.if-is_taken.ensures)
 pub returns-clause-defined : goal.returns-clause-defined
 returns-clause-defined c =
     let params = map param_view c.args.params.now in
-    let tree = sexp_of c.args.sort.now in
-    let body = sexp_of c.args.body.now in
+    let tree = sexp_of c.args.sort in
+    let body = sexp_of c.args.body in
     let rs = scope_view c.as_slice.result.now in
     on_ok_weaker c.add_definition.result
     (λ added s stands.
@@ -35,8 +35,8 @@ returns-clause-defined c =
 pub returns-clause-refused : goal.returns-clause-refused
 returns-clause-refused c =
     let params = map param_view c.args.params.now in
-    let tree = sexp_of c.args.sort.now in
-    let body = sexp_of c.args.body.now in
+    let tree = sexp_of c.args.sort in
+    let body = sexp_of c.args.body in
     let rs = scope_view c.as_slice.result.now in
     IfErr-weaker c.add_definition.result _ _
     (λ fault refused s stands.

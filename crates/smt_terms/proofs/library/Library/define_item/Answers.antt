@@ -1,7 +1,7 @@
 use Rattle.std.proofs.Common.{List, None, Some, Ok, ap, sym, ◌∙◌, subst}
 use Rattle.std.proofs.lemmas.List.{append-nil}
 use Rattle.std.proofs.lemmas.Result.{IfErr-weaker, on_ok_weaker}
-use Rattle.smt_trees.specs.Tree.{sexp_of}
+use Rattle.smt_trees.specs.View.{sexp_of}
 use Rattle.smt_theory.specs.Words.{result_and_then}
 use Rattle.smt_forms.specs.ItemView.{item_view}
 use Rattle.smt_terms.specs.Items.{form_in, item_in, repeated_in}
@@ -13,7 +13,7 @@ use Rattle.smt_terms.proofs.library.Library.define_item.Goals as goal
 
 pub returns-then-sets_aside-clause-defined : goal.returns-then-sets_aside-clause-defined
 returns-then-sets_aside-clause-defined c =
-    let tree = sexp_of c.args.item.now in
+    let tree = sexp_of c.args.item in
     let form = item_view c.in_ok-form.form in
     on_ok_weaker c.check_repeated.result
     (λ repeated s m stands items. (
@@ -27,7 +27,7 @@ returns-then-sets_aside-clause-defined c =
 
 pub returns-then-sets_aside-clause-refused : goal.returns-then-sets_aside-clause-refused
 returns-then-sets_aside-clause-refused c =
-    let tree = sexp_of c.args.item.now in
+    let tree = sexp_of c.args.item in
     let form = item_view c.in_ok-form.form in
     IfErr-weaker c.check_repeated.result _ _
     (λ fault refused s m stands items.
@@ -38,7 +38,7 @@ returns-then-sets_aside-clause-refused c =
 
 pub returns-else-sets_aside-clause-defined : goal.returns-else-sets_aside-clause-defined
 returns-else-sets_aside-clause-defined c =
-    let tree = sexp_of c.args.item.now in
+    let tree = sexp_of c.args.item in
     let form = item_view c.in_ok-form.form in
     on_ok_weaker c.add_item.result
     (λ defined s m stands items.
@@ -53,7 +53,7 @@ returns-else-sets_aside-clause-defined c =
 
 pub returns-else-sets_aside-clause-refused : goal.returns-else-sets_aside-clause-refused
 returns-else-sets_aside-clause-refused c =
-    let tree = sexp_of c.args.item.now in
+    let tree = sexp_of c.args.item in
     let form = item_view c.in_ok-form.form in
     IfErr-weaker c.add_item.result _ _
     (λ fault refused s m stands items.

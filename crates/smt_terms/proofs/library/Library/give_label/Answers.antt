@@ -1,5 +1,5 @@
 use Rattle.std.proofs.Common.{rules, [], ◌∷◌}
-use Rattle.smt_trees.specs.Tree.{sexp_of}
+use Rattle.smt_trees.specs.View.{sexp_of}
 use Rattle.smt_terms.specs.Internal.LibraryView.{names_of_library}
 use Rattle.smt_terms.proofs.LabelLemmas.{AreGiven-push}
 use Rattle.smt_terms.proofs.LabelNodeLemmas.{named_pushed}
@@ -9,7 +9,7 @@ pub returns-clause-labels : goal.returns-clause-labels
 returns-clause-labels c =
     let p = c.in_ok-push.ensures.pushed in
     AreGiven-push (names_of_library c.args.self.now) c.args.labels.now c.push.new.self c.args.name.now
-    c.args.checked.now.sort (sexp_of c.args.term.now) p.0 c.push.ensures.refuses p.1 p.2 p.3 p.4
+    c.args.checked.now.sort (sexp_of c.args.term) p.0 c.push.ensures.refuses p.1 p.2 p.3 p.4
     (c.requires (search rules))
 
 pub returns-clause-longer : goal.returns-clause-longer
@@ -19,4 +19,4 @@ returns-clause-longer c =
 pub returns-clause-named : goal.returns-clause-named
 returns-clause-named c =
     let p = c.in_ok-push.ensures.pushed in
-    named_pushed c.args.labels.now c.push.new.self p.0 c.args.checked.now.node (sexp_of c.args.term.now) p.1 p.5 p.4
+    named_pushed c.args.labels.now c.push.new.self p.0 c.args.checked.now.node (sexp_of c.args.term) p.1 p.5 p.4

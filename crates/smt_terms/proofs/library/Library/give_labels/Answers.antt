@@ -1,7 +1,7 @@
 use Rattle.std.proofs.Common.{ap, ◌∙◌}
 use Rattle.std.proofs.lemmas.List.{map-append}
 use Rattle.std.proofs.lemmas.Result.{err_from_is_err_and}
-use Rattle.smt_trees.specs.Tree.{sexp_of, sexps_of}
+use Rattle.smt_trees.specs.View.{sexp_of, sexps_of}
 use Rattle.smt_forms.specs.Labels.{label_of_tree}
 use Rattle.smt_terms.specs.Internal.LabelsView.{labels_view}
 use Rattle.smt_terms.specs.Internal.LibraryView.{names_for, names_of_library}
@@ -19,36 +19,36 @@ returns-in_err-give_label_at-clause-fault c =
     λ scope used. rw (p.1, p.2)
     (carried_fault _ _ _ (c.loop-tree.invariant.fault scope used)
     (faults-fault (names_for c.args.self.now (labels_view c.loop-tree.labels)) scope
-    (sexp_of c.args.term.now) (labels_among (sexps_of c.loop-tree.left.now))
-    (label_of_tree (sexp_of c.in-Some.tree.now) (sexps_of c.in-Some.rest.now))
-    (labels_among (sexps_of c.in-Some.rest.now)) _
-    (ap labels_among c.in-Some.ensures ∙ labels_among-first (sexp_of c.in-Some.tree.now)
-    (sexps_of c.in-Some.rest.now)) (c.in_err-give_label_at.ensures.fault scope used)))
+    (sexp_of c.args.term) (labels_among (sexps_of c.loop-tree.left))
+    (label_of_tree (sexp_of c.in-Some.tree) (sexps_of c.in-Some.rest))
+    (labels_among (sexps_of c.in-Some.rest)) _
+    (ap labels_among c.in-Some.ensures ∙ labels_among-first (sexp_of c.in-Some.tree)
+    (sexps_of c.in-Some.rest)) (c.in_err-give_label_at.ensures.fault scope used)))
 
 pub loop-tree-preserved : goal.loop-tree-preserved
 loop-tree-preserved c =
     let names = names_of_library c.args.self.now in
-    let term = sexp_of c.args.term.now in
-    let xs = label_of_tree (sexp_of c.in-Some.tree.now) (sexps_of c.in-Some.rest.now) in
-    let ys = labels_among (sexps_of c.in-Some.rest.now) in
+    let term = sexp_of c.args.term in
+    let xs = label_of_tree (sexp_of c.in-Some.tree) (sexps_of c.in-Some.rest) in
+    let ys = labels_among (sexps_of c.in-Some.rest) in
     let split =
-    ap labels_among c.in-Some.ensures ∙ labels_among-first (sexp_of c.in-Some.tree.now)
-    (sexps_of c.in-Some.rest.now) in
+    ap labels_among c.in-Some.ensures ∙ labels_among-first (sexp_of c.in-Some.tree)
+    (sexps_of c.in-Some.rest) in
     record {
       fault = λ scope used. c.loop-tree.invariant.fault scope used
           ∙ faults-next (names_for c.args.self.now (labels_view c.loop-tree.labels))
           (names_for c.args.self.now (labels_view c.give_label_at.new.labels))
-          scope term (labels_among (sexps_of c.loop-tree.left.now)) xs ys
+          scope term (labels_among (sexps_of c.loop-tree.left)) xs ys
           (names_behind c.args.self.now names c.loop-tree.labels c.give_label_at.new.labels
           (with_term term xs) c.in_ok-give_label_at.ensures.labels) split
           (c.in_ok-give_label_at.ensures.fault scope used);
       given = AreGivenOf-next names c.args.labels.now c.loop-tree.labels c.give_label_at.new.labels
-          (with_term term (labels_among (sexps_of c.args.attributes.now)))
-          (with_term term (labels_among (sexps_of c.loop-tree.left.now)))
+          (with_term term (labels_among (sexps_of c.args.attributes)))
+          (with_term term (labels_among (sexps_of c.loop-tree.left)))
           (with_term term xs) (with_term term ys) c.loop-tree.invariant.given
           (ap (with_term term) split ∙ map-append _ xs ys) c.in_ok-give_label_at.ensures.labels;
       nodes = nodes_next c.args.checked.now.node _ (nodes_given c.loop-tree.labels)
-          (nodes_given c.give_label_at.new.labels) (labels_among (sexps_of c.loop-tree.left.now)) xs ys
+          (nodes_given c.give_label_at.new.labels) (labels_among (sexps_of c.loop-tree.left)) xs ys
           c.loop-tree.invariant.nodes split c.in_ok-give_label_at.ensures.nodes;
       longer = (
         _,

@@ -1,6 +1,6 @@
 use Rattle.std.proofs.Common.{◌≡◌}
 use Rattle.smt_trees.specs.Sexp.{weight_all}
-use Rattle.smt_trees.specs.Tree.{sexps_of}
+use Rattle.smt_trees.specs.View.{sexps_of}
 use Rattle.smt_forms.specs.Labels.{labels_among}
 use Rattle.smt_terms.specs.Internal.Calls.{has_labels}
 use Rattle.smt_terms.proofs.library.binders.has_label.Given as goal

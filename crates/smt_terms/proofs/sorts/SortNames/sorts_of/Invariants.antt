@@ -1,6 +1,6 @@
 use Rattle.std.proofs.Common.{◌≡◌}
 use Rattle.smt_trees.specs.Sexp.{weight_all}
-use Rattle.smt_trees.specs.Tree.{sexps_of}
+use Rattle.smt_trees.specs.View.{sexps_of}
 use Rattle.smt_terms.specs.Internal.LibraryView.{sort_names}
 use Rattle.smt_terms.specs.SortTrees.{sorts_named}
 use Rattle.smt_terms.proofs.SortLemmas.{named_behind}
