@@ -9,7 +9,7 @@ use crate::trees::{split_profile, tree_of};
 use anyhow::{Result, bail};
 use row_texts::{Field, is_on, want_key};
 use smt_script::{Assertion, Command, CommandFault, Stack, Start, read_command};
-use smt_trees::view::{Tree, view_of};
+use smt_trees::Tree;
 use std::alloc::Global;
 use std::io;
 use std::io::Write;
@@ -55,7 +55,7 @@ fn print_command<W: Write>(
 {
     want_key(field, "command")?;
     let tree = tree_of(alloc, field)?;
-    let outcome = take(stack, number, view_of(&tree));
+    let outcome = take(stack, number, tree.view());
     print_outcome(out, number, field, outcome)?;
     Ok(())
 }

@@ -7,7 +7,6 @@ use crate::trees::{assert, declare, define, print_answer, tree_of};
 use anyhow::{Result, bail};
 use row_texts::{Field, refuse};
 use smt_terms::Library;
-use smt_trees::view::view_of;
 use std::alloc::Global;
 use std::io;
 use std::io::Write;
@@ -105,7 +104,7 @@ fn define_item<W: Write>(
 {
     let item = tree_of(alloc, field)?;
     let before = model.definitions().len();
-    let answer = model.define_item(script, view_of(&item));
+    let answer = model.define_item(script, item.view());
     let done = if model.definitions().len() == before {
         "set aside"
     } else {

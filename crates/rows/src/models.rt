@@ -5,13 +5,13 @@ ghost use Rattle.smt_eval.specs.Interpretation.{Fits};
 ghost use Rattle.smt_terms.specs.Library.{HasTheoriesOf, StandsFor};
 ghost use Rattle.smt_terms.specs.Signature.{Signature};
 
-use crate::trees::{assert, declare, define, parts_of, trees_of};
+use crate::trees::{assert, declare, define, parts_of, tree_of};
 use anyhow::{Result, bail};
 use row_texts::{Field, refuse};
 use smt_eval::{Interpretation, ModelFault, ModelFlaw};
 use smt_faults::TermFault;
 use smt_terms::Library;
-use smt_trees::view::Trees;
+use smt_trees::Trees;
 use std::alloc::Global;
 use std::io;
 use std::io::Write;
@@ -60,8 +60,8 @@ pub(crate) fn print_model<W: Write>(
     requires { (s : Signature) × StandsFor declared.now s }
     ensures { IfOk result (λ found. MatchOption found (Unit {0}) (λ model. Fits model declared.now)) }
 {
-    let trees = trees_of(alloc, field)?;
-    let parts = parts_of(field, Trees::of(trees.as_slice()))?;
+    let tree = tree_of(alloc, field)?;
+    let parts = parts_of(field, &tree)?;
     let read = Interpretation::read(declared, parts);
     print_read(out, declared, field, parts, &read)?;
     Ok(read.ok())

@@ -6,7 +6,7 @@ use crate::trees::{assert, declare, define, flaw_of, tree_of};
 use anyhow::{Result, bail};
 use row_texts::{Field, refuse};
 use smt_terms::Library;
-use smt_trees::view::{Tree, view_of};
+use smt_trees::Tree;
 use std::alloc::Global;
 use std::io::Write;
 
@@ -48,7 +48,7 @@ fn print_term<W: Write>(
     field: &Field,
 ) -> Result<()> {
     let term = tree_of(alloc, field)?;
-    write_checked(out, library, field, view_of(&term))
+    write_checked(out, library, field, term.view())
 }
 
 fn write_checked<W: Write>(

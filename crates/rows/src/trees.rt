@@ -11,12 +11,38 @@ use smt_forms::{are_named, params_of};
 use smt_terms::Library;
 use smt_text::read_trees;
 use smt_theory::{Profile, Theories, all_theories, theories_of};
-use smt_trees::view::{Tree, Trees, view_of};
-use std::alloc::Global;
+use smt_trees::{OwnedTree, Tape, Tree, Trees};
+use std::alloc::{AllocError, Global};
 use std::io::Write;
 
+/// The trees in a field, as the parts of a list.
+pub(crate) fn list_of(alloc: Global, field: &Field) -> Result<OwnedTree> {
+    let Ok(list) = listed(alloc, trees_of(alloc, field)?.as_slice()) else {
+        bail!("out of memory");
+    };
+    Ok(list)
+}
+
+/// Copies of trees, as the parts of a list.
+pub(crate) fn listed(alloc: Global, trees: &[OwnedTree]) -> Result<OwnedTree, AllocError> {
+    let mut list = Tape::new(alloc);
+    list.begin_list()?;
+    for tree in trees {
+        list.add_tree(tree.view())?;
+    }
+    list.take(alloc)
+}
+
+/// The parts of a list; none where a tree is no list.
+pub(crate) fn parts(tree: &OwnedTree) -> Trees<'_> {
+    match tree.view() {
+        Tree::List(parts) => parts,
+        _ => Trees::empty(),
+    }
+}
+
 /// The trees in a field.
-pub(crate) fn trees_of(alloc: Global, field: &Field) -> Result<smt_trees::Trees> {
+pub(crate) fn trees_of(alloc: Global, field: &Field) -> Result<Vec<OwnedTree>> {
     let bytes = field.bytes(alloc)?;
     match read_trees(alloc, bytes.as_slice()) {
         Ok(trees) => Ok(trees),
@@ -26,17 +52,17 @@ pub(crate) fn trees_of(alloc: Global, field: &Field) -> Result<smt_trees::Trees>
 }
 
 /// The one tree in a field; any other number of trees is an error.
-pub(crate) fn tree_of(alloc: Global, field: &Field) -> Result<smt_trees::Tree> {
+pub(crate) fn tree_of(alloc: Global, field: &Field) -> Result<OwnedTree> {
     match trees_of(alloc, field)?.as_slice() {
         [tree] => Ok(tree.copy(alloc)?),
         _ => bail!("line {}: this is not one S-expression", field.line),
     }
 }
 
-/// The parts of the list that the trees in a field are; any other trees are an error.
-pub(crate) fn parts_of<'a>(field: &Field, trees: Trees<'a>) -> Result<Trees<'a>> {
-    match trees.split_first() {
-        Some((Tree::List(parts), rest)) if rest.split_first().is_none() => Ok(parts),
+/// The parts of the list that a tree in a field is; any other tree is an error.
+pub(crate) fn parts_of<'a>(field: &Field, tree: &'a OwnedTree) -> Result<Trees<'a>> {
+    match tree.view() {
+        Tree::List(parts) => Ok(parts),
         _ => bail!("line {}: this is no list", field.line),
     }
 }
@@ -85,8 +111,8 @@ pub(crate) fn declare<W: Write>(
 ) -> Result<()>
     ensures { (s : Signature) → StandsFor library.old s → (later : Signature) × StandsFor library.new later }
 {
-    let trees = trees_of(alloc, field)?;
-    let Some((name, params, sort)) = declaration(Trees::of(trees.as_slice())) else {
+    let list = list_of(alloc, field)?;
+    let Some((name, params, sort)) = declaration(parts(&list)) else {
         bail!(
             "line {}: a declaration is a symbol, sorts in a list and a sort",
             field.line
@@ -105,7 +131,7 @@ fn declaration(trees: Trees<'_>) -> Option<(&[u8], Trees<'_>, Tree<'_>)> {
         return None;
     };
     let Some((second, rest)) = rest.split_first() else {
-        return Some((name, Trees::of(&[]), first));
+        return Some((name, Trees::empty(), first));
     };
     match first {
         Tree::List(params) if rest.split_first().is_none() => Some((name, params, second)),
@@ -123,8 +149,8 @@ pub(crate) fn define<W: Write>(
 ) -> Result<()>
     ensures { (s : Signature) → StandsFor library.old s → (later : Signature) × StandsFor library.new later }
 {
-    let trees = trees_of(alloc, field)?;
-    let Some((name, params, sort, body)) = definition(Trees::of(trees.as_slice())) else {
+    let list = list_of(alloc, field)?;
+    let Some((name, params, sort, body)) = definition(parts(&list)) else {
         bail!(
             "line {}: a definition is a symbol, parameters in a list, a sort and a body",
             field.line
@@ -170,7 +196,7 @@ pub(crate) fn assert<W: Write>(
     ensures { (s : Signature) → StandsFor library.old s → (later : Signature) × StandsFor library.new later }
 {
     let term = tree_of(alloc, field)?;
-    print_answer(out, field, "asserted", library.assert(view_of(&term)).err())
+    print_answer(out, field, "asserted", library.assert(term.view()).err())
 }
 
 /// Prints the flaw of what a field holds; without a fault, what was done with it.

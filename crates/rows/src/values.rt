@@ -17,7 +17,7 @@ use row_texts::{Field, want_key};
 use smt_eval::plain::{Closed, Definition};
 use smt_faults::TermFlaw;
 use smt_terms::Library;
-use smt_trees::view::{Tree, Trees, view_of};
+use smt_trees::{OwnedTree, Tree, Trees};
 use smt_values::Value;
 use std::alloc::Global;
 use std::io;
@@ -38,8 +38,8 @@ pub(crate) fn print<W: Write>(
         bail!("line {}: a row of values has a model", title.line);
     };
     want_key(first, "model")?;
-    let trees = trees_of(alloc, first)?;
-    let model = parts_of(first, Trees::of(trees.as_slice()))?;
+    let tree = tree_of(alloc, first)?;
+    let model = parts_of(first, &tree)?;
     declare_items(alloc, script, model)?;
     print_values(alloc, out, script, first, model, terms)
 }
@@ -109,7 +109,7 @@ fn print_left<W: Write>(
     ensures { (s : Signature) → StandsFor script.old s → StandsFor script.new s }
 {
     let (steps, tree) = steps_of(alloc, field)?;
-    match left_of(script, model, view_of(&tree), steps)? {
+    match left_of(script, model, tree.view(), steps)? {
         Some(left) => writeln!(out, "{} => {left} left", field.text)?,
         None => writeln!(out, "{} => too long", field.text)?,
     }
@@ -117,7 +117,7 @@ fn print_left<W: Write>(
 }
 
 // The number of steps and the term in a field.
-fn steps_of(alloc: Global, field: &Field) -> Result<(u64, smt_trees::Tree)>
+fn steps_of(alloc: Global, field: &Field) -> Result<(u64, OwnedTree)>
     ensures { IfOk result (λ found. found.0 < 2 ^ 64 - 1) }
 {
     let Some((steps, _)) = field.text.split_once(' ') else {
@@ -144,8 +144,8 @@ fn print_value<W: Write>(
     ensures { (s : Signature) → StandsFor script.old s → StandsFor script.new s }
 {
     let tree = tree_of(alloc, field)?;
-    let by_tree = known_by_tree(alloc, script, definitions, view_of(&tree))?;
-    let by_node = known_by_node(script, model, view_of(&tree))?;
+    let by_tree = known_by_tree(alloc, script, definitions, tree.view())?;
+    let by_node = known_by_node(script, model, tree.view())?;
     write_value(out, field, &by_tree, &by_node)?;
     Ok(())
 }

@@ -10,8 +10,8 @@ use Rattle.smt_text.specs.Reader.{bytes_fed}
 use Rattle.smt_text.specs.Reading.{Reads}
 use Rattle.smt_trees.specs.Sexp.{Sexp, Sexps, Nil, Cons, count}
 use Rattle.smt_faults.specs.declared.text_flaw.TextFlaw.{TextFlaw}
-use Rattle.smt_trees.specs.Tree.{sexp_of}
-use Rattle.smt_trees.specs.declared.tree.Tree.{Tree}
+use Rattle.smt_trees.specs.Owned.{sexp_of}
+use Rattle.smt_trees.specs.declared.owned.OwnedTree.{OwnedTree}
 use Rattle.smt_dialogue.proofs.AcceptedLemmas.{begins_trans, decided_first, lines_silent}
 use Rattle.smt_dialogue.proofs.PairingLemmas.{early_closed}
 use Rattle.smt_dialogue.proofs.LinesStayLemmas.{begins_so}
@@ -206,7 +206,7 @@ ends_at old new texts pairs later rest options fault begun h t = record {
 
 -- ---- where memory was refused
 
-next_pair : (start : Start) (texts : Texts) (o : Option Tree) (pairs : List Pair) (later left rest : Sexps)
+next_pair : (start : Start) (texts : Texts) (o : Option OwnedTree) (pairs : List Pair) (later left rest : Sexps)
     → IsInTurn start.profile o pairs later left → IsClosing start.profile o texts later
     → (w : Way start pairs texts.script.told later texts.script.fault texts.answers.told rest texts.answers.fault)
     → ClosesNext w.pairs w.turn

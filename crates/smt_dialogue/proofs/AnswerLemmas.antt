@@ -4,7 +4,7 @@ use Rattle.std.proofs.Common.{◌∙◌, ap, refl, subst, sym}
 use Rattle.std.specs.Cmp.Lexicographic.{same_text}
 use Rattle.std.specs.Int.{from_bool}
 use Rattle.std.specs.Str.{bytes_eq}
-use Rattle.smt_trees.specs.Sexp.{Sexp, Sexps, Atom, Reserved, Items, is_symbol}
+use Rattle.smt_trees.specs.Sexp.{Sexp, Sexps, Atom, Reserved, Items, Nil, is_symbol}
 use Rattle.smt_trees.specs.Sexp as sexp
 use Rattle.smt_dialogue.specs.Answers.{is_error, is_refusal}
 use Rattle.smt_dialogue.specs.Internal.AnswerView.{answer_of, is_sat}
@@ -80,6 +80,13 @@ unchecked_told a = ap (λ (t : Told). t.unchecked) (all_told a)
 
 pub sat_told : (a : Sexp) → is_symbol (codes "sat") a ≡ is_sat (answer_of a)
 sat_told a = ap (λ (t : Told). t.sat) (all_told a)
+
+abbrev parts_of : Sexp → Sexps
+parts_of (Items parts) = parts
+parts_of _ = Nil
+
+pub same_items : (xs ys : Sexps) → Items xs ≡ Items ys → xs ≡ ys
+same_items xs ys h = ap parts_of h
 
 -- an answer counts as one, and none as none
 pub counted : (o : Option TakenAnswer) (b : Bool) (n : ℕ) → n ≡ from_bool b → b ≡ is_some o

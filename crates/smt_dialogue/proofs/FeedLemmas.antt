@@ -7,7 +7,7 @@ use Rattle.smt_text.specs.Reader.{is_finished}
 use Rattle.smt_text.specs.Reading.{Reads}
 use Rattle.smt_text.specs.declared.reader.Reader.{Reader}
 use Rattle.smt_trees.specs.Sexp.{Sexps, Nil, append}
-use Rattle.smt_trees.specs.declared.tree.Tree.{Tree}
+use Rattle.smt_trees.specs.declared.owned.OwnedTree.{OwnedTree}
 use Rattle.smt_dialogue.proofs.SoFarLemmas.{paired_more}
 use Rattle.smt_dialogue.proofs.TreesLemmas.{append_assoc, append_nil}
 use Rattle.smt_dialogue.specs.FirstFault.{TextSoFar, is_over}
@@ -52,7 +52,7 @@ front_more f g bytes more_bytes text grown rest s same stands read h = record {
       ∙ ap (λ o. append (next_trees o) (append h.behind s.later)) (sym same);
 }
 
-in_turn_more : (profile : Profile) (o : Option Tree) (pairs : List Pair) (later left more : Sexps)
+in_turn_more : (profile : Profile) (o : Option OwnedTree) (pairs : List Pair) (later left more : Sexps)
     → IsInTurn profile o pairs later left
     → IsInTurn profile o pairs (append later more) (append left more)
 in_turn_more profile None pairs later left more h = ap (λ ts. append ts more) h
@@ -61,7 +61,7 @@ in_turn_more profile (Some c) pairs later left more h = (h.0, ap (λ ts. append 
 over_told : (text : TextSoFar) → text.told ≡ true → is_over text ≡ true
 over_told text told = ap (λ b. b || is_some text.fault) told
 
-closing_more : (profile : Profile) (o : Option Tree) (texts grown : Texts) (later : Sexps)
+closing_more : (profile : Profile) (o : Option OwnedTree) (texts grown : Texts) (later : Sexps)
     (s : IsGrown texts.script grown.script)
     → IsClosing profile o texts later → IsClosing profile o grown (append later s.later)
 closing_more profile (Some t) texts grown later s h = h

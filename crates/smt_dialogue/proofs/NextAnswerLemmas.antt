@@ -1,8 +1,8 @@
 -- What a command takes of the answers so far.
 use Rattle.std.proofs.Common.{◌≡◌, ℕ, Bool, true, false, cond, List, Option, Some, None, refl, ap, sym, ◌∙◌}
 use Rattle.smt_trees.specs.Sexp.{Sexp, Sexps, Nil, Cons}
-use Rattle.smt_trees.specs.Tree.{sexp_of}
-use Rattle.smt_trees.specs.declared.tree.Tree.{Tree}
+use Rattle.smt_trees.specs.Owned.{sexp_of}
+use Rattle.smt_trees.specs.declared.owned.OwnedTree.{OwnedTree}
 use Rattle.smt_faults.specs.declared.text_flaw.TextFlaw.{TextFlaw}
 use Rattle.smt_dialogue.specs.Answers as answers
 use Rattle.smt_dialogue.specs.Answers.{has_form, taken}
@@ -37,11 +37,11 @@ needed_no : (over : Bool) (form : AnswerForm) (a : Sexp) → has_form form a ≡
     → answers.Unexpected ≡ taken over (Needed form) (Some a)
 needed_no over form a h = sym (ap (λ b. cond b (answers.Takes (Some a)) answers.Unexpected) h)
 
-some_same : {a b : Tree} → ◌≡◌ {A = Option Tree} (Some a) (Some b) → a ≡ b
+some_same : {a b : OwnedTree} → ◌≡◌ {A = Option OwnedTree} (Some a) (Some b) → a ≡ b
 some_same h = cc
 
 -- the answer that stood ready is the first of those that are left
-first_is : (next : Option Tree) (tree other : Tree) (rest later : Sexps) → next ≡ Some other → next ≡ Some tree
+first_is : (next : Option OwnedTree) (tree other : OwnedTree) (rest later : Sexps) → next ≡ Some other → next ≡ Some tree
     → rest ≡ Cons (sexp_of other) later → rest ≡ Cons (sexp_of tree) later
 first_is next tree other rest later is same h =
     h ∙ ap (λ t. Cons (sexp_of t) later) (some_same (sym is ∙ same))
@@ -52,7 +52,7 @@ pub nothing_taken : (text : TextSoFar) (rest : Sexps) (bytes : List ℕ) (front 
     → HasQueue front bytes text rest → IsTaken (found.Takes None) Nothing text rest bytes front
 nothing_taken text rest bytes front h = record { left = rest; front_is = h; taken_so = refl; left_is = refl }
 
-pub optional_ready : (form : AnswerForm) (o : Option TakenAnswer) (next : Option Tree) (text : TextSoFar) (rest : Sexps)
+pub optional_ready : (form : AnswerForm) (o : Option TakenAnswer) (next : Option OwnedTree) (text : TextSoFar) (rest : Sexps)
     (bytes : List ℕ) (front : TreeQueue) → IsAhead comes.Tree next text rest → IsFound form o next text rest bytes front
     → IsTaken (found.Takes o) (Optional form) text rest bytes front
 optional_ready form (Some answer) next text rest bytes front ahead h =
@@ -72,7 +72,7 @@ optional_ready form None next text rest bytes front ahead h = record {
   left_is = refl;
 }
 
-pub needed_taken : (form : AnswerForm) (answer : TakenAnswer) (next : Option Tree) (text : TextSoFar) (rest : Sexps)
+pub needed_taken : (form : AnswerForm) (answer : TakenAnswer) (next : Option OwnedTree) (text : TextSoFar) (rest : Sexps)
     (bytes : List ℕ) (front : TreeQueue) → IsAhead comes.Tree next text rest
     → IsFound form (Some answer) next text rest bytes front
     → IsTaken (found.Takes (Some answer)) (Needed form) text rest bytes front
@@ -86,7 +86,7 @@ needed_taken form answer next text rest bytes front ahead h =
       left_is = first;
     }
 
-pub needed_unfit : (form : AnswerForm) (next : Option Tree) (text : TextSoFar) (rest : Sexps)
+pub needed_unfit : (form : AnswerForm) (next : Option OwnedTree) (text : TextSoFar) (rest : Sexps)
     (bytes : List ℕ) (front : TreeQueue) → IsAhead comes.Tree next text rest
     → IsFound form None next text rest bytes front
     → IsTaken found.Unexpected (Needed form) text rest bytes front
@@ -105,7 +105,7 @@ at_none : (need : Need) (text : TextSoFar) (rest : Sexps) (over : Bool) (k : ans
 at_none need text rest over k none is h =
     h ∙ ap (λ b. taken b need None) (sym is) ∙ ap (λ r. taken (is_over text) need (next_of r)) (sym none)
 
-pub optional_waits : (form : AnswerForm) (next : Option Tree) (text : TextSoFar) (rest : Sexps) (bytes : List ℕ)
+pub optional_waits : (form : AnswerForm) (next : Option OwnedTree) (text : TextSoFar) (rest : Sexps) (bytes : List ℕ)
     (front : TreeQueue) → IsAhead comes.Wait next text rest → HasQueue front bytes text rest
     → IsTaken found.Waits (Optional form) text rest bytes front
 optional_waits form next text rest bytes front ahead h = record {
@@ -115,7 +115,7 @@ optional_waits form next text rest bytes front ahead h = record {
   left_is = refl;
 }
 
-pub needed_waits : (form : AnswerForm) (next : Option Tree) (text : TextSoFar) (rest : Sexps) (bytes : List ℕ)
+pub needed_waits : (form : AnswerForm) (next : Option OwnedTree) (text : TextSoFar) (rest : Sexps) (bytes : List ℕ)
     (front : TreeQueue) → IsAhead comes.Wait next text rest → HasQueue front bytes text rest
     → IsTaken found.Waits (Needed form) text rest bytes front
 needed_waits form next text rest bytes front ahead h = record {
@@ -125,7 +125,7 @@ needed_waits form next text rest bytes front ahead h = record {
   left_is = refl;
 }
 
-pub optional_ended : (form : AnswerForm) (fault : Option TextFlaw) (next : Option Tree) (text : TextSoFar)
+pub optional_ended : (form : AnswerForm) (fault : Option TextFlaw) (next : Option OwnedTree) (text : TextSoFar)
     (rest : Sexps) (bytes : List ℕ) (front : TreeQueue) → IsAhead (comes.End fault) next text rest
     → HasQueue front bytes text rest → IsTaken (found.Takes None) (Optional form) text rest bytes front
 optional_ended form fault next text rest bytes front ahead h = record {
@@ -135,7 +135,7 @@ optional_ended form fault next text rest bytes front ahead h = record {
   left_is = refl;
 }
 
-pub needed_missing : (form : AnswerForm) (fault : Option TextFlaw) (next : Option Tree) (text : TextSoFar)
+pub needed_missing : (form : AnswerForm) (fault : Option TextFlaw) (next : Option OwnedTree) (text : TextSoFar)
     (rest : Sexps) (bytes : List ℕ) (front : TreeQueue) → IsAhead (comes.End fault) next text rest
     → HasQueue front bytes text rest → IsTaken (found.Missing fault) (Needed form) text rest bytes front
 needed_missing form fault next text rest bytes front ahead h = record {

@@ -3,8 +3,8 @@ use Rattle.std.proofs.Common.{◌≡◌, ℕ, ◌+◌, Bool, true, false, cond, 
 use Rattle.std.proofs.Common.{Some, None, is_some, Result, Ok, Err, MatchResult, refl, ap, sym, ◌∙◌, subst}
 use Rattle.smt_script.specs.StackView.{profile_of, start_of}
 use Rattle.smt_trees.specs.Sexp.{Sexp, Sexps, Nil, Cons, append}
-use Rattle.smt_trees.specs.Tree.{sexp_of}
-use Rattle.smt_trees.specs.declared.tree.Tree.{Tree}
+use Rattle.smt_trees.specs.Owned.{sexp_of}
+use Rattle.smt_trees.specs.declared.owned.OwnedTree.{OwnedTree}
 use Rattle.smt_faults.specs.declared.text_flaw.TextFlaw.{TextFlaw}
 use Rattle.smt_faults.specs.declared.command_flaw.CommandFlaw.{CommandFlaw}
 use Rattle.smt_faults.specs.declared.command_flaw.CommandFlaw.TheVariants.{AfterExit}
@@ -112,7 +112,7 @@ rest_here : (x : Pairing) (texts : Texts) (pairs : List Pair) (later rest : Sexp
     → turn_of x texts pairs later rest ≡ turn_of_rest pairs texts.answers.told texts.answers.fault rest
 rest_here x texts pairs later rest none fault told = turn_here x texts pairs later rest true None none told fault
 
-pub answers_extra : (x : Pairing) (texts : Texts) (pairs : List Pair) (later rest : Sexps) (next : Option Tree)
+pub answers_extra : (x : Pairing) (texts : Texts) (pairs : List Pair) (later rest : Sexps) (next : Option OwnedTree)
     (n : ℕ) → later ≡ Nil → texts.script.fault ≡ None → texts.script.told ≡ true
     → IsAhead comes.Tree next texts.answers rest → n ≡ answers_taken pairs
     → turn_of x texts pairs later rest ≡ Ends (Some (lines.ExtraAnswer (n + 1)))
@@ -130,7 +130,7 @@ end_here x texts pairs later rest at' o none fault told empty is same =
     ∙ ap (turn_of_rest pairs texts.answers.told texts.answers.fault) empty
     ∙ ap (λ b. turn_of_end b texts.answers.fault) is ∙ ap (turn_of_end at') same
 
-pub answers_wait : (x : Pairing) (texts : Texts) (pairs : List Pair) (later rest : Sexps) (next : Option Tree)
+pub answers_wait : (x : Pairing) (texts : Texts) (pairs : List Pair) (later rest : Sexps) (next : Option OwnedTree)
     → later ≡ Nil → texts.script.fault ≡ None → texts.script.told ≡ true
     → IsAhead comes.Wait next texts.answers rest → turn_of x texts pairs later rest ≡ Waits true
 answers_wait x texts pairs later rest next none fault told ahead =
@@ -138,7 +138,7 @@ answers_wait x texts pairs later rest next none fault told ahead =
     (told_open texts.answers.told texts.answers.fault ahead.1)
     (fault_open texts.answers.told texts.answers.fault ahead.1)
 
-pub answers_fault : (x : Pairing) (texts : Texts) (pairs : List Pair) (later rest : Sexps) (next : Option Tree)
+pub answers_fault : (x : Pairing) (texts : Texts) (pairs : List Pair) (later rest : Sexps) (next : Option OwnedTree)
     (f : TextFlaw) (line : Line) → later ≡ Nil → texts.script.fault ≡ None → texts.script.told ≡ true
     → IsAhead (comes.End (Some f)) next texts.answers rest → line ≡ lines.TextFault Answers f
     → turn_of x texts pairs later rest ≡ Ends (Some line)
@@ -146,7 +146,7 @@ answers_fault x texts pairs later rest next f line none fault told ahead is =
     end_here x texts pairs later rest texts.answers.told (Some f) none fault told ahead.0 refl ahead.1
     ∙ ap (λ (l : Line). Ends (Some l)) (sym is)
 
-pub answers_end : (x : Pairing) (texts : Texts) (pairs : List Pair) (later rest : Sexps) (next : Option Tree)
+pub answers_end : (x : Pairing) (texts : Texts) (pairs : List Pair) (later rest : Sexps) (next : Option OwnedTree)
     → later ≡ Nil → texts.script.fault ≡ None → texts.script.told ≡ true
     → IsAhead (comes.End None) next texts.answers rest → turn_of x texts pairs later rest ≡ Ends None
 answers_end x texts pairs later rest next none fault told ahead =
@@ -156,7 +156,7 @@ answers_end x texts pairs later rest next none fault told ahead =
 -- ---- the next command
 
 -- the command that was read is in turn
-pub command_read : (old new : Pairing) (texts : Texts) (pairs : List Pair) (later rest : Sexps) (t : Tree)
+pub command_read : (old new : Pairing) (texts : Texts) (pairs : List Pair) (later rest : Sexps) (t : OwnedTree)
     (c : commands.Command) → old.command ≡ None → new.command ≡ Some t → new.dialogue ≡ old.dialogue
     → new.answers ≡ old.answers → old.script.next ≡ Some t
     → ((bytes : List ℕ) (text : TextSoFar) (left : Sexps)
@@ -233,7 +233,7 @@ same_command : (r : Result commands.Command CommandFlaw) (c d : commands.Command
 same_command r c d h k = cc
 
 pub taken_up : (turn : Turn) (old new : Pairing) (texts : Texts) (pairs : List Pair) (later rest : Sexps)
-    (t : Tree) (c : commands.Command) → old.command ≡ Some t
+    (t : OwnedTree) (c : commands.Command) → old.command ≡ Some t
     → command_of (profile_of old.dialogue.stack) (sexp_of t) ≡ Ok c → new.script ≡ old.script
     → options_of new.dialogue ≡ options_of old.dialogue
     → (turn ≡ turns.GoesOn → new.command ≡ None) → ((closed : Bool) → turn ≡ turns.Waits closed → new.command ≡ Some t)
@@ -336,11 +336,11 @@ pub next_there : (o : Option Turn) (old new : Pairing) (texts : Texts) (pairs : 
 next_there o old new texts pairs later rest none next h =
     subst (λ (t : Option Turn). IsNext t old new texts pairs later rest) none (next texts pairs later rest h)
 
-pub is_ready : (next : Option Tree) (texts : TextSoFar) (rest : Sexps) → IsAhead comes.Tree next texts rest
+pub is_ready : (next : Option OwnedTree) (texts : TextSoFar) (rest : Sexps) → IsAhead comes.Tree next texts rest
     → is_some next ≡ true
 is_ready next texts rest h = ap is_some h.2
 
-pub no_command : (o : Option Tree) → false ≡ is_some o → o ≡ None
+pub no_command : (o : Option OwnedTree) → false ≡ is_some o → o ≡ None
 no_command None h = refl
 no_command (Some c) h = absurd (cc)
 
@@ -382,7 +382,7 @@ taken_waits_so profile pairs c af answering.Missing closed h = absurd (cc)
 taken_waits_so profile pairs c af answering.Unexpected closed h = absurd (cc)
 
 -- where windows were ended early, the dialogue waits with every window closed
-early_by : (x : Pairing) (texts : Texts) (pairs : List Pair) (later rest left : Sexps) (o : Option Tree)
+early_by : (x : Pairing) (texts : Texts) (pairs : List Pair) (later rest left : Sexps) (o : Option OwnedTree)
     (closed : Bool) → IsInTurn (profile_of x.dialogue.stack) o pairs later left
     → IsClosing (profile_of x.dialogue.stack) o texts later
     → turn_of x texts pairs later rest ≡ Waits closed → closed ≡ true
@@ -424,7 +424,7 @@ begun x texts none stands script answers = record {
 
 -- ---- lines that are handed out
 
-closing_kept : (profile : Profile) (o : Option Tree) (texts : Texts) (ls : List Line) (later : Sexps)
+closing_kept : (profile : Profile) (o : Option OwnedTree) (texts : Texts) (ls : List Line) (later : Sexps)
     → IsClosing profile o texts later → IsClosing profile o (record texts { taken = ls }) later
 closing_kept profile None texts ls later h = h
 closing_kept profile (Some t) texts ls later h = h

@@ -1,14 +1,15 @@
 -- What is left of a text so far, whose trees are looked at and taken.
 use Rattle.std.proofs.Common.{◌≡◌, ℕ, Bool, true, false, ◌||◌, List, [], Option, Some, None, is_some, refl, ap}
 use Rattle.std.proofs.Common.{sym, ◌∙◌, subst}
+use Rattle.std.proofs.lemmas.Bool.{false≢true}
 use Rattle.std.specs.Prelude.{MatchOption}
 use Rattle.smt_text.specs.Grammar.{max_depth}
 use Rattle.smt_text.specs.Reader as readers
 use Rattle.smt_text.specs.Reader.{is_finished}
 use Rattle.smt_text.specs.Reading.{Reads}
 use Rattle.smt_trees.specs.Sexp.{Sexps, Nil, Cons, append}
-use Rattle.smt_trees.specs.Tree.{sexp_of}
-use Rattle.smt_trees.specs.declared.tree.Tree.{Tree}
+use Rattle.smt_trees.specs.Owned.{sexp_of}
+use Rattle.smt_trees.specs.declared.owned.OwnedTree.{OwnedTree}
 use Rattle.smt_faults.specs.declared.text_flaw.TextFlaw.{TextFlaw}
 use Rattle.smt_dialogue.proofs.ReportUnique.{OneReading}
 use Rattle.smt_dialogue.proofs.TreesLemmas.{append_assoc, append_nil, same_behind}
@@ -30,7 +31,7 @@ front_new f text none stands open' read = record {
 }
 
 -- the tree that stood ready was taken
-pub front_taken : (f g : TreeQueue) (t : Tree) (bytes : List ℕ) (text : TextSoFar) (later : Sexps)
+pub front_taken : (f g : TreeQueue) (t : OwnedTree) (bytes : List ℕ) (text : TextSoFar) (later : Sexps)
     → g.reader ≡ f.reader → f.next ≡ Some t → g.next ≡ None
     → HasQueue f bytes text (Cons (sexp_of t) later) → HasQueue g bytes text later
 front_taken f g t bytes text later same some none h =
@@ -66,7 +67,7 @@ read_as one f bytes text rest xs o h read =
     (subst (λ b. Reads max_depth b bytes xs o) (sym h.told) read)
 
 -- the reader has a tree
-pub looked_tree : OneReading → (f g : TreeQueue) (t : Tree) (bytes : List ℕ) (text : TextSoFar) (rest : Sexps)
+pub looked_tree : OneReading → (f g : TreeQueue) (t : OwnedTree) (bytes : List ℕ) (text : TextSoFar) (rest : Sexps)
     → f.next ≡ None → g.next ≡ Some t → is_finished g.reader ≡ is_finished f.reader
     → ((fed : List ℕ) (taken : Sexps) → readers.StandsFor f.reader fed taken
     → (later : Sexps) × (flaw : Option TextFlaw)
@@ -123,7 +124,7 @@ looked_none one f g bytes text rest o none after finished answers stands h =
 
 -- ---- the ends of a text
 
-pub none_there : (o : Option Tree) → false ≡ is_some o → o ≡ None
+pub none_there : (o : Option OwnedTree) → false ≡ is_some o → o ≡ None
 none_there None h = refl
 none_there (Some t) h = cc
 
@@ -145,10 +146,22 @@ pub reads_at : (told ended : Bool) (fed : List ℕ) (xs : Sexps) (o : Option Tex
     → (ended ≡ told) × Reads max_depth told fed xs o → Reads max_depth ended fed xs o
 reads_at told ended fed xs o h = subst (λ b. Reads max_depth b fed xs o) (sym h.0) h.1
 
-pub take_matches : (f g : TreeQueue) (o : Option Tree) → g.reader ≡ f.reader → o ≡ f.next → g.next ≡ None
+pub take_matches : (f g : TreeQueue) (o : Option OwnedTree) → g.reader ≡ f.reader → o ≡ f.next → g.next ≡ None
     → MatchOption o (f.next ≡ None) (λ tree. (f.next ≡ Some tree)
     × ((bytes : List ℕ) (text : TextSoFar) (later : Sexps)
     → HasQueue f bytes text (Cons (sexp_of tree) later) → HasQueue g bytes text later))
 take_matches f g None same is none = sym is
 take_matches f g (Some t) same is none =
     (sym is, λ bytes text later h. front_taken f g t bytes text later same (sym is) none h)
+
+-- the tree that was looked at comes next
+pub stands_ready : (f : TreeQueue) (bytes : List ℕ) (text : TextSoFar) (rest : Sexps) → true ≡ is_some f.next
+    → HasQueue f bytes text rest
+    → (tree : OwnedTree) × (later : Sexps) × (f.next ≡ Some tree) × (rest ≡ Cons (sexp_of tree) later)
+stands_ready f bytes text rest some h = by f.next refl
+  where
+    by : (o : Option OwnedTree) → f.next ≡ o
+        → (tree : OwnedTree) × (later : Sexps) × (f.next ≡ Some tree) × (rest ≡ Cons (sexp_of tree) later)
+    by None is = absurd (false≢true (sym (some ∙ ap is_some is)))
+    by (Some tree) is =
+        (tree, h.behind, is, h.begins ∙ ap (λ (o : Option OwnedTree). append (next_trees o) h.behind) is)

@@ -63,7 +63,7 @@ impl AcceptedPairs {
     }
 
     /// Accepts one more command, of this kind, with its answer, if it has one. Where the command has a flaw, the
-    /// dialogue stays as it is. The trees of an answer that is a model may be gone after the call.
+    /// dialogue stays as it is. An answer that is a model may be gone after the call.
     pub(crate) fn accept(
         &mut self,
         command: &Command<'_>,

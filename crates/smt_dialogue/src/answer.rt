@@ -2,14 +2,14 @@
 //! nothing that is in force.
 
 ghost use Rattle.std.specs.Prelude.{◌≡◌, option_map};
-ghost use Rattle.smt_trees.specs.Tree.{sexp_of};
+ghost use Rattle.smt_trees.specs.View.{sexp_of};
 ghost use Rattle.smt_dialogue.specs.Answers as answers;
 ghost use Rattle.smt_dialogue.specs.Internal.AnswerView as view;
 ghost use Rattle.smt_dialogue.specs.Internal.AnswerView.{AreKnown, tree_of};
 
 use crate::need::AnswerForm;
 use smt_report::CheckAnswer;
-use smt_trees::{Tree, split_first};
+use smt_trees::{OwnedTree, Tree};
 
 /// What an answer says (SMT-LIB 2.6, section 3.9.1).
 #[derive(Clone, Copy)]
@@ -33,7 +33,7 @@ pub enum Answer {
 #[derive(Drop)]
 pub struct TakenAnswer {
     pub says: Answer,
-    pub tree: Tree,
+    pub tree: OwnedTree,
 }
 
 impl Answer {
@@ -76,8 +76,8 @@ impl Answer {
 }
 
 /// What a tree says as an answer.
-pub(crate) fn answer_of(tree: &Tree) -> Answer
-    ensures { result ≡ view.answer_of (sexp_of tree.now) }
+pub(crate) fn answer_of(tree: Tree<'_>) -> Answer
+    ensures { result ≡ view.answer_of (sexp_of tree.entry) }
 {
     if tree.is_symbol(b"success") {
         Answer::Success
@@ -97,24 +97,24 @@ pub(crate) fn answer_of(tree: &Tree) -> Answer
 }
 
 // Whether an answer is an error: a list of the symbol `error` and a string (SMT-LIB 2.6, section 3.9.1).
-fn is_error(answer: &Tree) -> bool
-    ensures { result ≡ answers.is_error (sexp_of answer.now) }
+fn is_error(answer: Tree<'_>) -> bool
+    ensures { result ≡ answers.is_error (sexp_of answer.entry) }
 {
     let Tree::List(parts) = answer else {
         return false;
     };
-    let Some((first, rest)) = split_first(parts.as_slice()) else {
+    let Some((first, rest)) = parts.split_first() else {
         return false;
     };
-    match split_first(rest) {
-        Some((Tree::Text(_), rest)) => split_first(rest).is_none() && first.is_symbol(b"error"),
+    match rest.split_first() {
+        Some((Tree::Text(_), rest)) => rest.split_first().is_none() && first.is_symbol(b"error"),
         _ => false,
     }
 }
 
 // What a tree says as an answer, where it is neither an error nor one of the symbols in `answer_of`.
-fn other_answer(tree: &Tree) -> Answer
-    ensures { result ≡ view.other_answer (sexp_of tree.now) }
+fn other_answer(tree: Tree<'_>) -> Answer
+    ensures { result ≡ view.other_answer (sexp_of tree.entry) }
 {
     match tree {
         Tree::List(_) => Answer::List,

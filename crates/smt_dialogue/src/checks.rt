@@ -2,10 +2,11 @@
 //! not know what makes a model true.
 
 ghost use Rattle.std.specs.Prelude.{◌≡◌, ◌<◌, ◌+◌, ◌^◌, List, None, IfOk, Some, if◌then◌else◌, option_map, true};
-ghost use Rattle.smt_trees.specs.Tree.{sexp_of};
+ghost use Rattle.smt_trees.specs.Owned.{sexp_of};
+ghost use Rattle.smt_trees.specs.Sexp.{Items, Sexps};
 ghost use Rattle.smt_script.specs.Stack.{Numbered, signature_in_force};
 ghost use Rattle.smt_script.specs.StackView.{StandsFor, profile_of};
-ghost use Rattle.smt_dialogue.specs.Answers.{is_effective_with};
+ghost use Rattle.smt_dialogue.specs.Answers.{is_effective_with, is_list};
 ghost use Rattle.smt_dialogue.specs.Lines as check_lines;
 ghost use Rattle.smt_dialogue.specs.Internal.AnswerView.{AreKnown, answer_of, tree_of};
 ghost use Rattle.smt_dialogue.specs.Internal.ChecksState.{begun, checks_after, checks_state, closing_line};
@@ -20,7 +21,7 @@ use crate::options::Limit;
 use smt_eval::{Machine, Memory};
 use smt_report::Line;
 use smt_script::{Kind, Stack};
-use smt_trees::{Tree, Trees};
+use smt_trees::OwnedTree;
 use std::alloc::Global;
 
 /// A check that was answered `sat`, whose window has not ended and whose line is not decided.
@@ -79,7 +80,7 @@ impl Checks {
     }
 
     /// Adds a command of this number (from 1) and kind, with its answer. `stack` holds what is in force after the
-    /// command. Returns the lines that it decides. The trees of an answer that is a model may be gone afterwards.
+    /// command. Returns the lines that it decides. An answer that is a model is gone afterwards.
     pub(crate) fn take(
         &mut self,
         number: u64,
@@ -167,13 +168,13 @@ impl Checks {
         let Some(pending) = self.pending else {
             return Ok(NewLines::of_ended(None));
         };
-        match answer {
+        match answer.take() {
             Some(
                 TakenAnswer {
                     says: Answer::List,
-                    tree: Tree::List(model),
+                    tree,
                 },
-            ) => self.judge_model(pending, number, model, stack),
+            ) => self.judge_model(pending, number, tree, stack),
             _ => Ok(NewLines::of_ended(None)),
         }
     }
@@ -183,18 +184,18 @@ impl Checks {
         &mut self,
         pending: PendingCheck,
         number: u64,
-        model: &mut Trees,
+        model: OwnedTree,
         stack: &Stack,
     ) -> Result<NewLines, Memory>
-        requires { (commands : List Numbered) × StandsFor stack.now commands }
+        requires stands { (commands : List Numbered) × StandsFor stack.now commands }
+        requires list { is_list (sexp_of model) ≡ true }
         ensures limit { self.new.limit ≡ self.old.limit }
-        ensures checks { IfOk result (λ lines. (commands : List Numbered)
-            → StandsFor stack.now commands → step_of self.new lines
+        ensures checks { IfOk result (λ lines. (commands : List Numbered) (items : Sexps)
+            → StandsFor stack.now commands → sexp_of model ≡ Items items → step_of self.new lines
             ≡ with_line (checks_state self.old) pending
             (check_lines.line_of_judgement pending.check pending.command number
             (judgement_of self.old.limit.steps (signature_in_force (profile_of stack.now) commands)
-            (claims_in_force (profile_of stack.now) commands)
-            model.old))) }
+            (claims_in_force (profile_of stack.now) commands) items))) }
     {
         let judgement = judge(&mut self.machine, stack, model, self.limit)?;
         // (the machine gives up large memory now, and not when the next model comes)

@@ -11,6 +11,9 @@ ghost use Rattle.smt_eval.specs.Interpretation.{Fits, IsInterpretation, KeepsCos
 ghost use Rattle.smt_eval.specs.Structure.{structure_of};
 ghost use Rattle.smt_script.specs.Stack.{Numbered, signature_in_force};
 ghost use Rattle.smt_script.specs.StackView.{StandsFor, profile_of};
+ghost use Rattle.smt_trees.specs.Owned.{sexp_of};
+ghost use Rattle.smt_trees.specs.Sexp.{Items, Sexps};
+ghost use Rattle.smt_dialogue.specs.Answers.{is_list};
 ghost use Rattle.smt_dialogue.specs.Internal.Claims.{AreClaimed, claims_in_force, claims_left};
 ghost use Rattle.smt_dialogue.specs.Judgement as spec;
 ghost use Rattle.smt_dialogue.specs.Judgement.{Claimed, claims_cost, judged_over, judged_within};
@@ -24,7 +27,7 @@ use smt_faults::TermFlaw;
 use smt_report::Claim;
 use smt_script::Stack;
 use smt_terms::Library;
-use smt_trees::{Trees, view};
+use smt_trees::{OwnedTree, Tree};
 use smt_values::Value;
 use std::mem;
 
@@ -48,23 +51,28 @@ pub enum Judgement {
     Confirmed,
 }
 
-/// Judges a model under what is in force. The claims are evaluated only where all together cost at most the limit.
-/// Of what it evaluated before, the machine keeps nothing but its memory.
+/// Judges a model, which is a list, under what is in force. The claims are evaluated only where all together cost at
+/// most the limit. Of what it evaluated before, the machine keeps nothing but its memory.
 pub(crate) fn judge(
     machine: &mut Machine,
     stack: &Stack,
-    model: &mut Trees,
+    model: OwnedTree,
     limit: Limit,
 ) -> Result<Judgement, Memory>
-    requires { (commands : List Numbered) × StandsFor stack.now commands }
-    ensures { (commands : List Numbered) → StandsFor stack.now commands
+    requires stands { (commands : List Numbered) × StandsFor stack.now commands }
+    requires list { is_list (sexp_of model) ≡ true }
+    ensures { (commands : List Numbered) (items : Sexps) → StandsFor stack.now commands
+        → sexp_of model ≡ Items items
         → IfOk result (λ j. j ≡ judgement_of limit.steps (signature_in_force (profile_of stack.now) commands)
-        (claims_in_force (profile_of stack.now) commands) model.old) }
+        (claims_in_force (profile_of stack.now) commands) items) }
 {
     let library = stack.library();
-    let read = Interpretation::read(library, view::Trees::of(model.as_slice()));
+    let Tree::List(items) = model.view() else {
+        unreachable!()
+    };
+    let read = Interpretation::read(library, items);
     // (frees the trees of the model before its evaluation)
-    *model = Trees::new(Vec::new(library.alloc()));
+    drop(model);
     match read {
         Ok(mut interpretation) => {
             let claims = Claims::new(stack);

@@ -3,8 +3,7 @@
 ghost use Rattle.std.specs.Prelude.{◌≡◌, List, ℕ, IfOk, MatchOption, Some, None, true, false};
 ghost use Rattle.smt_text.specs.Reader.{bytes_fed, is_finished};
 ghost use Rattle.smt_trees.specs.Sexp.{Sexps};
-ghost use Rattle.smt_trees.specs.Tree.{sexp_of};
-ghost use Rattle.smt_trees.specs.declared.tree.Tree as trees;
+ghost use Rattle.smt_trees.specs.Owned.{sexp_of};
 ghost use Rattle.smt_dialogue.specs.Answers as answers;
 ghost use Rattle.smt_dialogue.specs.FirstFault.{TextSoFar};
 ghost use Rattle.smt_dialogue.specs.Internal.AnswerView.{AreKnown};
@@ -68,7 +67,7 @@ fn take_if(form: AnswerForm, answers: &mut TreeQueue) -> Option<TakenAnswer>
     let Some(tree) = &answers.next else {
         return None;
     };
-    let says = answer_of(tree);
+    let says = answer_of(tree.view());
     if !says.has(form) {
         return None;
     }

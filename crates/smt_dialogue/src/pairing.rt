@@ -21,8 +21,7 @@ use smt_eval::Memory;
 use smt_report::{Line, Side, Verdict};
 use smt_script::{CommandFlaw, read_command};
 use smt_text::laws::{every_text_reads, read_trees_stay, trees_are_no_more_than_bytes};
-use smt_trees::Tree;
-use smt_trees::view::view_of;
+use smt_trees::OwnedTree;
 use std::alloc::Global;
 
 // A law: no more trees are read from a text than it has bytes, whether its end was reported or not.
@@ -50,7 +49,7 @@ pub struct Pairing {
     pub script: TreeQueue,
     pub answers: TreeQueue,
     /// The tree in turn, if there is one: a command that waits for its answer.
-    pub command: Option<Tree>,
+    pub command: Option<OwnedTree>,
 }
 
 impl Pairing {
@@ -180,7 +179,7 @@ impl Pairing {
         let Some(tree) = &self.command else {
             unreachable!()
         };
-        let Ok(command) = read_command(self.dialogue.stack.profile(), view_of(tree)) else {
+        let Ok(command) = read_command(self.dialogue.stack.profile(), tree.view()) else {
             unreachable!()
         };
         let turn = take_up(&mut self.dialogue, &command, &mut self.answers)?;
@@ -249,7 +248,7 @@ impl Pairing {
         let Some(tree) = self.script.take() else {
             unreachable!()
         };
-        match read_command(self.dialogue.stack.profile(), view_of(&tree)) {
+        match read_command(self.dialogue.stack.profile(), tree.view()) {
             Ok(_) => {
                 self.command = Some(tree);
                 None

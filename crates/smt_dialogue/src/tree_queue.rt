@@ -4,7 +4,7 @@ ghost use Rattle.std.specs.Prelude.{◌≡◌, ◌<◌, ◌+◌, ◌++◌, ◌^�
 ghost use Rattle.std.specs.Prelude.{length, true};
 ghost use Rattle.smt_text.specs.Reader.{bytes_fed, is_finished};
 ghost use Rattle.smt_trees.specs.Sexp.{Cons, Sexps};
-ghost use Rattle.smt_trees.specs.Tree.{sexp_of};
+ghost use Rattle.smt_trees.specs.Owned.{sexp_of};
 ghost use Rattle.smt_dialogue.specs.FirstFault.{TextSoFar};
 ghost use Rattle.smt_dialogue.specs.Report.{IsRead};
 ghost use Rattle.smt_dialogue.specs.Internal.TreeQueueView.{GoesOnFrom, HasQueue, IsAhead};
@@ -13,14 +13,14 @@ use smt_eval::Memory;
 use smt_faults::TextFlaw;
 use smt_text::laws::{one_reading, read_faults_stay, read_trees_stay};
 use smt_text::{Next, Reader};
-use smt_trees::Tree;
+use smt_trees::OwnedTree;
 use std::alloc::Global;
 
 /// A text so far: the reader of its pieces, and the next tree, once `look` has read it.
 #[derive(Drop)]
 pub struct TreeQueue {
     pub reader: Reader,
-    pub next: Option<Tree>,
+    pub next: Option<OwnedTree>,
 }
 
 /// What comes next in a text so far.
@@ -103,7 +103,7 @@ impl TreeQueue {
     }
 
     /// Takes the ready tree out of the queue; `None` where no tree is ready.
-    pub(crate) fn take(&mut self) -> Option<Tree>
+    pub(crate) fn take(&mut self) -> Option<OwnedTree>
         ensures taken { MatchOption result (self.old.next ≡ None)
             (λ tree. (self.old.next ≡ Some tree)
             × ((bytes : List ℕ) (text : TextSoFar) (later : Sexps)

@@ -21,7 +21,7 @@ use smt_machine::costs;
 use smt_nodes::TermId;
 use smt_terms::laws::items_are_well_sorted;
 use smt_terms::{Found, Library, TermFault};
-use smt_trees::view::Trees;
+use smt_trees::Trees;
 
 /// The definitions of a model, and for each name that the script declares the body that the model gives to
 /// it. Once it is counted, it also holds the cost of each node of the model and of the script.

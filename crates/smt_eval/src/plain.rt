@@ -24,7 +24,7 @@ use crate::plain::evaluator::known_value;
 use crate::plain::names::Definitions;
 use smt_faults::Memory;
 use smt_theory::{Sort, Theories};
-use smt_trees::view::Tree;
+use smt_trees::Tree;
 use smt_values::Value;
 use std::alloc::Global;
 

@@ -1,11 +1,11 @@
 //! The values of terms, and of terms that see variables, over the definitions of a model and a script. This file
 //! evaluates no term itself: the values are those of the plain evaluator.
 
-ghost use Rattle.std.specs.Prelude.{IfOk};
+ghost use Rattle.std.specs.Prelude.{◌≡◌, ◌<◌, IfOk, length};
+ghost use Rattle.smt_trees.specs.TapeView.{lists_of};
 ghost use Rattle.smt_trees.specs.View.{sexp_of};
 ghost use Rattle.smt_explain.specs.Values.{IsKnownOver};
 
-use crate::copies::copy_of;
 use crate::names::{Costs, used_by};
 use crate::show::constant;
 use crate::world::World;
@@ -13,9 +13,7 @@ use smt_eval::plain::{Closed, Definition};
 use smt_faults::Memory;
 use smt_forms::Scope;
 use smt_theory::{Profile, all_theories};
-use smt_trees as owned;
-use smt_trees::view::{Tree, view_of};
-use smt_trees::{Bytes, Word};
+use smt_trees::{Kind, OwnedTree, Tape, Tree, Word};
 use smt_values::Value;
 use std::alloc::{AllocError, AllocFailed, Global};
 
@@ -26,7 +24,7 @@ const NAMES: u64 = 64;
 #[derive(Drop)]
 pub(crate) struct Bound<'a> {
     pub(crate) name: &'a [u8],
-    pub(crate) constant: owned::Tree,
+    pub(crate) constant: OwnedTree,
     pub(crate) term: Tree<'a>,
     /// The scope of the term, and the scope outside this variable. A scope is the number of its innermost variable,
     /// from 1; 0 is the empty scope.
@@ -159,7 +157,7 @@ pub(crate) fn value_in(
         return value_of(over, work, term);
     }
     let closed = close(over.alloc, bounds, scope, term)?;
-    value_of(over, work, view_of(&closed))
+    value_of(over, work, closed.view())
 }
 
 fn close(
@@ -167,28 +165,33 @@ fn close(
     bounds: &[Bound<'_>],
     scope: usize,
     term: Tree<'_>,
-) -> Result<owned::Tree, Memory> {
-    let mut bindings = Vec::new(alloc);
+) -> Result<OwnedTree, Memory> {
+    let mut list = Tape::new(alloc);
+    list.begin_list()?;
+    list.add_word(Word::Let)?;
+    list.begin_list()?;
     let mut scope = scope;
     for _ in 0..bounds.len() {
         let Some(bound) = bound_at(bounds, scope) else {
             break;
         };
-        bindings.push(binding(alloc, bound.name, &bound.constant)?)?;
+        add_binding(&mut list, bound.name, &bound.constant)?;
         scope = bound.outer;
     }
-    let mut parts = Vec::with_capacity(alloc, 3)?;
-    parts.push(owned::Tree::Reserved(Word::Let))?;
-    parts.push(owned::Tree::List(owned::Trees::new(bindings)))?;
-    parts.push(copy_of(alloc, term)?)?;
-    Ok(owned::Tree::List(owned::Trees::new(parts)))
+    list.end_list()?;
+    list.add_tree(term)?;
+    Ok(list.take(alloc)?)
 }
 
-fn binding(alloc: Global, name: &[u8], value: &owned::Tree) -> Result<owned::Tree, Memory> {
-    let mut parts = Vec::with_capacity(alloc, 2)?;
-    parts.push(owned::Tree::Symbol(Bytes::new(alloc, name)?))?;
-    parts.push(value.copy(alloc)?)?;
-    Ok(owned::Tree::List(owned::Trees::new(parts)))
+fn add_binding(list: &mut Tape, name: &[u8], value: &OwnedTree) -> Result<(), Memory>
+    requires { 0 < length (lists_of list.old) }
+    ensures { IfOk result (λ _. length (lists_of list.new) ≡ length (lists_of list.old)) }
+{
+    list.begin_list()?;
+    list.add_atom(Kind::Symbol, name)?;
+    list.add_tree(value.view())?;
+    list.end_list()?;
+    Ok(())
 }
 
 /// Adds a variable inside a scope, and returns the new scope.

@@ -18,7 +18,7 @@ use crate::world::{places_in, tree_of};
 use smt_faults::{CommandFlaw, Memory, TermFlaw, TextFlaw};
 use smt_forms::{Scope, item_form};
 use smt_report::{Line, Side};
-use smt_trees::view::{Tree, Trees, view_of};
+use smt_trees::{Tree, Trees};
 use std::alloc::Global;
 
 // ---- texts
@@ -174,7 +174,7 @@ fn tell_term(
             let known = brought_before(page.alloc, dialogue, place)?;
             tell_unknown(
                 page,
-                unknown_in_command(page.alloc, &known, head_of(text), view_of(&tree))?,
+                unknown_in_command(page.alloc, &known, head_of(text), tree.view())?,
             )
         }
         TermFlaw::NotFresh => match head_of(text) {
@@ -182,8 +182,8 @@ fn tell_term(
             Head::DefineSort => tell_sort_in_use(page, dialogue, place, word(text, 1)),
             _ => tell_earlier(page, dialogue, place, word(text, 1)),
         },
-        TermFlaw::BoundTwice => tell_bound_twice(page, view_of(&tree)),
-        TermFlaw::IllSorted => tell_sorts_in_command(page, dialogue, place, view_of(&tree)),
+        TermFlaw::BoundTwice => tell_bound_twice(page, tree.view()),
+        TermFlaw::IllSorted => tell_sorts_in_command(page, dialogue, place, tree.view()),
         _ => Ok(()),
     }
 }
@@ -379,7 +379,7 @@ pub(crate) fn tell_item_fault(
         TermFlaw::BoundTwice => {
             tell_same_item(page, dialogue, spans, place, name)?;
             match tree_of(page.alloc, text)? {
-                Some(tree) => tell_bound_twice(page, view_of(&tree)),
+                Some(tree) => tell_bound_twice(page, tree.view()),
                 None => Ok(()),
             }
         }
@@ -487,7 +487,7 @@ fn tell_unknown_in_item(
     let Some(tree) = tree_of(alloc, text_at(answers, *span))? else {
         return Ok(());
     };
-    let Ok(form) = item_form(view_of(&tree)) else {
+    let Ok(form) = item_form(tree.view()) else {
         return Ok(());
     };
     let mut known = brought_before(alloc, dialogue, check)?;

@@ -12,8 +12,7 @@ use smt_faults::Memory;
 use smt_forms::{ItemForm, item_form, split_named};
 use smt_terms::{Found, Library, TermFault};
 use smt_theory::Sort;
-use smt_trees::Word;
-use smt_trees::view::{Tree, Trees, view_of};
+use smt_trees::{Tree, Trees, Word};
 use std::alloc::Global;
 
 // ---- commands
@@ -156,7 +155,7 @@ pub(crate) fn tell_sorts_in_item(
         return Ok(());
     };
     match tree_of(page.alloc, text_at(dialogue.texts.answers, *span))? {
-        Some(tree) => tell_sorts_in_tree(page, dialogue, item, view_of(&tree)),
+        Some(tree) => tell_sorts_in_tree(page, dialogue, item, tree.view()),
         None => Ok(()),
     }
 }
@@ -280,7 +279,7 @@ fn add_items(
 
 fn add_item(alloc: Global, model: &mut Library, text: &[u8]) -> Result<bool, Memory> {
     match tree_of(alloc, text)? {
-        Some(tree) => match item_form(view_of(&tree)) {
+        Some(tree) => match item_form(tree.view()) {
             Ok(form) => was_added(add_form(alloc, model, &form)),
             Err(_) => Ok(false),
         },

@@ -16,7 +16,6 @@
 //! ```
 #![tactic(auto)]
 
-mod copies;
 mod evaluation;
 mod faults;
 mod force;

@@ -18,7 +18,7 @@ use smt_faults::Memory;
 use smt_forms::{ItemForm, Param, split_named};
 use smt_terms::{Library, TermFault};
 use smt_theory::{Sort, Theories, all_theories, theories_of};
-use smt_trees::view::{Tree, Trees, view_of};
+use smt_trees::{Tree, Trees};
 use std::alloc::Global;
 
 /// The sort of a term over the names of a library; `None` where it has a fault.
@@ -41,7 +41,7 @@ pub(crate) fn sort_over(library: &mut Library, term: Tree<'_>) -> Result<Option<
 pub(crate) fn sort_named(library: &mut Library, tree: Tree<'_>) -> Result<Option<Sort>, Memory> {
     let mark = library.mark();
     // (No symbol of a script contains a bar, so this name is free.)
-    let declared = library.declare(1, b"|", Trees::of(&[]), tree);
+    let declared = library.declare(1, b"|", Trees::empty(), tree);
     let sort = match library.declared().last() {
         Some(last) => Some(last.result),
         None => None,
@@ -125,9 +125,9 @@ fn add_command(
         Ok(None) => return Ok(()),
         Err(Memory) => return Err(TermFault::Memory),
     };
-    match (head, form_of(view_of(&tree))) {
+    match (head, form_of(tree.view())) {
         (Head::Define, Some(form)) => add_form(alloc, library, &form),
-        _ => add_parts(library, head, view_of(&tree)),
+        _ => add_parts(library, head, tree.view()),
     }
 }
 
@@ -176,7 +176,7 @@ fn add_parts(library: &mut Library, head: Head, command: Tree<'_>) -> Result<(),
 
 fn add_declaration(library: &mut Library, parts: Trees<'_>) -> Result<(), TermFault> {
     if let Some((_, Tree::Symbol(name), sort)) = three_of(parts) {
-        return library.declare(1, name, Trees::of(&[]), sort);
+        return library.declare(1, name, Trees::empty(), sort);
     }
     match four_of(parts) {
         Some((_, Tree::Symbol(name), Tree::List(params), sort)) => {

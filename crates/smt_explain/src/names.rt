@@ -4,7 +4,7 @@ use crate::world::{Defined, World};
 use smt_eval::plain::Definition;
 use smt_faults::Memory;
 use smt_forms::{Scope, is_bang, is_let, is_underscore, split_let, split_named};
-use smt_trees::view::{Tree, Trees, view_of};
+use smt_trees::{Tree, Trees};
 use std::alloc::Global;
 
 /// The place of the definition of each name; of the last one where a name has several.
@@ -123,7 +123,7 @@ fn push_definition<'a>(used: &mut Vec<Definition<'a>>, defined: &'a Defined) -> 
         name: defined.name.as_slice(),
         params: defined.params.as_slice(),
         result: defined.result,
-        body: view_of(&defined.body),
+        body: defined.body.view(),
     }) {
         Ok(()) => Ok(()),
         Err(_) => Err(Memory),
@@ -197,7 +197,7 @@ fn outline_of_body(
     for param in defined.params.as_slice() {
         bound.push(param.0.as_slice(), ())?;
     }
-    outline_of(alloc, index, bound, view_of(&defined.body))
+    outline_of(alloc, index, bound, defined.body.view())
 }
 
 /// The next task of the walk that makes an outline.

@@ -6,8 +6,7 @@ use crate::values::tell_part;
 use crate::walk::two_of;
 use crate::world::Defined;
 use smt_forms::{split_let, split_named};
-use smt_trees::Word;
-use smt_trees::view::{Tree, Trees, view_of};
+use smt_trees::{Tree, Trees, Word};
 use smt_values::Value;
 
 /// The value of a part, as far as it is known.
@@ -133,7 +132,7 @@ fn go_into_name<'a>(
         Some((place, defined)) if !defined.of_model => push_part(
             left,
             Part {
-                term: view_of(&defined.body),
+                term: defined.body.view(),
                 scope: 0,
                 value: part.value,
                 within: Some(place),
@@ -216,7 +215,7 @@ fn go_into_call<'a>(
             push_part(
                 left,
                 Part {
-                    term: view_of(&defined.body),
+                    term: defined.body.view(),
                     scope,
                     value: part.value,
                     within: Some(place),

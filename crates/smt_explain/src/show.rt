@@ -3,9 +3,7 @@
 use smt_bits::Bits;
 use smt_faults::Memory;
 use smt_theory::Sort;
-use smt_trees as owned;
-use smt_trees::view::{Tree, Trees};
-use smt_trees::{Bytes, spelling};
+use smt_trees::{Kind, OwnedTree, Tape, Tree, Trees, spelling};
 use smt_values::Value;
 use std::alloc::Global;
 
@@ -137,9 +135,9 @@ fn is_name_byte(byte: u8) -> bool {
 }
 
 /// The constant of a value; without a value the keyword `:open`, to which the evaluator gives none.
-pub(crate) fn constant(alloc: Global, value: &Option<Value>) -> Result<owned::Tree, Memory> {
+pub(crate) fn constant(alloc: Global, value: &Option<Value>) -> Result<OwnedTree, Memory> {
     match value {
-        None => Ok(owned::Tree::Keyword(Bytes::new(alloc, b"open")?)),
+        None => Ok(OwnedTree::atom(alloc, Kind::Keyword, b"open")?),
         Some(Value::Bool(true)) => symbol(alloc, b"true"),
         Some(Value::Bool(false)) => symbol(alloc, b"false"),
         Some(Value::Int(number)) => integer(alloc, *number),
@@ -147,40 +145,39 @@ pub(crate) fn constant(alloc: Global, value: &Option<Value>) -> Result<owned::Tr
     }
 }
 
-fn vector(alloc: Global, bits: &Bits) -> Result<owned::Tree, Memory> {
+fn vector(alloc: Global, bits: &Bits) -> Result<OwnedTree, Memory> {
     let digits = digits_of(alloc, bits.number(), bits.width().bits())?;
-    Ok(owned::Tree::Bin(Bytes::new(alloc, digits.as_slice())?))
+    Ok(OwnedTree::atom(alloc, Kind::Bin, digits.as_slice())?)
 }
 
 /// A constant of a sort: `true`, 0, or a vector of zeros.
-pub(crate) fn constant_of(alloc: Global, sort: Sort) -> Result<owned::Tree, Memory> {
+pub(crate) fn constant_of(alloc: Global, sort: Sort) -> Result<OwnedTree, Memory> {
     match sort {
         Sort::Bool => symbol(alloc, b"true"),
         Sort::Int => integer(alloc, 0),
         Sort::Bits(width) => {
             let digits = digits_of(alloc, 0, width.bits())?;
-            Ok(owned::Tree::Bin(Bytes::new(alloc, digits.as_slice())?))
+            Ok(OwnedTree::atom(alloc, Kind::Bin, digits.as_slice())?)
         }
     }
 }
 
-fn symbol(alloc: Global, name: &[u8]) -> Result<owned::Tree, Memory> {
-    Ok(owned::Tree::Symbol(Bytes::new(alloc, name)?))
+fn symbol(alloc: Global, name: &[u8]) -> Result<OwnedTree, Memory> {
+    Ok(OwnedTree::atom(alloc, Kind::Symbol, name)?)
 }
 
-fn integer(alloc: Global, number: i128) -> Result<owned::Tree, Memory> {
+fn integer(alloc: Global, number: i128) -> Result<OwnedTree, Memory> {
     let digits = format!(in alloc; "{number}")?;
     let text = digits.as_bytes();
     match text.strip_prefix(b"-") {
         Some(rest) => {
-            let minus = symbol(alloc, b"-")?;
-            let size = owned::Tree::Numeral(Bytes::new(alloc, rest)?);
-            let mut parts = Vec::with_capacity(alloc, 2)?;
-            parts.push(minus)?;
-            parts.push(size)?;
-            Ok(owned::Tree::List(owned::Trees::new(parts)))
+            let mut list = Tape::new(alloc);
+            list.begin_list()?;
+            list.add_atom(Kind::Symbol, b"-")?;
+            list.add_atom(Kind::Numeral, rest)?;
+            Ok(list.take(alloc)?)
         }
-        None => Ok(owned::Tree::Numeral(Bytes::new(alloc, text)?)),
+        None => Ok(OwnedTree::atom(alloc, Kind::Numeral, text)?),
     }
 }
 

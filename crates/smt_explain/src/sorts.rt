@@ -1,7 +1,6 @@
 //! The sorts that differ where a term is ill sorted: its smallest ill-sorted part, the argument that does not fit,
 //! and the sort needed there. This file knows no values and no command.
 
-use crate::copies::copy_of;
 use crate::library::sort_over;
 use crate::page::Page;
 use crate::show::{constant_of, text_of};
@@ -10,9 +9,7 @@ use smt_faults::Memory;
 use smt_forms::{Scope, split_let, split_named};
 use smt_terms::{Found, Library};
 use smt_theory::{Sort, Width};
-use smt_trees as owned;
-use smt_trees::Word;
-use smt_trees::view::{Tree, Trees, view_of};
+use smt_trees::{Tape, Tree, Trees, Word};
 use std::alloc::Global;
 
 /// How many arguments of an operator are tried in the search for one that does not fit.
@@ -179,13 +176,14 @@ fn sort_applied(
     head: Tree<'_>,
     sorts: &[Sort],
 ) -> Result<Option<Sort>, Memory> {
-    let mut parts = Vec::with_capacity(alloc, sorts.len().saturating_add(1))?;
-    parts.push(copy_of(alloc, head)?)?;
+    let mut list = Tape::new(alloc);
+    list.begin_list()?;
+    list.add_tree(head)?;
     for sort in sorts {
-        parts.push(constant_of(alloc, *sort)?)?;
+        list.add_tree(constant_of(alloc, *sort)?.view())?;
     }
-    let applied = owned::Tree::List(owned::Trees::new(parts));
-    sort_over(library, view_of(&applied))
+    let applied = list.take(alloc)?;
+    sort_over(library, applied.view())
 }
 
 /// Adds a variable after the others.

@@ -1,6 +1,5 @@
 //! The explanation of a report, line by line. This file finds no line itself: it is given the lines.
 
-use crate::copies::copy_of;
 use crate::evaluation::{Over, Stopped, Work, value_of};
 use crate::faults::{tell_command_fault, tell_item_fault, tell_pairing, tell_text_fault};
 use crate::force::{Commands, Stand, has_label, in_force};
@@ -16,8 +15,7 @@ use smt_faults::Memory;
 use smt_forms::Scope;
 use smt_report::{Claim, Line};
 use smt_theory::Profile;
-use smt_trees as owned;
-use smt_trees::view::{Tree, Trees, view_of};
+use smt_trees::{OwnedTree, Tree, Trees};
 use smt_values::Value;
 use std::alloc::Global;
 
@@ -256,7 +254,7 @@ fn put_text(page: &mut Page, text: &[u8]) -> Result<(), Memory> {
     if text.len() <= 4096
         && let Some(tree) = tree_of(page.alloc, text)?
     {
-        return page.put_cut(text_of(page.alloc, view_of(&tree))?.as_slice());
+        return page.put_cut(text_of(page.alloc, tree.view())?.as_slice());
     }
     page.put_cut(text)
 }
@@ -373,14 +371,14 @@ fn tell_reason(
     let Some(tree) = tree_of_command(page.alloc, dialogue, claimed.command)? else {
         return Ok(());
     };
-    let Some(term) = claim_term(view_of(&tree), claimed.claim) else {
+    let Some(term) = claim_term(tree.view(), claimed.claim) else {
         return Ok(());
     };
     let found = world_at(page.alloc, dialogue, claimed.check, model, left)?;
     let Some((standing, mut world)) = found else {
         return page.line(ENOUGH);
     };
-    world.claim = Some(copy_of(page.alloc, term)?);
+    world.claim = Some(OwnedTree::copy_of(page.alloc, term)?);
     match tell_in(page, dialogue, &world, standing.as_slice(), claimed, left) {
         Ok(()) => Ok(()),
         Err(Stopped::Memory) => Err(Memory),
@@ -406,7 +404,7 @@ fn tree_of_command(
     alloc: Global,
     dialogue: &Dialogue<'_>,
     command: u64,
-) -> Result<Option<owned::Tree>, Memory> {
+) -> Result<Option<OwnedTree>, Memory> {
     match dialogue.commands.get(index_of_number(command)) {
         Some(span) => tree_of(alloc, text_at(dialogue.texts.script, *span)),
         None => Ok(None),
@@ -485,7 +483,7 @@ fn tell_in(
         bytes: *left,
         costs: Costs::new(alloc, world)?,
     };
-    tell_parts(page, &over, &mut work, view_of(term), claimed.value)?;
+    tell_parts(page, &over, &mut work, term.view(), claimed.value)?;
     if claimed.value != Known::False {
         return Ok(());
     }
@@ -525,7 +523,7 @@ fn tell_assertions(
         let Some(tree) = tree_of(over.alloc, text)? else {
             continue;
         };
-        if let Some(term) = claim_term(view_of(&tree), Claim::Assertion { command: number })
+        if let Some(term) = claim_term(tree.view(), Claim::Assertion { command: number })
             && value_of(over, work, term)? == Some(Value::Bool(false))
         {
             tell_command(page, dialogue, b"  also false: ", number)?;
@@ -545,7 +543,7 @@ fn tell_assumptions(
     let Some(tree) = tree_of_command(over.alloc, dialogue, claimed.check)? else {
         return Ok(());
     };
-    let Some(literals) = assumptions_of(view_of(&tree)) else {
+    let Some(literals) = assumptions_of(tree.view()) else {
         return Ok(());
     };
     let told = match claimed.claim {
@@ -644,7 +642,7 @@ fn cost_of_command(
     let Some(tree) = tree_of(alloc, text)? else {
         return Ok(0);
     };
-    let Some(terms) = claims_of(head_of(text), view_of(&tree)) else {
+    let Some(terms) = claims_of(head_of(text), tree.view()) else {
         return Ok(0);
     };
     let mut sum = 0u64;

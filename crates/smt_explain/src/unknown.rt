@@ -9,7 +9,7 @@ use crate::world::form_of;
 use smt_faults::Memory;
 use smt_forms::{ItemForm, Scope, is_bang, is_let, is_underscore, split_let, split_named};
 use smt_theory::{Profile, all_theories, op_of};
-use smt_trees::view::{Tree, Trees};
+use smt_trees::{Tree, Trees};
 use std::alloc::Global;
 
 /// The names in force somewhere, each with the place of the command that brought it, and likewise the abbreviations

@@ -7,8 +7,7 @@ use crate::show::{constant, put_name, text_of};
 use crate::walk::all_in;
 use crate::world::Defined;
 use smt_faults::Memory;
-use smt_trees::Word;
-use smt_trees::view::{Tree, view_of};
+use smt_trees::{Tree, Word};
 use smt_values::Value;
 use std::alloc::Global;
 
@@ -196,7 +195,7 @@ fn tell_value<'a>(
     page.put(b" = ")?;
     if value.is_some() {
         let constant = constant(over.alloc, &value)?;
-        let text = text_of(over.alloc, view_of(&constant))?;
+        let text = text_of(over.alloc, constant.view())?;
         page.put(text.as_slice())?;
     } else {
         page.put(b"open")?;
@@ -223,7 +222,7 @@ fn see_more<'a>(
             items.push(place)?;
             Ok(())
         }
-        Some((_, defined)) => see_names(over.alloc, view_of(&defined.body), 0, seen),
+        Some((_, defined)) => see_names(over.alloc, defined.body.view(), 0, seen),
         None => Ok(()),
     }
 }

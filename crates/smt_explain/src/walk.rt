@@ -1,7 +1,7 @@
 //! The parts of a tree, without recursion. This file knows no term.
 
 use smt_faults::Memory;
-use smt_trees::view::{Tree, Trees};
+use smt_trees::{Tree, Trees};
 use std::alloc::Global;
 
 /// A tree and all trees in it, each before its own parts, from the left.

@@ -1,6 +1,5 @@
 //! The definitions that a model and a script give to names, as their trees. This file evaluates nothing.
 
-use crate::copies::copy_of;
 use crate::force::{Commands, Stand, has_label};
 use crate::pairs::Head;
 use crate::scan::{Place, Span, find_trees, part, text_at};
@@ -9,8 +8,7 @@ use smt_faults::{Memory, TextFault};
 use smt_forms::{ItemForm, NameSet, is_bang, item_form, label_at, split_named};
 use smt_text::read_trees;
 use smt_theory::{Sort, Width};
-use smt_trees as owned;
-use smt_trees::view::{Tree, Trees, view_of};
+use smt_trees::{OwnedTree, Tree, Trees};
 use std::alloc::Global;
 
 /// A name that a model, a command or a label defines.
@@ -19,7 +17,7 @@ pub(crate) struct Defined {
     pub(crate) name: Vec<u8>,
     pub(crate) params: Vec<(Vec<u8>, Sort)>,
     pub(crate) result: Sort,
-    pub(crate) body: owned::Tree,
+    pub(crate) body: OwnedTree,
     pub(crate) place: Place,
     pub(crate) of_model: bool,
 }
@@ -29,16 +27,13 @@ pub(crate) struct Defined {
 pub(crate) struct World {
     pub(crate) definitions: Vec<Defined>,
     /// The claim that is explained.
-    pub(crate) claim: Option<owned::Tree>,
+    pub(crate) claim: Option<OwnedTree>,
 }
 
 /// The last tree of a text; `None` where the text has no tree or the reader refuses it.
-pub(crate) fn tree_of(alloc: Global, text: &[u8]) -> Result<Option<owned::Tree>, Memory> {
+pub(crate) fn tree_of(alloc: Global, text: &[u8]) -> Result<Option<OwnedTree>, Memory> {
     match read_trees(alloc, text) {
-        Ok(trees) => {
-            let mut trees = trees.into_vec();
-            Ok(trees.pop())
-        }
+        Ok(mut trees) => Ok(trees.pop()),
         Err(TextFault::Memory) => Err(Memory),
         Err(_) => Ok(None),
     }
@@ -54,7 +49,7 @@ pub(crate) fn form_of(tree: Tree<'_>) -> Option<ItemForm<'_>> {
             if matches!(word, b"define-const") => {
             Some(ItemForm {
                 name,
-                parameters: Trees::of(&[]),
+                parameters: Trees::empty(),
                 sort,
                 body,
             })
@@ -116,7 +111,7 @@ fn add_model(
     let Some(tree) = tree_of(alloc, text_at(answers, model))? else {
         return Ok(());
     };
-    let Tree::List(items) = view_of(&tree) else {
+    let Tree::List(items) = tree.view() else {
         return Ok(());
     };
     let mut defined = NameSet::new(alloc);
@@ -157,9 +152,9 @@ fn add_command(
     let Some(tree) = tree_of(alloc, text)? else {
         return Ok(());
     };
-    match form_of(view_of(&tree)) {
+    match form_of(tree.view()) {
         Some(form) => add_form(alloc, world, &form, place, false),
-        None => add_labels(alloc, world, view_of(&tree), place),
+        None => add_labels(alloc, world, tree.view(), place),
     }
 }
 
@@ -180,7 +175,7 @@ fn add_form(
         left = rest;
     }
     let name = Vec::from_slice(alloc, form.name)?;
-    let body = copy_of(alloc, form.body)?;
+    let body = OwnedTree::copy_of(alloc, form.body)?;
     world.definitions.push(Defined {
         name,
         params,
@@ -249,7 +244,7 @@ fn add_label(
     place: Place,
 ) -> Result<(), Memory> {
     let name = Vec::from_slice(alloc, name)?;
-    let body = copy_of(alloc, term)?;
+    let body = OwnedTree::copy_of(alloc, term)?;
     world.definitions.push(Defined {
         name,
         params: Vec::new(alloc),

@@ -10,7 +10,7 @@ ghost use Rattle.smt_forms.specs.Internal.Attributes.{first_keyword, has_value, 
 ghost use Rattle.smt_forms.specs.Internal.Attributes.{is_label_tree};
 ghost use Rattle.smt_forms.specs.Labels.{label_of_tree};
 
-use smt_trees::view::{Tree, Trees};
+use smt_trees::{Tree, Trees};
 
 /// Whether these trees are the attributes of a term, of which there is at least one (SMT-LIB 2.6, section
 /// 3.6.5).

@@ -7,7 +7,7 @@ ghost use Rattle.smt_trees.specs.View.{sexp_of, sexps_of};
 ghost use Rattle.smt_forms.specs.Bindings as bindings;
 ghost use Rattle.smt_forms.specs.Bindings.{first_named, let_form};
 
-use smt_trees::view::{Tree, Trees};
+use smt_trees::{Tree, Trees};
 
 /// The symbol and the tree that the first of these trees lists, and the trees after it. The symbol is without
 /// bars.

@@ -5,8 +5,7 @@ ghost use Rattle.smt_trees.specs.View.{sexp_of};
 ghost use Rattle.smt_forms.specs.Heads.{begins_indexed};
 ghost use Rattle.smt_forms.specs.Heads.{begins_annotated, begins_let};
 
-use smt_trees::Word;
-use smt_trees::view::Tree;
+use smt_trees::{Tree, Word};
 
 /// Whether a list with this head is an identifier with indexes (SMT-LIB 2.6, section 3.3).
 pub fn is_underscore(head: Tree<'_>) -> bool

@@ -13,8 +13,7 @@ ghost use Rattle.smt_faults.specs.Outcome.{IsOutcome};
 
 use smt_faults::{TermFault, TermFlaw};
 use smt_theory::{Index, Op, OpFault, Theories, number, op_of};
-use smt_trees::Word;
-use smt_trees::view::{Tree, Trees};
+use smt_trees::{Tree, Trees, Word};
 use std::alloc::Global;
 
 /// An identifier, which borrows its names (SMT-LIB 2.6, section 3.3).

@@ -10,8 +10,7 @@ ghost use Rattle.smt_faults.specs.declared.term_flaw.TermFlaw.TheVariants.{Form}
 
 use crate::bindings::are_named;
 use smt_faults::TermFlaw;
-use smt_trees::Word;
-use smt_trees::view::{Tree, Trees};
+use smt_trees::{Tree, Trees, Word};
 
 /// The parts of an item (SMT-LIB 2.6, section 4.2.6). They are its name without bars; its parameters, each a
 /// list of a symbol and the tree of a sort; the tree of its sort; and its body.

@@ -7,7 +7,7 @@ ghost use Rattle.smt_forms.specs.ParamView.{param_view};
 
 use crate::bindings::split_named;
 use smt_faults::Memory;
-use smt_trees::view::{Tree, Trees};
+use smt_trees::{Tree, Trees};
 use std::alloc::Global;
 
 /// A parameter of a definition, which borrows its name, without bars, and the tree of its sort (SMT-LIB 2.6,

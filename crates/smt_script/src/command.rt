@@ -4,7 +4,7 @@ ghost use Rattle.std.specs.Prelude.{◌≡◌};
 ghost use Rattle.smt_script.specs.Command as commands;
 ghost use Rattle.smt_script.specs.CommandView.{command_view};
 
-use smt_trees::view::{Tree, Trees};
+use smt_trees::{Tree, Trees};
 
 /// A command, which borrows its parts (SMT-LIB 2.6, section 4.2). Names are without bars, and keywords without
 /// their colon.

@@ -18,8 +18,7 @@ use crate::forms::shapes::{
 };
 use smt_faults::CommandFlaw;
 use smt_theory::Profile;
-use smt_trees::Word;
-use smt_trees::view::{Tree, Trees};
+use smt_trees::{Tree, Trees, Word};
 
 /// The command that a tree is in a profile (SMT-LIB 2.6, section 4.2).
 ///

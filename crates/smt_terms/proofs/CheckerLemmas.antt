@@ -1,8 +1,7 @@
 -- Sorts of lists, one step at a time.
 use Rattle.std.proofs.Common.{◌≡◌, ℕ, true, false, List, [], ◌∷◌, ◌++◌, Option, Some, None, is_some}
-use Rattle.std.proofs.Common.{Result, Ok, Err, refl, sym, ap, ◌∙◌, append_assoc, append-nil, inl, inr, length, arith}
-use Rattle.smt_trees.specs.Sexp.{Sexp, Sexps, Reserved, Items, Cons, Nil, count}
-use Rattle.smt_trees.specs.View.{sexps_of}
+use Rattle.std.proofs.Common.{Result, Ok, Err, refl, sym, ap, ◌∙◌, append_assoc, append-nil, inl, inr}
+use Rattle.smt_trees.specs.Sexp.{Sexp, Sexps, Reserved, Items, Cons, Nil}
 use Rattle.smt_trees.specs.declared.reserved.Word.TheVariants.{Bang, Let, Underscore}
 use Rattle.smt_theory.specs.Words.{look_up, result_and_then}
 use Rattle.smt_theory.specs.declared.sort.Sort.{Sort}

@@ -9,7 +9,7 @@ use smt_faults::Memory;
 use smt_forms::NameSet;
 use smt_nodes::TermId;
 use smt_theory::Sort;
-use smt_trees::view::Tree;
+use smt_trees::Tree;
 use std::alloc::Global;
 use std::mem;
 

@@ -29,7 +29,7 @@ use smt_faults::{Memory, TermFault};
 use smt_names::NameMap;
 use smt_nodes::{Node, Nodes, TermId};
 use smt_theory::{Sort, Theories};
-use smt_trees::view::{Tree, Trees};
+use smt_trees::{Tree, Trees};
 use std::alloc::Global;
 
 // The most names among which a search compares a name with each one.

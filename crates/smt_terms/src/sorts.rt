@@ -16,8 +16,7 @@ use smt_faults::{TermFault, TermFlaw};
 use smt_forms::are_indexes;
 use smt_names::NameMap;
 use smt_theory::{Sort, Theories, Width, number};
-use smt_trees::Word;
-use smt_trees::view::{Tree, Trees};
+use smt_trees::{Tree, Trees, Word};
 use std::alloc::Global;
 
 /// The names of sorts: theories, and abbreviations (SMT-LIB 2.6, sections 3.5 and 4.2.3) in the order of their

@@ -1,124 +1,53 @@
 -- The trees that a builder holds.
 use Rattle.std.proofs.Common.{◌≡◌, ℕ, suc, ◌<◌, ◌≤◌, List, [], ◌∷◌, ◌++◌, length, true, cond}
-use Rattle.std.proofs.Common.{Option, Some, None, Result, Ok, Err, IfOk, OnOk, OnErr, take, drop, reverse, refl, ap}
-use Rattle.std.proofs.Common.{sym, subst, ◌∙◌, arith}
-use Rattle.std.proofs.lemmas.Bool.{lt-ltb, le-ltb, leb-true, le-leb, and_from, and_parts}
-use Rattle.std.specs.Prelude.{nat_le}
-use Rattle.std.proofs.lemmas.List.{reverse-append, length-reverse, length-append, length-take-le}
-use Rattle.std.proofs.lemmas.List.{drop-append-le, take-append-le}
-use Rattle.std.specs.declared.alloc.Global.{Global}
-use Rattle.std.specs.declared.vec.Vec.{Vec}
-use Rattle.smt_trees.specs.TreeJoins.{sexps_of-append}
+use Rattle.std.proofs.Common.{Option, Some, None, Result, Ok, Err, IfOk, refl, ap, sym, ◌∙◌, arith}
+use Rattle.std.proofs.lemmas.Bool.{lt-ltb, le-ltb}
+use Rattle.smt_trees.specs.Owned.{sexp_of, sexps_of}
+use Rattle.smt_trees.specs.OwnedJoins.{sexps_of-append}
+use Rattle.smt_trees.specs.Sexp.{Sexp, Sexps, Items, Cons, Nil, append}
+use Rattle.smt_trees.specs.Tape.{added, closed}
+use Rattle.smt_trees.specs.declared.owned.OwnedTree.{OwnedTree}
 use Rattle.smt_text.specs.Grammar.{OpenParenthesis, CloseParenthesis}
 use Rattle.smt_text.specs.Internal.LexerStates.{Levels, On, State, At, add, add_if, atom_of, flush, begun, ended}
 use Rattle.smt_text.specs.Internal.LexerStates.{depth_of, depth_in, act, settle}
-use Rattle.smt_text.specs.Internal.OpenLists.{are_nested, lists_of}
-use Rattle.smt_trees.specs.Sexp.{Sexp, Sexps, append}
-use Rattle.smt_trees.specs.Tree.{sexp_of, sexps_of}
 use Rattle.smt_text.specs.declared.lexer.AtomState.TheVariants.{Nothing}
-use Rattle.smt_trees.specs.declared.tree.Tree.{Tree}
-
-pub length-lists_of : (parts : List Tree) (begins : List ℕ) → length (lists_of parts begins) ≡ length begins
-length-lists_of parts [] = refl
-length-lists_of parts (begin ∷ around) = ap suc (length-lists_of (take begin parts) around)
-
-abbrev pub AreNested : ℕ → List ℕ → Type 0
-AreNested end begins = are_nested end begins ≡ true
-
-parts_of : (end begin : ℕ) (around : List ℕ) → AreNested end (begin ∷ around)
-    → (begin ≤ end) × AreNested begin around
-parts_of end begin around n =
-    let both : (nat_le begin end ≡ true) × (are_nested begin around ≡ true) = and_parts _ _ n in
-    (leb-true begin end both.0, both.1)
-
-join : (end begin : ℕ) (around : List ℕ) → begin ≤ end → AreNested begin around
-    → AreNested end (begin ∷ around)
-join end begin around h n = and_from _ _ (le-leb begin end h) n
-
--- more trees leave lists within their bounds
-nested_within : (begins : List ℕ) (end more : ℕ) → end ≤ more → AreNested end begins → AreNested more begins
-nested_within [] end more h n = refl
-nested_within (begin ∷ around) end more h n =
-    let both = parts_of end begin around n in
-    join more begin around (omega (arith, h, both.0)) both.1
-
--- what the last place is, the others aside
-last_place : (begins fewer : List ℕ) (begin : ℕ) → begins ≡ fewer ++ begin ∷ []
-    → reverse begins ≡ begin ∷ reverse fewer
-last_place begins fewer begin is = ap reverse is ∙ reverse-append fewer (begin ∷ [])
-
--- a tree at the top
-add_top : (ready more : List Tree) (tree : Tree) → more ≡ ready ++ tree ∷ []
-    → On [] (sexps_of more) ≡ add (sexp_of tree) (On [] (sexps_of ready))
-add_top ready more tree is =
-    ap (λ x. On [] (sexps_of x)) is ∙ ap (λ x. On [] x) (sexps_of-append ready (tree ∷ []))
-
--- a tree in the innermost list
-add_inside : (parts more : List Tree) (tree : Tree) (begin : ℕ) (around : List ℕ) (top : Sexps)
-    → begin ≤ length parts → more ≡ parts ++ tree ∷ []
-    → On (lists_of more (begin ∷ around)) top
-    ≡ add (sexp_of tree) (On (lists_of parts (begin ∷ around)) top)
-add_inside parts more tree begin around top h is =
-    ap (λ x. On (lists_of x (begin ∷ around)) top) is
-    ∙ ap (λ x. On (sexps_of x ∷ lists_of (take begin (parts ++ tree ∷ [])) around) top)
-    (drop-append-le begin parts (tree ∷ []) h)
-    ∙ ap (λ x. On (x ∷ lists_of (take begin (parts ++ tree ∷ [])) around) top)
-    (sexps_of-append (drop begin parts) (tree ∷ []))
-    ∙ ap (λ x. On (append (sexps_of (drop begin parts)) (sexps_of (tree ∷ [])) ∷ lists_of x around) top)
-    (take-append-le begin parts (tree ∷ []) h)
-
--- a tree in the innermost of some lists
-pub add_last : (parts more : List Tree) (begins : List ℕ) (tree : Tree) (top : Sexps)
-    → (length begins ≡ 0 → ⊥) → AreNested (length parts) (reverse begins) → more ≡ parts ++ tree ∷ []
-    → On (lists_of more (reverse begins)) top ≡ add (sexp_of tree) (On (lists_of parts (reverse begins)) top)
-add_last parts more begins tree top some n is = by (reverse begins) (length-reverse begins) n
-  where
-    by : (places : List ℕ) → length places ≡ length begins → AreNested (length parts) places
-        → On (lists_of more places) top ≡ add (sexp_of tree) (On (lists_of parts places) top)
-    by [] e h = absurd (some (sym e))
-    by (begin ∷ around) e h =
-        add_inside parts more tree begin around top (parts_of (length parts) begin around h).0 is
-
--- the places lie within the trees, whether there is one more or not
-pub add_nested : {T E : Type 0} (r : Result T E) (parts more : List Tree) (begins : List ℕ) (tree : Tree)
-    → IfOk r (λ _. more ≡ parts ++ tree ∷ []) → OnErr r (more ≡ parts)
-    → AreNested (length parts) (reverse begins) → AreNested (length more) (reverse begins)
-add_nested (Ok x) parts more begins tree pushed kept n =
-    nested_within (reverse begins) (length parts) (length more)
-    (omega (arith, ap length pushed, length-append parts (tree ∷ []))) n
-add_nested (Err e) parts more begins tree pushed kept n =
-    subst (λ (trees : List Tree). AreNested (length trees) (reverse begins)) (sym kept) n
 
 pub if_ok : {T E : Type 0} {P Q : Type 0} (r : Result T E) → (P → Q) → IfOk r (λ _. P) → IfOk r (λ _. Q)
 if_ok (Ok x) f h = f h
 if_ok (Err e) f h = h
 
 -- a tree at the top, where there is no list
-pub add_topmost : (parts : List Tree) (begins : List ℕ) (ready more : List Tree) (tree : Tree)
-    → length begins ≡ 0 → more ≡ ready ++ tree ∷ []
-    → On (lists_of parts (reverse begins)) (sexps_of more)
-    ≡ add (sexp_of tree) (On (lists_of parts (reverse begins)) (sexps_of ready))
-add_topmost parts [] ready more tree none is = add_top ready more tree is
-add_topmost parts (begin ∷ begins) ready more tree none is = absurd (omega (arith, none))
+pub add_top : (lists : List Sexps) (ready more : List OwnedTree) (tree : OwnedTree) (x : Sexp) → length lists ≡ 0
+    → more ≡ ready ++ tree ∷ [] → sexp_of tree ≡ x
+    → On lists (sexps_of more) ≡ add x (On lists (sexps_of ready))
+add_top [] ready more tree x none is same =
+    ap (λ y. On [] (sexps_of y)) is ∙ ap (λ y. On [] y) (sexps_of-append ready (tree ∷ []))
+    ∙ ap (λ y. On [] (append (sexps_of ready) (Cons y Nil))) same
+add_top (parts ∷ lists) ready more tree x none is same = absurd (omega (arith, none))
 
-last_nested : (parts : List Tree) (begins fewer : List ℕ) (begin : ℕ) → begins ≡ fewer ++ begin ∷ []
-    → AreNested (length parts) (reverse begins) → (begin ≤ length parts) × AreNested begin (reverse fewer)
-last_nested parts begins fewer begin is n =
-    parts_of (length parts) begin (reverse fewer)
-    (subst (AreNested (length parts)) (last_place begins fewer begin is) n)
+-- a tree in the innermost list
+pub add_inside : (lists next : List Sexps) (top : Sexps) (x : Sexp) → (length lists ≡ 0 → ⊥)
+    → next ≡ added lists x → On next top ≡ add x (On lists top)
+add_inside [] next top x some is = absurd (some refl)
+add_inside (parts ∷ lists) next top x some is = ap (λ y. On y top) is
 
--- the places that are left lie within the trees that are left, all of them where none could be taken off
-pub split_nested : {T E : Type 0} (r : Result T E) (parts left : Vec Tree Global) (begins fewer : List ℕ)
-    (begin : ℕ) → begins ≡ fewer ++ begin ∷ [] → OnOk r (left.items ≡ take begin parts.items)
-    → OnErr r (left ≡ parts) → AreNested (length parts.items) (reverse begins)
-    → AreNested (length left.items) (reverse fewer)
-split_nested (Ok x) parts left begins fewer begin is taken kept n =
-    let h = last_nested parts.items begins fewer begin is n in
-    subst (λ b. AreNested b (reverse fewer)) (sym (ap length taken ∙ length-take-le begin parts.items h.0)) h.1
-split_nested (Err e) parts left begins fewer begin is taken kept n =
-    let h = last_nested parts.items begins fewer begin is n in
-    subst (λ (v : Vec Tree Global). AreNested (length v.items) (reverse fewer)) (sym kept)
-    (nested_within (reverse fewer) begin (length parts.items) h.0 h.1)
+-- the outermost list becomes a tree
+pub end_top : (lists next : List Sexps) (ready more : List OwnedTree) (tree : OwnedTree) → length lists ≡ 1
+    → next ≡ [] → more ≡ ready ++ tree ∷ []
+    → ((parts : Sexps) → lists ≡ parts ∷ [] → sexp_of tree ≡ Items parts)
+    → ended (On lists (sexps_of ready)) ≡ On next (sexps_of more)
+end_top [] next ready more tree one none is taken = absurd (omega (arith, one))
+end_top (parts ∷ []) next ready more tree one none is taken =
+    sym (add_top next ready more tree (Items parts) (ap length none) is (taken parts refl)
+    ∙ ap (λ ls. add (Items parts) (On ls (sexps_of ready))) none)
+end_top (parts ∷ around ∷ lists) next ready more tree one none is taken = absurd (omega (arith, one))
+
+-- another list becomes a tree of the list around it
+pub end_inside : (lists next : List Sexps) (top : Sexps) → 1 < length lists → next ≡ closed lists
+    → ended (On lists top) ≡ On next top
+end_inside [] next top some is = absurd (omega (arith, some))
+end_inside (parts ∷ []) next top some is = absurd (omega (arith, some))
+end_inside (parts ∷ around ∷ lists) next top some is = ap (λ y. On y top) (sym is)
 
 -- an atom is at the depth of the lists around it
 depth_of-add_if : (o : Option Sexp) (levels : Levels) → depth_of (add_if o levels) ≡ depth_of levels

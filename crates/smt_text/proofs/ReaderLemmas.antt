@@ -14,11 +14,10 @@ use Rattle.smt_text.specs.Internal.LexerStates.{Levels, On, State, At, start, ad
 use Rattle.smt_text.specs.Internal.LexerStates.{settle, lex, move, may_end, token_in, step, go_on, run, depth_of}
 use Rattle.smt_text.specs.Internal.LexerStates.{depth_in, top_of, complete_of, IsStuck, Leaves, blame}
 use Rattle.smt_text.specs.Reading.{Reads}
-use Rattle.smt_text.specs.Internal.OpenLists.{lists_of}
 use Rattle.smt_text.specs.Internal.ReaderState.{GoesOnFrom, state_of, under, after_taken}
 use Rattle.smt_text.specs.Internal.ReaderState.{GoesThrough, Ends, flaw_found}
 use Rattle.smt_trees.specs.Sexp.{Sexp, Sexps, Items, Nil, Cons, append}
-use Rattle.smt_trees.specs.Tree.{sexp_of, sexps_of}
+use Rattle.smt_trees.specs.Owned.{sexp_of, sexps_of}
 use Rattle.smt_faults.specs.Faults.{text_failure}
 use Rattle.smt_faults.specs.declared.failure.Failure.{Failure}
 use Rattle.smt_faults.specs.declared.failure.Failure.TheVariants as failures
@@ -31,7 +30,8 @@ use Rattle.smt_text.specs.declared.lexer.LexerStep.TheVariants.{Push, Skip, Fini
 use Rattle.smt_text.specs.declared.reader.Next.TheVariants.{Fault}
 use Rattle.smt_text.specs.declared.reader.Reader.{Reader}
 use Rattle.smt_text.specs.declared.reader.TheConstants.{MAX_DEPTH}
-use Rattle.smt_trees.specs.declared.tree.Tree.{Tree}
+use Rattle.smt_trees.specs.TapeView.{lists_of}
+use Rattle.smt_trees.specs.declared.owned.OwnedTree.{OwnedTree}
 
 pub none_if : (o : Option (Failure TextFlaw)) → is_some o ≡ false → o ≡ None
 none_if None e = refl
@@ -368,7 +368,7 @@ answers_fault reader fed taken failure empty f h =
     told (is_finished reader) fed taken failure (none_ready reader fed taken (Some failure) empty f h)
 
 -- where one is
-pub answers_tree : (reader : Reader) (fed : List ℕ) (taken : Sexps) (tree : Tree) (rest : List Tree)
+pub answers_tree : (reader : Reader) (fed : List ℕ) (taken : Sexps) (tree : OwnedTree) (rest : List OwnedTree)
     → reader.failure ≢ Some Memory → reader.builder.ready.items ≡ tree ∷ rest → StandsFor reader fed taken
     → (later : Sexps) × (flaw : Option TextFlaw)
     × Reads MAX_DEPTH (is_finished reader) fed (append taken (Cons (sexp_of tree) later)) flaw
@@ -404,14 +404,13 @@ handed ended old new fed taken longer f same all k = (
         (subst (λ s. Leaves MAX_DEPTH fed s (flaw_of old)) (sym same) l)
     on true l = tt
 
-pub stands_handed : (old new : Reader) (fed : List ℕ) (taken : Sexps) (tree : Tree)
+pub stands_handed : (old new : Reader) (fed : List ℕ) (taken : Sexps) (tree : OwnedTree)
     → bytes_fed new ≡ bytes_fed old → is_finished new ≡ is_finished old → new.failure ≡ old.failure
     → new.token ≡ old.token → new.bytes.items ≡ old.bytes.items
-    → new.builder.parts.items ≡ old.builder.parts.items
-    → new.builder.begins.items ≡ old.builder.begins.items
+    → new.builder.list ≡ old.builder.list
     → old.builder.ready.items ≡ tree ∷ new.builder.ready.items → StandsFor old fed taken
     → StandsFor new fed (append taken (Cons (sexp_of tree) Nil))
-stands_handed old new fed taken tree count e f same_token same_bytes same_parts same_begins first h =
+stands_handed old new fed taken tree count e f same_token same_bytes same_list first h =
     (count ∙ h.0, by h.1)
   where
     all : append (append taken (Cons (sexp_of tree) Nil)) (trees_ready new) ≡ append taken (trees_ready old)
@@ -421,10 +420,7 @@ stands_handed old new fed taken tree count e f same_token same_bytes same_parts 
     same : after_taken (append taken (Cons (sexp_of tree) Nil)) (state_of new)
         ≡ after_taken taken (state_of old)
     same =
-        let inner : lists_of new.builder.parts.items (reverse new.builder.begins.items)
-        ≡ lists_of old.builder.parts.items (reverse old.builder.begins.items) =
-        ap (λ x. lists_of x (reverse new.builder.begins.items)) same_parts
-        ∙ ap (λ x. lists_of old.builder.parts.items (reverse x)) same_begins in
+        let inner : lists_of new.builder.list ≡ lists_of old.builder.list = ap lists_of same_list in
         let outer : append (append taken (Cons (sexp_of tree) Nil)) (sexps_of new.builder.ready.items)
         ≡ append taken (sexps_of old.builder.ready.items) = all in
         cc

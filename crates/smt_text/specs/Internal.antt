@@ -1,5 +1,4 @@
 -- What no claim names: the machine that private contracts and proofs go by.
 pub mod ByteKinds
 pub mod LexerStates
-pub mod OpenLists
 pub mod ReaderState

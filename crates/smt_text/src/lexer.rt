@@ -1,9 +1,7 @@
 //! Tokens, byte by byte. This file knows no lists.
 
-ghost use Rattle.std.specs.Prelude.{◌≡◌, ◌<◌, ◌≤◌, ℕ, [], true, length, slice_index, take, IfOk};
-ghost use Rattle.std.specs.Option.{option_map};
+ghost use Rattle.std.specs.Prelude.{◌≡◌, ◌<◌, ◌≤◌, ℕ, true, length, slice_index};
 ghost use Rattle.smt_text.specs.Internal.LexerStates as machine;
-ghost use Rattle.smt_trees.specs.Tree.{sexp_of};
 ghost use Rattle.smt_text.specs.declared.lexer.AtomState.TheVariants.{Zero, Digits, Hash, InText, InBars};
 ghost use Rattle.smt_text.specs.declared.lexer.AtomState.TheVariants.{InComment};
 ghost use Rattle.smt_text.specs.declared.lexer.LexerStep.TheVariants.{Push, Skip};
@@ -12,10 +10,7 @@ use crate::byte_class::{
     is_binary_digit, is_comment_byte, is_digit, is_hexadecimal_digit, is_letter, is_nonzero_digit,
     is_quoted_byte, is_symbol_byte, is_text_byte, is_white,
 };
-use crate::reserved::word_of;
 use memchr::memchr2;
-use smt_trees::{Bytes, Tree};
-use std::alloc::{AllocError, Global};
 
 /// The state of the lexer: where in a token (SMT-LIB 2.6, section 3.1) or in a comment the text is.
 #[derive(Clone, Copy)]
@@ -274,56 +269,6 @@ fn in_comment(byte: u8) -> LexerStep
         LexerStep::Skip(AtomState::InComment)
     } else {
         LexerStep::Finish(AtomState::Nothing)
-    }
-}
-
-/// The atom that a token of these bytes is, if it ends here; `None` where it is no atom. The call empties the
-/// vector.
-pub(crate) fn atom_of(
-    alloc: Global,
-    token: AtomState,
-    bytes: &mut Vec<u8>,
-) -> Result<Option<Tree>, AllocError>
-    ensures atom { IfOk result (λ tree. option_map sexp_of tree ≡ machine.atom_of token bytes.old.items) }
-    ensures emptied { IfOk result (λ tree. bytes.new.items ≡ []) }
-{
-    let atom = match token {
-        AtomState::Name => name_of(alloc, bytes)?,
-        AtomState::Zero | AtomState::Digits => Tree::Numeral(Bytes::taken_from(alloc, bytes)?),
-        AtomState::Fraction => Tree::Decimal(Bytes::taken_from(alloc, bytes)?),
-        AtomState::HexDigits => Tree::Hex(Bytes::taken_from(alloc, bytes)?),
-        AtomState::BinDigits => Tree::Bin(Bytes::taken_from(alloc, bytes)?),
-        AtomState::KeywordName => Tree::Keyword(Bytes::taken_from(alloc, bytes)?),
-        AtomState::TextQuote => Tree::Text(Bytes::taken_from(alloc, bytes)?),
-        AtomState::InBars => Tree::Symbol(Bytes::taken_from(alloc, bytes)?),
-        AtomState::Nothing
-        | AtomState::Point
-        | AtomState::Hash
-        | AtomState::HexMark
-        | AtomState::BinMark
-        | AtomState::Colon
-        | AtomState::InText
-        | AtomState::AfterBar
-        | AtomState::InComment => {
-            bytes.clear();
-            return Ok(None);
-        }
-    };
-    Ok(Some(atom))
-}
-
-// The reserved word or the simple symbol of these bytes. The call empties the vector.
-fn name_of(alloc: Global, bytes: &mut Vec<u8>) -> Result<Tree, AllocError>
-    ensures atom { IfOk result
-        (λ tree. sexp_of tree ≡ machine.name_or_word (machine.word_named bytes.old.items) bytes.old.items) }
-    ensures emptied { IfOk result (λ tree. bytes.new.items ≡ []) }
-{
-    match word_of(bytes.as_slice()) {
-        Some(word) => {
-            bytes.clear();
-            Ok(Tree::Reserved(word))
-        }
-        None => Ok(Tree::Symbol(Bytes::taken_from(alloc, bytes)?)),
     }
 }
 

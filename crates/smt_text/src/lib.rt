@@ -24,6 +24,7 @@
 //! ```
 #![tactic(auto)]
 
+mod atoms;
 mod builder;
 mod byte_class;
 pub mod laws;
@@ -34,4 +35,4 @@ mod reserved;
 
 pub use reader::{MAX_DEPTH, Next, Reader, read_trees};
 pub use smt_faults::TextFault;
-pub use smt_trees::{Bytes, Tree, Trees, Word, spelling, split_first};
+pub use smt_trees::{OwnedTree, Tree, Trees, Word, spelling};

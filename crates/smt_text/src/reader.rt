@@ -11,6 +11,7 @@ ghost use Rattle.smt_text.specs.Internal.ReaderState.{levels_of, state_of, Begin
 ghost use Rattle.smt_text.specs.Internal.ReaderState.{GoesThrough};
 ghost use Rattle.smt_text.specs.Internal.ReaderState.{IsBeside};
 ghost use Rattle.smt_text.specs.Reading.{Reads};
+ghost use Rattle.smt_trees.specs.Owned.{sexps_of};
 ghost use Rattle.smt_trees.specs.Sexp.{Sexps, Nil};
 ghost use Rattle.smt_faults.specs.declared.text_fault.TextFault.{TextFault as Fault};
 ghost use Rattle.smt_faults.specs.declared.text_fault.TextFault.TheVariants.{Memory as OutOfMemory};
@@ -21,13 +22,13 @@ ghost use Rattle.smt_text.specs.declared.refusal.Refusal.TheVariants.{TooDeep, U
 ghost use Rattle.smt_text.specs.declared.lexer.AtomState.TheVariants.{InComment, Name, Nothing};
 ghost use Rattle.smt_text.specs.declared.lexer.LexerStep.TheVariants.{Push};
 
+use crate::atoms::add_token;
 use crate::builder::Builder;
 use crate::byte_class::{is_letter, is_nonzero_digit, is_white};
-use crate::lexer::{AtomState, LexerStep, atom_of, comment_length};
+use crate::lexer::{AtomState, LexerStep, comment_length};
 use crate::refusal::Refusal;
-use crate::reserved::word_of;
 use smt_faults::{Failure, Memory, TextFault, TextFlaw};
-use smt_trees::{Bytes, Tree, Trees};
+use smt_trees::OwnedTree;
 use std::alloc::Global;
 use std::mem;
 
@@ -38,7 +39,7 @@ pub const MAX_DEPTH: usize = 1000;
 #[derive(Drop)]
 pub enum Next {
     /// The next tree, in the order of the text.
-    Tree(Tree),
+    Tree(OwnedTree),
     /// No complete tree is left, and more bytes may come.
     Wait,
     /// The text has ended without a fault, and no tree is left.
@@ -51,7 +52,6 @@ pub enum Next {
 /// deep.
 #[derive(Drop)]
 pub struct Reader {
-    alloc: Global,
     fed: u64,
     finished: bool,
     /// Where in a token the text is, and the bytes of the token so far.
@@ -70,7 +70,6 @@ impl Reader {
         ensures fed { bytes_fed result ≡ 0 }
     {
         Reader {
-            alloc,
             fed: 0,
             finished: false,
             token: AtomState::Nothing,
@@ -308,57 +307,7 @@ impl Reader {
         ensures added { IfOk result (λ _. levels_of self.new.builder
             ≡ add_if (atom_of token (take count text.now)) (levels_of self.old.builder)) }
     {
-        match token {
-            AtomState::Name => self.add_name(text, count),
-            AtomState::Digits => {
-                let digits = Bytes::first_of(self.alloc, text, count)?;
-                self.builder.add(Tree::Numeral(digits))
-            }
-            AtomState::HexDigits => {
-                let digits = Bytes::first_of(self.alloc, text, count)?;
-                self.builder.add(Tree::Hex(digits))
-            }
-            AtomState::BinDigits => {
-                let digits = Bytes::first_of(self.alloc, text, count)?;
-                self.builder.add(Tree::Bin(digits))
-            }
-            _ => self.add_other(token, text, count),
-        }
-    }
-
-    // Adds the reserved word or the simple symbol that the first `count` bytes of a text spell.
-    #[inline(always)]
-    fn add_name(&mut self, text: &[u8], count: usize) -> Result<(), Memory>
-        requires { count ≤ length text.now }
-        ensures beside { IsBeside self.old self.new }
-        ensures token { self.new.token ≡ self.old.token }
-        ensures bytes { self.new.bytes ≡ self.old.bytes }
-        ensures added { IfOk result (λ _. levels_of self.new.builder
-            ≡ add_if (atom_of Name (take count text.now)) (levels_of self.old.builder)) }
-    {
-        match word_of(&text[..count]) {
-            Some(word) => self.builder.add(Tree::Reserved(word)),
-            None => {
-                let name = Bytes::first_of(self.alloc, text, count)?;
-                self.builder.add(Tree::Symbol(name))
-            }
-        }
-    }
-
-    // Adds the atom of any other token.
-    fn add_other(&mut self, token: AtomState, text: &[u8], count: usize) -> Result<(), Memory>
-        requires { count ≤ length text.now }
-        ensures beside { IsBeside self.old self.new }
-        ensures token { self.new.token ≡ self.old.token }
-        ensures bytes { self.new.bytes ≡ self.old.bytes }
-        ensures added { IfOk result (λ _. levels_of self.new.builder
-            ≡ add_if (atom_of token (take count text.now)) (levels_of self.old.builder)) }
-    {
-        let mut bytes = Vec::from_slice(self.alloc, &text[..count])?;
-        match atom_of(self.alloc, token, &mut bytes)? {
-            Some(tree) => self.builder.add(tree),
-            None => Ok(()),
-        }
+        add_token(&mut self.builder, token, &text[..count])
     }
 
     // Reads on in a comment.
@@ -459,10 +408,9 @@ impl Reader {
         ensures finished { IfOk result (λ _. finished next (state_of self.old) ≡ state_of self.new) }
     {
         let token = mem::replace(&mut self.token, next);
-        match atom_of(self.alloc, token, &mut self.bytes)? {
-            Some(tree) => self.builder.add(tree),
-            None => Ok(()),
-        }
+        add_token(&mut self.builder, token, self.bytes.as_slice())?;
+        self.bytes.clear();
+        Ok(())
     }
 
     // Ends the text.
@@ -479,8 +427,8 @@ impl Reader {
 }
 
 /// The trees of a whole text; or its fault, or want of memory.
-pub fn read_trees(alloc: Global, text: &[u8]) -> Result<Trees, TextFault>
-    ensures { MatchResult result (λ trees. Reads max_depth true text.now trees None)
+pub fn read_trees(alloc: Global, text: &[u8]) -> Result<Vec<OwnedTree>, TextFault>
+    ensures { MatchResult result (λ trees. Reads max_depth true text.now (sexps_of trees.items) None)
         (λ fault. (flaw : TextFlaw) → flaw_in fault ≡ Some flaw
         → (trees : Sexps) × Reads max_depth true text.now trees (Some flaw)) }
 {
@@ -491,7 +439,7 @@ pub fn read_trees(alloc: Global, text: &[u8]) -> Result<Trees, TextFault>
     loop {
         match reader.next() {
             Next::Tree(tree) => trees.push(tree)?,
-            Next::End => return Ok(Trees::new(trees)),
+            Next::End => return Ok(trees),
             Next::Fault(fault) => return Err(fault),
             Next::Wait => unreachable!(),
         }

@@ -1,2 +1,2 @@
-pub mod SexpLemmas
-pub mod BytesLemmas
+pub mod OwnedLemmas
+pub mod TapeLemmas

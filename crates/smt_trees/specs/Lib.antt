@@ -1,6 +1,8 @@
 pub mod Reserved
 pub mod Sexp
-pub mod Tree
-pub mod TreeJoins
-pub mod Internal
+pub mod Tape
+pub mod TapeJoins
+pub mod TapeView
+pub mod Owned
+pub mod OwnedJoins
 pub mod View

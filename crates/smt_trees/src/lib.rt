@@ -12,12 +12,13 @@
 //! ```
 #![tactic(auto)]
 
-mod bytes;
 pub mod laws;
+mod owned;
 mod reserved;
-mod tree;
-pub mod view;
+mod tape;
+mod view;
 
-pub use bytes::Bytes;
+pub use owned::OwnedTree;
 pub use reserved::{Word, spelling};
-pub use tree::{Tree, Trees, split_first};
+pub use tape::{Kind, Tape};
+pub use view::{Tree, Trees};

@@ -2,12 +2,13 @@
 
 ghost use Rattle.std.specs.Prelude.{◌≡◌, MatchOption};
 ghost use Rattle.smt_trees.specs.Sexp as sexp;
-ghost use Rattle.smt_trees.specs.Sexp.{Nil, Cons, count};
-ghost use Rattle.smt_trees.specs.Tree as owned;
+ghost use Rattle.smt_trees.specs.Sexp.{Atom, Nil, Cons, count};
+ghost use Rattle.smt_trees.specs.Tape as tapes;
+ghost use Rattle.smt_trees.specs.Tape.{kind_of, sexps_in};
 ghost use Rattle.smt_trees.specs.View.{sexp_of, sexps_of};
 
 use crate::reserved::Word;
-use crate::tree;
+use crate::tape::{Cell, Kind};
 
 /// An S-expression (SMT-LIB 2.6, section 3.2).
 #[derive(Clone, Copy)]
@@ -33,17 +34,29 @@ pub enum Tree<'a> {
 /// S-expressions side by side.
 #[derive(Clone, Copy)]
 pub struct Trees<'a> {
-    trees: &'a [tree::Tree],
+    cells: &'a [Cell],
+    text: &'a [u8],
 }
 
 impl<'a> Trees<'a> {
-    /// These trees.
+    // The trees that cells are.
     #[inline(always)]
     #[tactic(auto, unfolding(crate::specs::View::sexps_of))]
-    pub fn of(trees: &'a [tree::Tree]) -> Trees<'a>
-        ensures { sexps_of result ≡ owned.sexps_of trees.now }
+    pub(crate) fn of(cells: &'a [Cell], text: &'a [u8]) -> Trees<'a>
+        ensures { sexps_of result ≡ sexps_in text.now cells.now }
     {
-        Trees { trees }
+        Trees { cells, text }
+    }
+
+    /// No trees.
+    #[tactic(auto, unfolding(crate::specs::View::sexps_of))]
+    pub fn empty() -> Trees<'a>
+        ensures { sexps_of result ≡ Nil }
+    {
+        Trees {
+            cells: &[],
+            text: &[],
+        }
     }
 
     /// The first of the trees and the trees after it; `None` where there are no trees.
@@ -53,20 +66,82 @@ impl<'a> Trees<'a> {
         ensures { MatchOption result (sexps_of self.entry ≡ Nil)
             (λ p. sexps_of self.entry ≡ Cons (sexp_of p.0) (sexps_of p.1)) }
     {
-        let Some((tree, rest)) = self.trees.split_first() else {
+        let Some((cell, rest)) = self.cells.split_first() else {
             return None;
         };
-        Some((view_of(tree), Trees::of(rest)))
+        let text = self.text;
+        let count = inside(*cell).min(rest.len());
+        let parts = Trees::of(&rest[..count], text);
+        let behind = Trees::of(&rest[count..], text);
+        Some((tree_with(*cell, text, parts), behind))
     }
 
     /// How many trees there are.
-    #[inline(always)]
-    #[tactic(auto, unfolding(crate::specs::View::sexps_of))]
     pub fn len(self) -> usize
         ensures { result ≡ count (sexps_of self.entry) }
     {
-        self.trees.len()
+        let most = self.cells.len();
+        let mut left = self;
+        let mut number = 0;
+        while number < most {
+            let Some((_, rest)) = left.split_first() else {
+                break;
+            };
+            number += 1;
+            left = rest;
+        }
+        number
     }
+}
+
+// How many cells after a cell are in it.
+#[inline(always)]
+fn inside(cell: Cell) -> usize
+    ensures { result ≡ tapes.inside cell }
+{
+    match cell {
+        Cell::List(count) => count as usize,
+        _ => 0,
+    }
+}
+
+// The tree that a cell is, where these are the trees in it.
+#[inline(always)]
+fn tree_with<'a>(cell: Cell, text: &'a [u8], parts: Trees<'a>) -> Tree<'a>
+    ensures { sexp_of result ≡ tapes.tree_with text.now (sexps_of parts.entry) cell }
+{
+    match cell {
+        Cell::Atom(kind, start, count) => atom(kind, part(text, start, count)),
+        Cell::Reserved(word) => Tree::Reserved(word),
+        Cell::List(_) => Tree::List(parts),
+    }
+}
+
+// The atom of a kind with these bytes.
+#[inline(always)]
+fn atom(kind: Kind, bytes: &[u8]) -> Tree<'_>
+    ensures { sexp_of result ≡ Atom (kind_of kind) bytes.now }
+{
+    match kind {
+        Kind::Numeral => Tree::Numeral(bytes),
+        Kind::Decimal => Tree::Decimal(bytes),
+        Kind::Hex => Tree::Hex(bytes),
+        Kind::Bin => Tree::Bin(bytes),
+        Kind::Text => Tree::Text(bytes),
+        Kind::Symbol => Tree::Symbol(bytes),
+        Kind::Keyword => Tree::Keyword(bytes),
+    }
+}
+
+// So many bytes of a text from a place on, as far as there are so many.
+#[inline(always)]
+fn part(text: &[u8], start: u32, count: u32) -> &[u8]
+    ensures { result.now ≡ tapes.part text.now start count }
+{
+    let start = (start as usize).min(text.len());
+    let behind = &text[start..];
+    let count = (count as usize).min(behind.len());
+    &behind[..count]
 }
 
 impl Tree<'_> {
@@ -78,23 +153,5 @@ impl Tree<'_> {
             Tree::Symbol(symbol) => symbol == name,
             _ => false,
         }
-    }
-}
-
-/// A tree as its users see it.
-#[inline(always)]
-pub fn view_of(tree: &tree::Tree) -> Tree<'_>
-    ensures { sexp_of result ≡ owned.sexp_of tree.now }
-{
-    match tree {
-        tree::Tree::Numeral(digits) => Tree::Numeral(digits.as_slice()),
-        tree::Tree::Decimal(text) => Tree::Decimal(text.as_slice()),
-        tree::Tree::Hex(digits) => Tree::Hex(digits.as_slice()),
-        tree::Tree::Bin(digits) => Tree::Bin(digits.as_slice()),
-        tree::Tree::Text(bytes) => Tree::Text(bytes.as_slice()),
-        tree::Tree::Symbol(name) => Tree::Symbol(name.as_slice()),
-        tree::Tree::Reserved(word) => Tree::Reserved(*word),
-        tree::Tree::Keyword(name) => Tree::Keyword(name.as_slice()),
-        tree::Tree::List(parts) => Tree::List(Trees::of(parts.as_slice())),
     }
 }

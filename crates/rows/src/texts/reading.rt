@@ -6,14 +6,13 @@ ghost use Rattle.smt_text.specs.Reader.{is_finished, bytes_fed};
 use crate::texts::writing;
 use smt_faults::TextFault;
 use smt_text::{Next, Reader, read_trees};
-use smt_trees::Tree;
-use smt_trees::view::Trees;
+use smt_trees::OwnedTree;
 use std::alloc::{AllocError, Global};
 
 /// The result of one call for a whole text.
 pub(crate) fn read_whole(alloc: Global, text: &[u8]) -> Result<Vec<u8>, AllocError> {
     match read_trees(alloc, text) {
-        Ok(trees) => writing::written(alloc, Trees::of(trees.as_slice()), None),
+        Ok(trees) => writing::written(alloc, trees.as_slice(), None),
         // (This call returned no trees before the fault: so they are read in pieces.)
         Err(_) => read_in_pieces(alloc, text, b"", b""),
     }
@@ -38,11 +37,11 @@ pub(crate) fn read_in_pieces(
     let _third = take(&mut reader, &mut trees)?;
     reader.finish();
     let fault = take(&mut reader, &mut trees)?;
-    writing::written(alloc, Trees::of(trees.as_slice()), fault)
+    writing::written(alloc, trees.as_slice(), fault)
 }
 
 // Takes out the trees that are ready, and returns the fault after them, if there is one.
-fn take(reader: &mut Reader, trees: &mut Vec<Tree>) -> Result<Option<TextFault>, AllocError>
+fn take(reader: &mut Reader, trees: &mut Vec<OwnedTree>) -> Result<Option<TextFault>, AllocError>
     ensures finished { is_finished reader.new ≡ is_finished reader.old }
     ensures counted { bytes_fed reader.new ≡ bytes_fed reader.old }
 {

@@ -3,42 +3,50 @@
 ghost use Rattle.std.specs.Prelude.{◌<◌};
 
 use smt_faults::TextFault;
-use smt_trees::view::{Tree, Trees};
-use smt_trees::{Word, spelling};
+use smt_trees::{OwnedTree, Tree, Trees, Word, spelling};
 use std::alloc::{AllocError, Global};
 
 /// Trees, with a space after each, and then the fault.
 pub(crate) fn written(
     alloc: Global,
-    trees: Trees<'_>,
+    trees: &[OwnedTree],
     fault: Option<TextFault>,
 ) -> Result<Vec<u8>, AllocError> {
     let mut out = Vec::new(alloc);
-    write_trees(&mut out, trees)?;
+    for tree in trees {
+        write_tree(&mut out, tree.view())?;
+    }
     write_end(alloc, &mut out, fault)?;
     Ok(out)
 }
 
-// Writes trees, with a space after each.
-fn write_trees(out: &mut Vec<u8>, trees: Trees<'_>) -> Result<(), AllocError> {
-    let Some((tree, rest)) = trees.split_first() else {
-        return Ok(());
-    };
+// Writes a tree, with a space after it.
+#[cycle(write)]
+fn write_tree(out: &mut Vec<u8>, tree: Tree<'_>) -> Result<(), AllocError> {
     match tree {
-        Tree::Numeral(digits) => write_atom(out, b'n', digits)?,
-        Tree::Decimal(text) => write_atom(out, b'd', text)?,
-        Tree::Hex(digits) => write_atom(out, b'x', digits)?,
-        Tree::Bin(digits) => write_atom(out, b'b', digits)?,
-        Tree::Text(bytes) => write_atom(out, b't', bytes)?,
-        Tree::Symbol(name) => write_atom(out, b's', name)?,
-        Tree::Keyword(name) => write_atom(out, b'k', name)?,
-        Tree::Reserved(word) => write_word(out, word)?,
+        Tree::Numeral(digits) => write_atom(out, b'n', digits),
+        Tree::Decimal(text) => write_atom(out, b'd', text),
+        Tree::Hex(digits) => write_atom(out, b'x', digits),
+        Tree::Bin(digits) => write_atom(out, b'b', digits),
+        Tree::Text(bytes) => write_atom(out, b't', bytes),
+        Tree::Symbol(name) => write_atom(out, b's', name),
+        Tree::Keyword(name) => write_atom(out, b'k', name),
+        Tree::Reserved(word) => write_word(out, word),
         Tree::List(parts) => {
             out.extend_from_slice(b"( ")?;
             write_trees(out, parts)?;
             out.extend_from_slice(b") ")?;
+            Ok(())
         }
     }
+}
+
+#[cycle(write)]
+fn write_trees(out: &mut Vec<u8>, trees: Trees<'_>) -> Result<(), AllocError> {
+    let Some((tree, rest)) = trees.split_first() else {
+        return Ok(());
+    };
+    write_tree(out, tree)?;
     write_trees(out, rest)
 }
 

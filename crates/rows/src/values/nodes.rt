@@ -6,17 +6,16 @@ ghost use Rattle.smt_eval.specs.Interpretation.{Fits, KnowsCosts};
 ghost use Rattle.smt_terms.specs.Library.{IsTerm, StandsFor};
 ghost use Rattle.smt_terms.specs.Signature.{Signature};
 
-use crate::trees::flaw_of;
+use crate::trees::{flaw_of, parts};
 use anyhow::{Result, bail};
 use smt_eval::{Checked, Closed, Interpretation, cost};
 use smt_faults::TermFlaw;
 use smt_forms::{item_form, params_of};
 use smt_terms::laws::held_terms_are_terms;
 use smt_terms::{Library, TermId};
-use smt_trees::Bytes;
-use smt_trees::view::{Tree, Trees};
+use smt_trees::{OwnedTree, Tape, Tree, Trees};
 use smt_values::Value;
-use std::alloc::{AllocError, Global};
+use std::alloc::Global;
 
 /// Declares each name that a model defines. The number of its command is its place in the model, from 1.
 pub(crate) fn declare_items(alloc: Global, script: &mut Library, model: Trees<'_>) -> Result<()>
@@ -41,49 +40,23 @@ fn declare_item(alloc: Global, script: &mut Library, command: u64, item: Tree<'_
         bail!("an item of the model is no definition");
     };
     let sorts = sorts_of(alloc, form.parameters)?;
-    match script.declare(command, form.name, Trees::of(sorts.as_slice()), form.sort) {
+    match script.declare(command, form.name, parts(&sorts), form.sort) {
         Ok(()) => Ok(()),
         Err(_) => bail!("a name that the model defines can't be declared"),
     }
 }
 
-// Copies of the trees of the sorts of parameters.
-fn sorts_of(alloc: Global, parameters: Trees<'_>) -> Result<Vec<smt_trees::Tree>> {
+// A list with copies of the sorts of parameters.
+fn sorts_of(alloc: Global, parameters: Trees<'_>) -> Result<OwnedTree> {
     let Ok(params) = params_of(alloc, parameters) else {
         bail!("out of memory");
     };
-    let mut sorts = Vec::new(alloc);
+    let mut sorts = Tape::new(alloc);
+    sorts.begin_list()?;
     for param in &params {
-        sorts.push(copy_of(alloc, param.sort)?)?;
+        sorts.add_tree(param.sort)?;
     }
-    Ok(sorts)
-}
-
-// A copy of a tree, with memory of its own.
-#[cycle(copy)]
-fn copy_of(alloc: Global, tree: Tree<'_>) -> Result<smt_trees::Tree, AllocError> {
-    Ok(match tree {
-        Tree::Numeral(digits) => smt_trees::Tree::Numeral(Bytes::new(alloc, digits)?),
-        Tree::Decimal(text) => smt_trees::Tree::Decimal(Bytes::new(alloc, text)?),
-        Tree::Hex(digits) => smt_trees::Tree::Hex(Bytes::new(alloc, digits)?),
-        Tree::Bin(digits) => smt_trees::Tree::Bin(Bytes::new(alloc, digits)?),
-        Tree::Text(bytes) => smt_trees::Tree::Text(Bytes::new(alloc, bytes)?),
-        Tree::Symbol(name) => smt_trees::Tree::Symbol(Bytes::new(alloc, name)?),
-        Tree::Reserved(word) => smt_trees::Tree::Reserved(word),
-        Tree::Keyword(name) => smt_trees::Tree::Keyword(Bytes::new(alloc, name)?),
-        Tree::List(parts) => smt_trees::Tree::List(copies_of(alloc, parts)?),
-    })
-}
-
-#[cycle(copy)]
-fn copies_of(alloc: Global, trees: Trees<'_>) -> Result<smt_trees::Trees, AllocError> {
-    let mut copies = Vec::new(alloc);
-    let mut left = trees;
-    while let Some((tree, rest)) = left.split_first() {
-        copies.push(copy_of(alloc, tree)?)?;
-        left = rest;
-    }
-    Ok(smt_trees::Trees::new(copies))
+    Ok(sorts.take(alloc)?)
 }
 
 /// The known value of a term, found by its node over a model that is read after the term; or the flaw of the term.

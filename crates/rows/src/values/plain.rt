@@ -4,7 +4,7 @@ use smt_eval::Memory;
 use smt_eval::plain::Definition;
 use smt_forms::{ItemForm, item_form};
 use smt_terms::{Definition as Defined, Library};
-use smt_trees::view::Trees;
+use smt_trees::Trees;
 use std::alloc::Global;
 
 /// The definitions of a model with their bodies as trees, which a library of them does not keep.

@@ -1,7 +1,7 @@
 -- What the code knows of an answer, told of its tree.
 use Rattle.std.specs.Prelude.{◌≡◌, Bool, true, false, not, ◌||◌, Option, Some, None, codes, if◌then◌else◌}
 use Rattle.smt_trees.specs.Sexp.{Sexp, is_symbol}
-use Rattle.smt_trees.specs.Tree.{sexp_of}
+use Rattle.smt_trees.specs.Owned.{sexp_of}
 use Rattle.smt_dialogue.specs.Answers.{is_error, is_list, is_text}
 use Rattle.smt_dialogue.specs.declared.answer.Answer.{Answer}
 use Rattle.smt_dialogue.specs.declared.answer.Answer.TheVariants as says

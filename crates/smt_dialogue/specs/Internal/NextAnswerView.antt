@@ -1,8 +1,8 @@
 -- What a command takes of the answers so far, and what it leaves.
 use Rattle.std.specs.Prelude.{◌≡◌, ℕ, List, Option, Some, None, option_map, true, false}
 use Rattle.smt_trees.specs.Sexp.{Sexps, Cons}
-use Rattle.smt_trees.specs.Tree.{sexp_of}
-use Rattle.smt_trees.specs.declared.tree.Tree.{Tree}
+use Rattle.smt_trees.specs.Owned.{sexp_of}
+use Rattle.smt_trees.specs.declared.owned.OwnedTree.{OwnedTree}
 use Rattle.smt_dialogue.specs.Answers as answers
 use Rattle.smt_dialogue.specs.Answers.{has_form, taken}
 use Rattle.smt_dialogue.specs.FirstFault.{TextSoFar, is_over}
@@ -43,10 +43,10 @@ pub record IsTaken (answering : NextAnswer) (need : Need) (text : TextSoFar) (re
   pub left_is : IsLeft answering text rest left
 
 -- the answer that stood ready was taken, which has this form; or it has another
-abbrev pub IsFound : AnswerForm → Option TakenAnswer → Option Tree → TextSoFar → Sexps → List ℕ → TreeQueue
+abbrev pub IsFound : AnswerForm → Option TakenAnswer → Option OwnedTree → TextSoFar → Sexps → List ℕ → TreeQueue
     → Type 0
 IsFound form (Some answer) next text rest bytes front =
     (next ≡ Some answer.tree) × (has_form form (tree_of answer) ≡ true)
     × ((later : Sexps) → rest ≡ Cons (tree_of answer) later → HasQueue front bytes text later)
 IsFound form None next text rest bytes front =
-    ((tree : Tree) → next ≡ Some tree → has_form form (sexp_of tree) ≡ false) × HasQueue front bytes text rest
+    ((tree : OwnedTree) → next ≡ Some tree → has_form form (sexp_of tree) ≡ false) × HasQueue front bytes text rest

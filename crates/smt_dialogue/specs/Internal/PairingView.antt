@@ -7,8 +7,8 @@ use Rattle.smt_text.specs.Grammar.{max_depth}
 use Rattle.smt_text.specs.Reader.{bytes_fed}
 use Rattle.smt_text.specs.Reading.{Reads}
 use Rattle.smt_trees.specs.Sexp.{Sexps, Nil, Cons, count}
-use Rattle.smt_trees.specs.Tree.{sexp_of}
-use Rattle.smt_trees.specs.declared.tree.Tree.{Tree}
+use Rattle.smt_trees.specs.Owned.{sexp_of}
+use Rattle.smt_trees.specs.declared.owned.OwnedTree.{OwnedTree}
 use Rattle.smt_theory.specs.declared.profile.Profile.{Profile}
 use Rattle.smt_script.specs.Command.{Command, command_of, is_check}
 use Rattle.smt_script.specs.StackView.{profile_of, start_of}
@@ -58,14 +58,14 @@ abbrev pub queue_at : Side → Pairing → TreeQueue
 queue_at side x = of_side side x.script x.answers
 
 -- the tree in turn, if there is one, is the first of the trees that are left, and a command; no `exit` came before it
-abbrev pub IsInTurn : Profile → Option Tree → List Pair → (later left : Sexps) → Type 0
+abbrev pub IsInTurn : Profile → Option OwnedTree → List Pair → (later left : Sexps) → Type 0
 IsInTurn profile None pairs later left = later ≡ left
 IsInTurn profile (Some tree) pairs later left =
     (command : Command) × (later ≡ Cons (sexp_of tree) left) × (command_of profile (sexp_of tree) ≡ Ok command)
     × (has_exited_after pairs ≡ false)
 
 -- what comes next closes every window: the command in turn is a check, or no command comes
-abbrev pub IsClosing : Profile → Option Tree → Texts → Sexps → Type 0
+abbrev pub IsClosing : Profile → Option OwnedTree → Texts → Sexps → Type 0
 IsClosing profile (Some tree) texts later =
     (command : Command) → command_of profile (sexp_of tree) ≡ Ok command → is_check command ≡ true
 IsClosing profile None texts later = (later ≡ Nil) × (texts.script.fault ≡ None) × (texts.script.told ≡ true)

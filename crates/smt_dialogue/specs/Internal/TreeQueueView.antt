@@ -5,8 +5,8 @@ use Rattle.smt_text.specs.Reader as readers
 use Rattle.smt_text.specs.Reader.{is_finished}
 use Rattle.smt_text.specs.Reading.{Reads}
 use Rattle.smt_trees.specs.Sexp.{Sexps, Nil, Cons, append}
-use Rattle.smt_trees.specs.Tree.{sexp_of}
-use Rattle.smt_trees.specs.declared.tree.Tree.{Tree}
+use Rattle.smt_trees.specs.Owned.{sexp_of}
+use Rattle.smt_trees.specs.declared.owned.OwnedTree.{OwnedTree}
 use Rattle.smt_dialogue.specs.FirstFault.{TextSoFar, is_over}
 use Rattle.smt_dialogue.specs.Report.{IsRead}
 use Rattle.smt_dialogue.specs.SoFar.{IsGrown}
@@ -14,7 +14,7 @@ use Rattle.smt_dialogue.specs.declared.tree_queue.Ahead.{Ahead}
 use Rattle.smt_dialogue.specs.declared.tree_queue.Ahead.TheVariants as comes
 use Rattle.smt_dialogue.specs.declared.tree_queue.TreeQueue.{TreeQueue}
 
-abbrev pub next_trees : Option Tree → Sexps
+abbrev pub next_trees : Option OwnedTree → Sexps
 next_trees None = Nil
 next_trees (Some tree) = Cons (sexp_of tree) Nil
 
@@ -36,8 +36,8 @@ GoesOnFrom f g bytes told more =
     → (s : IsGrown text grown) × HasQueue g more grown (append rest s.later)
 
 -- what comes next, where these trees are left: the first of them, which was looked at, or none
-abbrev pub IsAhead : Ahead → Option Tree → TextSoFar → Sexps → Type 0
+abbrev pub IsAhead : Ahead → Option OwnedTree → TextSoFar → Sexps → Type 0
 IsAhead comes.Tree next text rest =
-    (tree : Tree) × (later : Sexps) × (next ≡ Some tree) × (rest ≡ Cons (sexp_of tree) later)
+    (tree : OwnedTree) × (later : Sexps) × (next ≡ Some tree) × (rest ≡ Cons (sexp_of tree) later)
 IsAhead comes.Wait next text rest = (rest ≡ Nil) × (is_over text ≡ false)
 IsAhead (comes.End fault) next text rest = (rest ≡ Nil) × (text.fault ≡ fault) × (is_over text ≡ true)

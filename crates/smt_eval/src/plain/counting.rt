@@ -14,8 +14,7 @@ use smt_faults::Memory;
 use smt_forms::{Identifier, applied_identifier, split_let, split_named};
 use smt_terms::TermFault;
 use smt_theory::Sort;
-use smt_trees::Word;
-use smt_trees::view::{Tree, Trees};
+use smt_trees::{Tree, Trees, Word};
 use std::alloc::Global;
 
 /// Subtracts from `left` what a term costs over the definitions that it sees. The variables have these names.

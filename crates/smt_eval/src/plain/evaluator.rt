@@ -16,8 +16,7 @@ use smt_forms::{
     Variable, applied_identifier, find_variable, indexed_identifier, split_let, split_named,
 };
 use smt_terms::TermFault;
-use smt_trees::Word;
-use smt_trees::view::{Tree, Trees};
+use smt_trees::{Tree, Trees, Word};
 use smt_values::{Value, bin, hex, numeral};
 
 /// What is known of a term over the definitions that it sees. The variables have these values, the innermost

@@ -9,7 +9,7 @@ ghost use Rattle.smt_script.specs.CommandView.{levels_in};
 ghost use Rattle.smt_script.specs.Parts as shapes;
 
 use smt_forms::are_named;
-use smt_trees::view::{Tree, Trees};
+use smt_trees::{Tree, Trees};
 
 pub(crate) fn one_symbol(parts: Trees<'_>) -> Option<&[u8]>
     ensures { option_map (λ x. x.now) result ≡ shapes.one_symbol (sexps_of parts.entry) }

@@ -30,7 +30,7 @@ use smt_forms::params_of;
 use smt_terms::laws::{marks_are_kept, terms_are_kept};
 use smt_terms::{Library, TermId};
 use smt_theory::{Sort, theories_of};
-use smt_trees::view::{Tree, Trees};
+use smt_trees::{Tree, Trees};
 use std::alloc::Global;
 
 // What a mark counts, and what each term is, stays the same when the contents grow.
@@ -92,7 +92,7 @@ impl Stack {
                 body,
             } => self.define(*name, *params, *sort, *body),
             Command::DefineConst { name, sort, body } => {
-                self.define(*name, Trees::of(&[]), *sort, *body)
+                self.define(*name, Trees::empty(), *sort, *body)
             }
             Command::DefineSort { name, sort } => self.define_sort(*name, *sort),
             Command::Assert { term } => self.assert(number, *term),
@@ -210,7 +210,7 @@ impl Stack {
         ensures grown { Extends (contents_of self.old.library) (contents_of self.new.library) }
     {
         contents_are_kept();
-        Ok(self.library.declare(number, name, Trees::of(&[]), sort)?)
+        Ok(self.library.declare(number, name, Trees::empty(), sort)?)
     }
 
     fn declare_fun(

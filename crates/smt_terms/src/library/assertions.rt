@@ -22,7 +22,7 @@ use crate::sorts::are_equal;
 use smt_faults::{Memory, TermFault};
 use smt_nodes::TermId;
 use smt_theory::Sort;
-use smt_trees::view::Tree;
+use smt_trees::Tree;
 
 impl Library {
     /// Checks a term that is asserted, and adds the labels in it as names of their terms (SMT-LIB 2.6, sections 3.6.5

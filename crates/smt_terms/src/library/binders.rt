@@ -30,7 +30,7 @@ use smt_faults::TermFault;
 use smt_forms::{NameSet, Variable, are_attributes, are_named, label_at, split_let, split_named};
 use smt_nodes::{Node, TermId};
 use smt_theory::Sort;
-use smt_trees::view::{Tree, Trees};
+use smt_trees::{Tree, Trees};
 
 impl Library {
     // The sort and the node of a `let`, by the trees after its word (SMT-LIB 2.6, section 3.6.1). Its variables come

@@ -35,7 +35,7 @@ use smt_forms::{
 };
 use smt_nodes::{Node, Nodes, TermId};
 use smt_theory::{Op, OpFault, Sort, Width, op_of, plain_op_of, plain_rank, rank};
-use smt_trees::view::{Tree, Trees};
+use smt_trees::{Tree, Trees};
 
 impl Library {
     /// The sort and the node of a term over these names and the variables that it sees, or its first fault. Unless it

@@ -28,7 +28,7 @@ use smt_faults::{Memory, TermFault};
 use smt_forms::{Param, Variable};
 use smt_nodes::TermId;
 use smt_theory::Sort;
-use smt_trees::view::Tree;
+use smt_trees::Tree;
 
 impl Library {
     /// Defines a name by its parameters, the tree of its sort, and its body (SMT-LIB 2.6, section 4.2.3). The body

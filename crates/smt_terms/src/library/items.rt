@@ -24,7 +24,7 @@ use crate::sorts::are_equal;
 use smt_faults::{Memory, TermFault};
 use smt_forms::{ItemForm, Variable, item_form};
 use smt_theory::Sort;
-use smt_trees::view::Tree;
+use smt_trees::Tree;
 
 impl Library {
     /// A library for the items of a model of these names (SMT-LIB 2.6, section 4.2.6). It has the theories of this

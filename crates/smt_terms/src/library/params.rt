@@ -14,7 +14,7 @@ use crate::sorts::SortNames;
 use smt_faults::{Memory, TermFault};
 use smt_forms::{NameSet, Param, Variable, params_of};
 use smt_theory::Sort;
-use smt_trees::view::Trees;
+use smt_trees::Trees;
 use std::alloc::Global;
 
 // The parameters as variables with their sorts, or the first fault. Of each parameter the sort is checked first,

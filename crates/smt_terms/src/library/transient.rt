@@ -19,7 +19,7 @@ use crate::library::draft::Draft;
 use smt_faults::TermFault;
 use smt_nodes::{Nodes, TermId};
 use smt_theory::Sort;
-use smt_trees::view::Tree;
+use smt_trees::Tree;
 use std::mem;
 
 impl Library {

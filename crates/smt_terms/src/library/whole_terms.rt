@@ -23,7 +23,7 @@ use smt_faults::TermFault;
 use smt_forms::Variable;
 use smt_nodes::Nodes;
 use smt_theory::Sort;
-use smt_trees::view::Tree;
+use smt_trees::Tree;
 use std::mem;
 
 impl Library {

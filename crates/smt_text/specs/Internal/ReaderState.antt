@@ -1,5 +1,5 @@
 -- The state that a reader's value is.
-use Rattle.std.specs.Prelude.{◌≡◌, ◌<◌, ◌≤◌, ◌+◌, ◌⊎◌, ℕ, length, take, reverse, get_or, List, []}
+use Rattle.std.specs.Prelude.{◌≡◌, ◌<◌, ◌≤◌, ◌+◌, ◌⊎◌, ℕ, length, take, get_or, List, []}
 use Rattle.std.specs.Prelude.{Bool, true, false, Option, Some, None, Result, Ok, Err}
 use Rattle.smt_faults.specs.declared.failure.Failure.{Failure}
 use Rattle.smt_faults.specs.declared.failure.Failure.TheVariants.{Fault, Memory}
@@ -7,21 +7,20 @@ use Rattle.smt_faults.specs.declared.text_flaw.TextFlaw.{TextFlaw}
 use Rattle.smt_faults.specs.declared.text_flaw.TextFlaw.TheVariants.{End}
 use Rattle.smt_text.specs.declared.refusal.Refusal.{Refusal}
 use Rattle.smt_text.specs.declared.reader.TheConstants.{MAX_DEPTH}
-use Rattle.smt_text.specs.Internal.OpenLists.{lists_of}
 use Rattle.smt_text.specs.Internal.LexerStates.{Leaves, Levels, On, State, At, blame, depth_in, finished, lex}
 use Rattle.smt_text.specs.Internal.LexerStates.{levels_in, may_end, refusal_of, run, separated, step, token_in}
 use Rattle.smt_text.specs.Lexical.{ends_token}
 use Rattle.smt_text.specs.declared.lexer.AtomState.{AtomState}
 use Rattle.smt_text.specs.declared.lexer.LexerStep.TheVariants.{Push}
 use Rattle.smt_trees.specs.Sexp.{Sexps, append}
-use Rattle.smt_trees.specs.Tree.{sexps_of}
+use Rattle.smt_trees.specs.Owned.{sexps_of}
+use Rattle.smt_trees.specs.TapeView.{lists_of}
 use Rattle.smt_text.specs.declared.lexer.AtomState.TheVariants.{Nothing}
 use Rattle.smt_text.specs.declared.builder.Builder.{Builder}
 use Rattle.smt_text.specs.declared.reader.Reader.{Reader}
 
 abbrev pub levels_of : Builder → Levels
-levels_of builder =
-    On (lists_of builder.parts.items (reverse builder.begins.items)) (sexps_of builder.ready.items)
+levels_of builder = On (lists_of builder.list) (sexps_of builder.ready.items)
 
 abbrev pub state_of : Reader → State
 state_of reader = At reader.token reader.bytes.items (levels_of reader.builder)

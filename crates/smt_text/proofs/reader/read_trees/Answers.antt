@@ -1,8 +1,8 @@
 use Rattle.std.proofs.Common.{◌≡◌, [], ◌∷◌, ap, subst, sym, ◌∙◌}
-use Rattle.smt_trees.specs.TreeJoins.{sexps_of-append}
+use Rattle.smt_trees.specs.OwnedJoins.{sexps_of-append}
 use Rattle.smt_text.specs.Reader.{StandsFor}
 use Rattle.smt_trees.specs.Sexp.{Sexps, Nil, Cons, append}
-use Rattle.smt_trees.specs.Tree.{sexp_of, sexps_of}
+use Rattle.smt_trees.specs.Owned.{sexp_of, sexps_of}
 use Rattle.smt_text.proofs.reader.read_trees.Goals as goal
 
 pub loop-tree-preserved : goal.loop-tree-preserved

@@ -1,7 +1,7 @@
 -- the reader stands for the whole text and the trees so far
 use Rattle.std.proofs.Common.{◌≡◌, true}
 use Rattle.smt_text.specs.Reader.{StandsFor, is_finished, trees_waiting}
-use Rattle.smt_trees.specs.Tree.{sexps_of}
+use Rattle.smt_trees.specs.Owned.{sexps_of}
 use Rattle.smt_text.proofs.reader.read_trees.Given as goal
 
 abbrev pub invariant-loop-tree : goal.invariant-loop-tree

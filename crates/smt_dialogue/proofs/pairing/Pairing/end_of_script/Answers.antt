@@ -6,7 +6,7 @@ use Rattle.smt_dialogue.specs.declared.tree_queue.Ahead.{Ahead}
 use Rattle.smt_dialogue.specs.declared.tree_queue.Ahead.TheVariants.{End}
 use Rattle.std.proofs.Common.{arith}
 use Rattle.smt_dialogue.proofs.AdvanceLemmas.{room_for_answer}
-use Rattle.smt_trees.specs.Tree.{sexp_of}
+use Rattle.smt_trees.specs.Owned.{sexp_of}
 use Rattle.smt_dialogue.proofs.pairing.Pairing.end_of_script.Goals as goal
 
 pub returns-in-Tree-clause-turn : goal.returns-in-Tree-clause-turn

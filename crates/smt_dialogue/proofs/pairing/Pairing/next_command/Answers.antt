@@ -1,5 +1,5 @@
 use Rattle.std.proofs.Common.{◌∙◌, ap, arith, refl, subst}
-use Rattle.smt_trees.specs.Tree.{sexp_of}
+use Rattle.smt_trees.specs.Owned.{sexp_of}
 use Rattle.smt_dialogue.proofs.AdvanceLemmas.{room_for_one}
 use Rattle.smt_dialogue.proofs.PairingLemmas.{is_ready, looked, next_behind, no_command, script_fault, script_left}
 use Rattle.smt_dialogue.proofs.PairingLemmas.{script_told, script_waits, turned_behind}

@@ -1,5 +1,5 @@
 use Rattle.std.proofs.Common.{◌≡◌, ◌∙◌, ap, arith, false, is_some, refl, subst, sym, true}
-use Rattle.smt_trees.specs.Tree.{sexp_of}
+use Rattle.smt_trees.specs.Owned.{sexp_of}
 use Rattle.smt_trees.specs.View as view
 use Rattle.smt_script.specs.CommandView.{command_view}
 use Rattle.smt_script.specs.StackView.{profile_of}
@@ -27,10 +27,10 @@ unreachable-requires-in_default-read_command c =
     let h = (next_there c.in_ok-instead.field-0 c.args.self.now m way.0 way.1 way.2 way.3 c.in_default.is
     c.in_ok-instead.ensures.next way.4).0 in
     let turn = subst (λ o. IsInTurn (profile_of m.dialogue.stack) o way.1 way.2 h.left) c.in-Some-command.is h.in_turn in
-    unread c.read_command.result c.profile.result (view.sexp_of c.view_of.result) turn.0
+    unread c.read_command.result c.profile.result (view.sexp_of c.view.result) turn.0
     c.in_default-read_command.not-Ok c.read_command.ensures
-    (read_again c.profile.result (profile_of m.dialogue.stack) (view.sexp_of c.view_of.result)
-    (sexp_of c.in-Some-command.tree) _ (sym c.profile.ensures) (sym c.view_of.ensures) turn.2)
+    (read_again c.profile.result (profile_of m.dialogue.stack) (view.sexp_of c.view.result)
+    (sexp_of c.in-Some-command.tree) _ (sym c.profile.ensures) (sym c.view.ensures) turn.2)
 
 pub take_up-requires-clause-commands : goal.take_up-requires-clause-commands
 take_up-requires-clause-commands c =
@@ -86,7 +86,7 @@ take_up-requires-clause-stands c =
       h.stands,
       λ e. subst (λ o. IsClosing (profile_of c.next_command.new.self.dialogue.stack) o way.0 way.2) c.in-Some-command.is (h.closing e)
           (command_view c.in-Ok.command) (read_again (profile_of c.next_command.new.self.dialogue.stack) c.profile.result (sexp_of c.in-Some-command.tree)
-          (view.sexp_of c.view_of.result) _ c.profile.ensures c.view_of.ensures c.in-Ok.ensures),
+          (view.sexp_of c.view.result) _ c.profile.ensures c.view.ensures c.in-Ok.ensures),
     )
 
 pub take_up-requires-clause-front : goal.take_up-requires-clause-front
@@ -110,7 +110,7 @@ returns-in-GoesOn-clause-turn c = λ texts pairs later rest way.
     turned_behind c.in_ok-turn.turn c.args.self.now m _ texts pairs later rest c.next_command.ensures.dialogue
     (taken_up c.in_ok-turn.turn m _ texts pairs later rest c.in-Some-command.tree (command_view c.in-Ok.command) c.in-Some-command.is
     (read_again (profile_of m.dialogue.stack) c.profile.result (sexp_of c.in-Some-command.tree)
-    (view.sexp_of c.view_of.result) _ c.profile.ensures c.view_of.ensures c.in-Ok.ensures) refl
+    (view.sexp_of c.view.result) _ c.profile.ensures c.view.ensures c.in-Ok.ensures) refl
     c.in_ok-turn.ensures.start (λ e. refl) (λ closed e. absurd (cc))
     (λ early stands check. c.in_ok-turn.ensures.turn texts.answers_bytes texts.answers rest texts.taken early pairs h.answers_front
     stands check) h)
@@ -123,7 +123,7 @@ returns-in_default-turn-clause-turn c = λ texts pairs later rest way.
     turned_behind c.in_ok-turn.turn c.args.self.now m _ texts pairs later rest c.next_command.ensures.dialogue
     (taken_up c.in_ok-turn.turn m _ texts pairs later rest c.in-Some-command.tree (command_view c.in-Ok.command) c.in-Some-command.is
     (read_again (profile_of m.dialogue.stack) c.profile.result (sexp_of c.in-Some-command.tree)
-    (view.sexp_of c.view_of.result) _ c.profile.ensures c.view_of.ensures c.in-Ok.ensures) refl
+    (view.sexp_of c.view.result) _ c.profile.ensures c.view.ensures c.in-Ok.ensures) refl
     c.in_ok-turn.ensures.start (λ e. absurd (c.in_default-turn.not-GoesOn e)) (λ closed e. c.in-Some-command.is)
     (λ early stands check. c.in_ok-turn.ensures.turn texts.answers_bytes texts.answers rest texts.taken early pairs h.answers_front
     stands check) h)

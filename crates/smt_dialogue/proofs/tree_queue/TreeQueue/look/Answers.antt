@@ -1,6 +1,6 @@
 use Rattle.std.proofs.Common.{◌∙◌, None, Some, false, refl, sym, true}
 use Rattle.smt_dialogue.proofs.TreeQueueLemmas.{ended_text, faulty_text, looked_none, looked_tree, none_there}
-use Rattle.smt_dialogue.proofs.TreeQueueLemmas.{open_text, reads_at, stands_open}
+use Rattle.smt_dialogue.proofs.TreeQueueLemmas.{open_text, reads_at, stands_open, stands_ready}
 use Rattle.smt_text.specs.Reader.{is_finished}
 use Rattle.smt_dialogue.proofs.tree_queue.TreeQueue.look.Goals as goal
 
@@ -42,3 +42,7 @@ returns-in-Some-clause-ahead c = λ bytes text rest h.
     (λ fed taken s. c.in-Fault.ensures.right fed taken s c.in-Some.flaw (sym c.in-Some.ensures))
     c.in-Fault.ensures.stands h in
     (found.0, (found.1, found.2, faulty_text text c.in-Some.flaw found.2))
+
+pub returns-then-is_some-clause-ahead : goal.returns-then-is_some-clause-ahead
+returns-then-is_some-clause-ahead c = λ bytes text rest h.
+    (h, stands_ready c.args.self.now bytes text rest (sym (sym c.is_some.ensures ∙ c.if-is_some.true)) h)

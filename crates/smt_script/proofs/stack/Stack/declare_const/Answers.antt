@@ -18,7 +18,7 @@ returns-in_err-declare-clause-refused c =
     (λ cs h.
     let s = signature_in_force (profile_of c.args.self.now) cs in
     refused_by (declared_in s c.args.number name Nil sort) c.in_err-declare.field-0.0 p.0 p.2
-    (subst (λ ps. Tells (declared_in s c.args.number name ps sort) c.in_err-declare.field-0.0) c.of.ensures
+    (subst (λ ps. Tells (declared_in s c.args.number name ps sort) c.in_err-declare.field-0.0) c.empty.ensures
     (c.in_err-declare.ensures.refused s h.library)))
 
 pub returns-in_err-declare-clause-unchanged : goal.returns-in_err-declare-clause-unchanged
@@ -32,4 +32,4 @@ returns-clause-effect c =
     declare_const_effect c.contents_are_kept.ensures c.args.self.now c.declare.new.self c.args.number
     c.args.name.now (sexp_of c.args.sort)
     (subst (λ ps. DeclaresIn c.args.self.now.library c.declare.new.self c.args.number c.args.name.now ps
-    (sexp_of c.args.sort)) c.of.ensures c.in_ok-declare.ensures.declared) c.in_ok-declare.ensures.grown
+    (sexp_of c.args.sort)) c.empty.ensures c.in_ok-declare.ensures.declared) c.in_ok-declare.ensures.grown

@@ -68,21 +68,22 @@ returns-in-DefineFun-clause-refused c =
 
 pub returns-in-DefineConst-clause-effect : goal.returns-in-DefineConst-clause-effect
 returns-in-DefineConst-clause-effect c =
-    effect_at c.define-in-DefineConst.result c.args.self.now c.define-in-DefineConst.new.self (DefineFun c.in-DefineConst.name.now (named_trees (sexps_of c.of.result)) (sexp_of c.in-DefineConst.sort)
+    effect_at c.define-in-DefineConst.result c.args.self.now c.define-in-DefineConst.new.self
+    (DefineFun c.in-DefineConst.name.now (named_trees (sexps_of c.empty.result)) (sexp_of c.in-DefineConst.sort)
     (sexp_of c.in-DefineConst.body))
     (command_view c.args.command.now) c.args.number
     (ap command_view c.in-DefineConst.is
     ∙ ap (λ ps. DefineFun c.in-DefineConst.name.now (named_trees ps) (sexp_of c.in-DefineConst.sort)
-    (sexp_of c.in-DefineConst.body)) (sym c.of.ensures)) c.define-in-DefineConst.ensures.effect
+    (sexp_of c.in-DefineConst.body)) (sym c.empty.ensures)) c.define-in-DefineConst.ensures.effect
 
 pub returns-in-DefineConst-clause-refused : goal.returns-in-DefineConst-clause-refused
 returns-in-DefineConst-clause-refused c =
-    refused_at c.define-in-DefineConst.result c.args.self.now (DefineFun c.in-DefineConst.name.now (named_trees (sexps_of c.of.result)) (sexp_of c.in-DefineConst.sort)
+    refused_at c.define-in-DefineConst.result c.args.self.now (DefineFun c.in-DefineConst.name.now (named_trees (sexps_of c.empty.result)) (sexp_of c.in-DefineConst.sort)
     (sexp_of c.in-DefineConst.body))
     (command_view c.args.command.now) c.args.number
     (ap command_view c.in-DefineConst.is
     ∙ ap (λ ps. DefineFun c.in-DefineConst.name.now (named_trees ps) (sexp_of c.in-DefineConst.sort)
-    (sexp_of c.in-DefineConst.body)) (sym c.of.ensures)) c.define-in-DefineConst.ensures.refused
+    (sexp_of c.in-DefineConst.body)) (sym c.empty.ensures)) c.define-in-DefineConst.ensures.refused
 
 pub returns-in-DefineSort-clause-effect : goal.returns-in-DefineSort-clause-effect
 returns-in-DefineSort-clause-effect c =

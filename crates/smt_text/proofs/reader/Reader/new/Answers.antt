@@ -8,7 +8,6 @@ use Rattle.smt_text.proofs.reader.Reader.new.Goals as goal
 pub returns-clause-stands : goal.returns-clause-stands
 returns-clause-stands c =
     stands_new (record {
-      alloc = c.args.alloc;
       fed = 0;
       finished = false;
       token = Nothing;

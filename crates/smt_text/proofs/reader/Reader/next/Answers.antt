@@ -1,4 +1,4 @@
-use Rattle.std.proofs.Common.{None, subst, sym, refl, ap}
+use Rattle.std.proofs.Common.{None, subst, sym, refl}
 use Rattle.smt_text.proofs.ReaderLemmas.{answers_none, answers_fault, answers_tree, stands_handed}
 use Rattle.smt_text.specs.Reader.{Answers, is_finished}
 use Rattle.smt_text.specs.Reading.{Reads}
@@ -15,8 +15,7 @@ pub returns-in-Some-clause-stands : goal.returns-in-Some-clause-stands
 returns-in-Some-clause-stands c =
     λ fed taken h. stands_handed c.args.self.now
     (record c.args.self.now { builder = c.hand_out.new.self }) fed taken c.in-Some.tree refl refl refl
-    refl refl (ap (λ v. v.items) c.hand_out.ensures.parts) (ap (λ v. v.items) c.hand_out.ensures.begins)
-    c.in-Some.ensures.first h
+    refl refl c.hand_out.ensures.list c.in-Some.ensures.first h
 
 pub returns-in-Some-failure-clause-right : goal.returns-in-Some-failure-clause-right
 returns-in-Some-failure-clause-right c =

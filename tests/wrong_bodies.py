@@ -1,0 +1,272 @@
+#!/usr/bin/env python3
+"""Tries the wrong bodies of tests/wrong_bodies, of all crates or of those named, and writes what was refused into tests/wrong_bodies/tried.
+
+A wrong body is refused where the check does not prove the function that it changes. Several of a crate are tried in one check where each
+changes a function of its own and none of these functions leads to another by calls: so none is left out because of another. One that is
+not refused there, or that changes a definition, is tried alone, where any function that is not proved refuses it.
+
+Wants a checkout in which `rt ci` has passed, since it uses the libraries that were built there."""
+import collections
+import concurrent.futures
+import glob
+import os
+import re
+import shutil
+import subprocess
+import sys
+import tempfile
+
+TOP = os.path.dirname(os.path.dirname(os.path.abspath(__file__)))
+KIT = os.environ.get('RATTLE_KIT', '/opt/rattle')
+JOBS = int(os.environ.get('RT_JOBS', '2'))
+MOST = 14  # wrong bodies in one check
+FUNCTION = re.compile(r'^( *)(?:pub(?:\([a-z]+\))? )?(?:const )?(?:unsafe )?(?:extern "C" )?fn (\w+)')
+
+
+def read(path):
+    with open(path, encoding='utf-8') as file:
+        return file.read()
+
+
+def libraries():
+    """The libraries of each crate, as crates.txt has them."""
+    found = {}
+    for line in read(f'{TOP}/crates.txt').split('\n'):
+        line = line.split('#')[0].strip()
+        if line:
+            name, uses = line.split(':', 1)
+            found[name.split()[0]] = uses.split()
+    return found
+
+
+USES = libraries()
+
+
+def below(crate):
+    """The crates of this repository that a crate stands on."""
+    found, left = set(), [crate]
+    while left:
+        for used in USES[left.pop()]:
+            if used in USES and used not in found:
+                found.add(used)
+                left.append(used)
+    return sorted(found)
+
+
+def check(crate, folder, only):
+    """The check of some functions of a crate, or of all: its status, what it says of each function, and all that it says."""
+    kit = f'{KIT}/rlibs'
+    root = 'src/lib.rt' if os.path.exists(f'{folder}/src/lib.rt') else 'src/main.rt'
+    command = [f'{KIT}/bin/rattle', 'check', '--crate-name', crate, root, '--extern', f'std={kit}/std.rlib', '-L', f'dependency={kit}']
+    for used in USES[crate]:
+        built = f'{TOP}/crates/{used}/out/rlib/{used}.rlib' if used in USES else f'{kit}/{used}.rlib'
+        command += ['--extern', f'{used}={built}']
+    for used in below(crate):
+        command += ['-L', f'dependency={TOP}/crates/{used}/out/rlib']
+    command += ['--antt-project', f'{KIT}/rattle/logic/antt-project.json', '--logic-built', f'{KIT}/logic_built']
+    command += ['--links', f'{crate}=', '--jobs', '1']
+    for function in only:
+        command += ['--only', function]
+    ran = subprocess.run(command, cwd=folder, capture_output=True, text=True)
+    said = ran.stdout + ran.stderr
+    return ran.returncode, dict(re.findall(r'^fn (\S+): (.*)$', said, flags=re.M)), said
+
+
+def is_refused(said):
+    """Whether a function was tried and not proved; None where it was not tried."""
+    if said is None or re.match(r'(no proof: it calls|not proved; it calls)', said) or 'did not admit' in said:
+        return None
+    return not re.match(r'(proved|no holes)', said)
+
+
+def functions_of(path):
+    """The functions of a source file: where each begins and ends, its name, and the head of its impl."""
+    lines = read(path).split('\n')
+    places, place = [], 0
+    for line in lines:
+        places.append(place)
+        place += len(line) + 1
+    found, head = [], None
+    for i, line in enumerate(lines):
+        if re.match(r'^(impl\b|(pub )?trait\b)', line):
+            head = line
+        if line == '}':
+            head = None
+        match = FUNCTION.match(line)
+        if not match:
+            continue
+        indent, first, last = match.group(1), i, i
+        while last < len(lines) - 1 and not re.match(rf'^{indent}(\S.*)?\}}$', lines[last]):
+            last += 1
+        while first > 0 and re.match(r'^ *(#\[|//)', lines[first - 1]):
+            first -= 1
+        found.append((places[first], places[last] + len(lines[last]), match.group(2), head if indent else None))
+    return found
+
+
+def full_name(crate, file, name, head):
+    """The name by which the check speaks of a function, or a guess at it: what is not found is tried alone."""
+    module = file[len('src/'):-len('.rt')].replace('/', '::')
+    names = [crate] + ([] if module in ('lib', 'main') else [module])
+    if head:
+        plain = re.sub(r'<[^<>]*>', '', re.sub(r'<[^<>]*>', '', head))
+        match = re.match(r'^impl\s*(?:([\w:]+) for )?&?([\w:]+)', plain) or re.match(r'^(?:pub )?()trait (\w+)', plain)
+        names.append(match.group(2).split('::')[-1] + (match.group(1) or '').split('::')[-1])
+    return '::'.join(names + [name])
+
+
+class Edit:
+    """A wrong body: the texts that it changes, and the function that it changes, if that is one."""
+
+    def __init__(self, path, crate, functions):
+        self.name = os.path.basename(path)[:-len('.edit')]
+        self.pairs, self.spans, self.function, self.full = [], [], None, None
+        file = old = None
+        for line in read(path).split('\n'):
+            if line.startswith('file: '):
+                file = line[6:].strip()
+            elif line.startswith('old: '):
+                old = line[5:]
+            elif line.startswith('new: '):
+                self.pairs.append((file, old, line[5:]))
+        found = set()
+        for file, old, new in self.pairs:
+            text = read(f'{TOP}/crates/{crate}/{file}')
+            start = text.find(old)
+            if text.count(old) == 1:
+                self.spans.append((file, start, start + len(old), new))
+            found |= {(file, name, head) for first, last, name, head in functions.get(file, []) if first <= start <= last} or {None}
+        if len(found) == 1 and None not in found and len(self.spans) == len(self.pairs):
+            file, self.function, head = found.pop()
+            self.full = full_name(crate, file, self.function, head)
+
+    def overlaps(self, other):
+        return any(a == b and not (d <= e or f <= c) for a, c, d, _ in self.spans for b, e, f, _ in other.spans)
+
+
+def changed(crate, edits, folder):
+    """Copies a crate, with these changes; whether each text to change was there once."""
+    shutil.copytree(f'{TOP}/crates/{crate}', folder, ignore=shutil.ignore_patterns('out', 'must-fail'))
+    if len(edits) == 1:
+        for file, old, new in edits[0].pairs:
+            text = read(f'{folder}/{file}')
+            if text.count(old) != 1:
+                return False
+            write(f'{folder}/{file}', text.replace(old, new))
+        return True
+    spans = sorted((span for edit in edits for span in edit.spans), key=lambda span: -span[1])
+    for file, first, last, new in spans:
+        text = read(f'{folder}/{file}')
+        write(f'{folder}/{file}', text[:first] + new + text[last:])
+    return True
+
+
+def write(path, text):
+    with open(path, 'w', encoding='utf-8') as file:
+        file.write(text)
+
+
+def attempt(crate, edits, only):
+    with tempfile.TemporaryDirectory() as room:
+        folder = f'{room}/{crate}'
+        if not changed(crate, edits, folder):
+            return None
+        return check(crate, folder, only)
+
+
+def alone(crate, edit):
+    """What the check says of one wrong body: that it is refused, or why it is not."""
+    if edit.full:
+        tried = attempt(crate, [edit], [edit.full])
+        if tried and is_refused(tried[1].get(edit.full)):
+            return 'refused'
+    tried = attempt(crate, [edit], [])
+    if tried is None:
+        return 'a text that it changes is not there once'
+    status, functions, said = tried
+    if status == 0:
+        return 'NOT REFUSED'
+    if any(is_refused(of_function) for of_function in functions.values()):
+        return 'refused'
+    return 'did not reach the prover: ' + ' '.join(re.findall(r'.*error.*', said)[:2])
+
+
+def calls_of(functions, crate):
+    """The names that each function leads to by calls, by the words of its body: rather too many than too few."""
+    names = {name for found in functions.values() for _, _, name, _ in found}
+    calls = collections.defaultdict(set)
+    for file, found in functions.items():
+        text = read(f'{TOP}/crates/{crate}/{file}')
+        for first, last, name, _ in found:
+            calls[name] |= names & set(re.findall(r'\w+', text[first:last])) - {name}
+    reached = {}
+    for name in names:
+        seen, left = set(), [name]
+        while left:
+            for called in calls[left.pop()] - seen:
+                seen.add(called)
+                left.append(called)
+        reached[name] = seen
+    return reached
+
+
+def groups_of(edits, reached):
+    """The wrong bodies that go together, as few groups as come by taking each into the first that it fits."""
+    groups = []
+    for edit in edits:
+        for group in groups:
+            if len(group) < MOST and all(
+                    edit.function != other.function and edit.function not in reached[other.function]
+                    and other.function not in reached[edit.function] and not edit.overlaps(other) for other in group):
+                group.append(edit)
+                break
+        else:
+            groups.append([edit])
+    return groups
+
+
+def try_crate(crate):
+    """Tries all wrong bodies of a crate; what became of each."""
+    folder = f'{TOP}/crates/{crate}'
+    functions = {os.path.relpath(path, folder): functions_of(path) for path in glob.glob(f'{folder}/src/**/*.rt', recursive=True)}
+    edits = [Edit(path, crate, functions) for path in sorted(glob.glob(f'{TOP}/tests/wrong_bodies/{crate}/*.edit'))]
+    groups = groups_of([edit for edit in edits if edit.full], calls_of(functions, crate))
+    told = {}
+    with concurrent.futures.ThreadPoolExecutor(JOBS) as pool:
+        tried = pool.map(lambda group: attempt(crate, group, [edit.full for edit in group])[1], groups)
+        for group, functions in zip(groups, tried):
+            told.update((edit.name, 'refused') for edit in group if is_refused(functions.get(edit.full)))
+        left = [edit for edit in edits if edit.name not in told]
+        told.update(zip((edit.name for edit in left), pool.map(lambda edit: alone(crate, edit), left)))
+    return told
+
+
+def commit():
+    """The commit of this checkout, and whether its crates or wrong bodies are others."""
+    git = ['git', '-C', TOP]
+    head = subprocess.run(git + ['rev-parse', '--short', 'HEAD'], capture_output=True, text=True)
+    if head.returncode:
+        return 'no commit'
+    paths = ['crates', 'crates.txt', ':(exclude)tests/wrong_bodies/tried', 'tests/wrong_bodies']
+    status = subprocess.run(git + ['status', '--porcelain', '--'] + paths, capture_output=True, text=True).stdout
+    return head.stdout.strip() + (' with changes' if status.strip() else '')
+
+
+def main():
+    crates = sys.argv[1:] or sorted(os.path.basename(os.path.dirname(path)) for path in glob.glob(f'{TOP}/tests/wrong_bodies/*/'))
+    at, failed = commit(), False
+    for crate in crates:
+        told = try_crate(crate)
+        refused = sum(1 for said in told.values() if said == 'refused')
+        print(f'{crate}: {refused} of {len(told)} refused', flush=True)
+        for name, said in told.items():
+            if said != 'refused':
+                failed = True
+                print(f'    {name}: {said}', flush=True)
+        path = f'{TOP}/tests/wrong_bodies/tried'
+        rows = [row for row in read(path).split('\n') if row and not row.startswith(crate + ' ')]
+        write(path, '\n'.join(sorted(rows + [f'{crate} {refused} of {len(told)} refused, {at}'])) + '\n')
+    sys.exit(failed)
+
+
+main()
