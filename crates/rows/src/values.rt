@@ -201,11 +201,11 @@ fn write_other<W: Write>(
 fn write_known<W: Write>(out: &mut W, known: &Option<Value>) -> io::Result<()> {
     match known {
         Some(Value::Bool(value)) => write!(out, "{value}"),
-        Some(Value::Int(value)) => write!(out, "{value}"),
         Some(Value::Bits(value)) => {
             let bits = value.width().bits();
             write!(out, "(_ bv{} {bits})", value.number())
         }
+        Some(value) => write!(out, "{}", value.integer().unwrap_or(0)),
         None => write!(out, "open"),
     }
 }

@@ -3,6 +3,7 @@
 ghost use Rattle.std.specs.Prelude.{◌≡◌, ◌-◌, ◌<◌, ◌%◌, ◌^◌};
 ghost use Rattle.smt_bits.specs.BitVector.{modulo, signed, vector};
 
+use crate::words::Words;
 use smt_theory::Width;
 use std::marker::Model;
 
@@ -11,7 +12,7 @@ use std::marker::Model;
 #[derive(Clone, Copy, PartialEq, Eq)]
 pub struct Bits {
     width: Width,
-    bits: u128,
+    bits: Words,
 }
 
 impl Model for Bits {
@@ -34,7 +35,7 @@ impl Bits {
     {
         Bits {
             width,
-            bits: n & mask(width),
+            bits: Words::new(n & mask(width)),
         }
     }
 
@@ -50,7 +51,7 @@ impl Bits {
         ensures value { result ≡ self.number }
         ensures below { result < 2 ^ self.width }
     {
-        self.bits
+        self.bits.get()
     }
 
     /// The integer that the bits are, read as signed: from -2^127 to 2^127 - 1.
@@ -58,7 +59,7 @@ impl Bits {
         ensures { result ≡ signed self.width self.number }
     {
         let unused = 128 - self.width.bits();
-        (self.bits << unused).cast_signed() >> unused
+        (self.bits.get() << unused).cast_signed() >> unused
     }
 
     // The bit vector of this width for an integer, modulo 2^width.

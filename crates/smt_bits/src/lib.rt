@@ -25,5 +25,7 @@ pub mod literals;
 pub mod parts;
 pub mod shifts;
 pub mod signed;
+mod words;
 
 pub use bits::Bits;
+pub use words::Words;

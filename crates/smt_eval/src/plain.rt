@@ -6,7 +6,7 @@
 //! ```text
 //! let x = Definition { name: b"x", params: &[], result: Sort::Int, body: &three };
 //! let closed = Closed { alloc, theories, definitions: &[x], tree: &product };
-//! closed.value()?                                                           // Some(Value::Int(9))
+//! closed.value()?                                                           // Some(Value::Int(..)), of 9
 //! ```
 
 ghost use Rattle.std.specs.Prelude.{◌≡◌, IfOk};

@@ -140,8 +140,8 @@ pub(crate) fn constant(alloc: Global, value: &Option<Value>) -> Result<OwnedTree
         None => Ok(OwnedTree::atom(alloc, Kind::Keyword, b"open")?),
         Some(Value::Bool(true)) => symbol(alloc, b"true"),
         Some(Value::Bool(false)) => symbol(alloc, b"false"),
-        Some(Value::Int(number)) => integer(alloc, *number),
         Some(Value::Bits(bits)) => vector(alloc, bits),
+        Some(number) => integer(alloc, number.integer().unwrap_or(0)),
     }
 }
 

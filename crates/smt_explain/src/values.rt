@@ -73,13 +73,20 @@ fn reason(
             let Some((divisor, rest)) = left.split_first() else {
                 break;
             };
-            if value_in(over, work, bounds, part.scope, divisor)? == Some(Value::Int(0)) {
+            if is_zero(value_in(over, work, bounds, part.scope, divisor)?) {
                 return Ok(b"a division by zero");
             }
             left = rest;
         }
     }
     Ok(b"an integer below -2^127 or over 2^127 - 1")
+}
+
+fn is_zero(value: Option<Value>) -> bool {
+    match value {
+        Some(value) => value.integer() == Some(0),
+        None => false,
+    }
 }
 
 // A term whose value is to be written.

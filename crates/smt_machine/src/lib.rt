@@ -21,7 +21,7 @@
 //! let costs = costs(alloc, tables)?;
 //! let mut left = cost_of_term(costs.as_slice(), tables, sum);               // 4: the sum, 1, x, and its 2
 //! let mut machine = Machine::new(alloc);
-//! machine.eval(tables, sum, &mut left)?                                     // Some(Value::Int(3))
+//! machine.eval(tables, sum, &mut left)?                                     // Some(Value::Int(..)), of 3
 //! ```
 #![tactic(auto)]
 

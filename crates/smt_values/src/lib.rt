@@ -11,18 +11,20 @@
 //! A call, for `(+ 1 2)`, where the operator came from `smt_theory::op_of`:
 //!
 //! ```text
-//! let one = numeral(b"1");                                                  // Some(Value::Int(1))
+//! let one = numeral(b"1");                                                  // Some(Value::Int(..)), of 1
 //! let two = numeral(b"2");
-//! apply(plus, &[one, two])                                                  // Some(Value::Int(3))
+//! apply(plus, &[one, two])                                                  // Some(Value::Int(..)), of 3
 //! apply(plus, &[one, None])                                                 // None: an argument is open
 //! ```
 #![tactic(auto)]
 
+mod integer;
 pub mod laws;
 mod literal_values;
 mod operations;
 mod value;
 
+pub use integer::Integer;
 pub use literal_values::{bin, bin_of, hex, hex_of, numeral, numeral_of};
 pub use operations::{apply, apply_in_place};
 pub use smt_bits::Bits;

@@ -6,6 +6,7 @@ ghost use Rattle.smt_theory.specs.Numbers.{below_word};
 ghost use Rattle.smt_values.specs.Element.{known_element};
 ghost use Rattle.smt_values.specs.Literals.{bin_element, hex_element, numeral_element};
 
+use crate::integer::Integer;
 use crate::value::Value;
 use smt_bits::literals;
 use smt_theory::number;
@@ -26,7 +27,7 @@ pub fn numeral_of(number: Option<u128>) -> Option<Value>
         → known_element result ≡ numeral_element digits }
 {
     match number {
-        Some(value) if value < 1 << 127 => Some(Value::Int(value as i128)),
+        Some(value) if value < 1 << 127 => Some(Value::Int(Integer::new(value as i128))),
         _ => None,
     }
 }

@@ -49,7 +49,7 @@ fn key(arg: &Option<Value>) -> (u8, i128, u128)
     match arg {
         None => (0, 0, 0),
         Some(Value::Bool(b)) => (1, 0, u128::from(*b)),
-        Some(Value::Int(z)) => (2, *z, 0),
+        Some(Value::Int(z)) => (2, z.get(), 0),
         Some(Value::Bits(v)) => (3, i128::from(v.width().bits()), v.number()),
     }
 }

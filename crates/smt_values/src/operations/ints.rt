@@ -2,13 +2,14 @@
 //! and gives no value by division by zero.
 
 ghost use Rattle.std.specs.Prelude.{◌≡◌, option_and_then, option_map};
-ghost use Rattle.smt_values.specs.Element.{known_element, known_elements};
+ghost use Rattle.smt_values.specs.Element.{Integer as Integral, known_element, known_elements};
 ghost use Rattle.smt_values.specs.KnownOperations.{known_abs, known_arithmetic, known_divisible};
 ghost use Rattle.smt_values.specs.KnownOperations.{known_from_left, known_integer, known_integers};
 ghost use Rattle.smt_values.specs.KnownOperations.{known_ints, known_mod, known_remainder};
 ghost use Rattle.smt_values.specs.Lists.{are_chained, steps_from};
 ghost use Rattle.smt_values.specs.Operations.{compares};
 
+use crate::integer::Integer;
 use crate::value::Value;
 use smt_theory::{Arithmetic, Comparison, IntsOp};
 
@@ -17,11 +18,21 @@ pub(crate) fn apply_ints(op: IntsOp, args: &[Option<Value>]) -> Option<Value>
         ≡ option_and_then (known_ints op) (known_integers (known_elements args.now)) }
 {
     match op {
-        IntsOp::Arithmetic(op) => from_left(op, args).map(Value::Int),
+        IntsOp::Arithmetic(op) => value_of(from_left(op, args)),
         IntsOp::Comparison(op) => chain(op, args).map(Value::Bool),
-        IntsOp::Mod => modulo(args).map(Value::Int),
-        IntsOp::Abs => absolute(args).map(Value::Int),
+        IntsOp::Mod => value_of(modulo(args)),
+        IntsOp::Abs => value_of(absolute(args)),
         IntsOp::Divisible(n) => divisibility(n, args).map(Value::Bool),
+    }
+}
+
+// The value that an integer is, if one is known.
+fn value_of(integer: Option<i128>) -> Option<Value>
+    ensures { known_element result ≡ option_map Integral integer }
+{
+    match integer {
+        Some(z) => Some(Value::Int(Integer::new(z))),
+        None => None,
     }
 }
 
@@ -133,7 +144,7 @@ fn integer(arg: &Option<Value>) -> Option<i128>
     ensures { result ≡ known_integer (known_element arg.now) }
 {
     match arg {
-        Some(Value::Int(z)) => Some(*z),
+        Some(Value::Int(z)) => Some(z.get()),
         Some(Value::Bool(_) | Value::Bits(_)) | None => None,
     }
 }

@@ -5,4 +5,4 @@ use Rattle.smt_bits.proofs.bits.Bits.new.Goals as goal
 
 pub returns : goal.returns
 returns c = ap (λ n. vector c.args.width n)
-    (ap (λ n. bit_and c.args.n n) c.mask.ensures ∙ and_mask c.args.n c.args.width)
+    (c.new.ensures ∙ ap (λ n. bit_and c.args.n n) c.mask.ensures ∙ and_mask c.args.n c.args.width)
