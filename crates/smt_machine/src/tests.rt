@@ -15,38 +15,41 @@ const LESS: Op = Op::Ints(IntsOp::Comparison(Comparison::Less));
 const ITE: Op = Op::Core(CoreOp::Ite);
 
 fn apply(nodes: &mut Nodes, op: Op, args: &[TermId]) -> Result<TermId, Memory> {
-    nodes.push(&Node::Apply { op, args })
+    nodes.push(&Node::Apply { op, args }, 0)
 }
 
 // `x` is 2, and `(f a)` is `(let ((b 1) (a a)) (- b a a))`: -3 for 2.
 fn model(alloc: Global) -> Result<(Nodes, [TermId; 2]), Memory> {
     let mut nodes = Nodes::new(alloc);
-    let x = nodes.push(&Node::Numeral(b"2"))?;
-    let one = nodes.push(&Node::Numeral(b"1"))?;
-    let a = nodes.push(&Node::Slot(0))?;
-    let inner_b = nodes.push(&Node::Slot(1))?;
-    let inner_a = nodes.push(&Node::Slot(2))?;
+    let x = nodes.push(&Node::Numeral(b"2"), 0)?;
+    let one = nodes.push(&Node::Numeral(b"1"), 0)?;
+    let a = nodes.push(&Node::Slot(0), 0)?;
+    let inner_b = nodes.push(&Node::Slot(1), 0)?;
+    let inner_a = nodes.push(&Node::Slot(2), 0)?;
     let body = apply(&mut nodes, MINUS, &[inner_b, inner_a, inner_a])?;
     let values = &[one, a];
-    let f = nodes.push(&Node::Let { values, body })?;
+    let f = nodes.push(&Node::Let { values, body }, 0)?;
     Ok((nodes, [x, f]))
 }
 
 // `(g a b)` is `(ite (< b a) (- b a) (f b))`, and `(f x)` is the last of the script's own nodes.
 fn script(alloc: Global) -> Result<(Nodes, TermId, [TermId; 2]), Memory> {
     let mut nodes = Nodes::new(alloc);
-    let a = nodes.push(&Node::Slot(0))?;
-    let b = nodes.push(&Node::Slot(1))?;
+    let a = nodes.push(&Node::Slot(0), 0)?;
+    let b = nodes.push(&Node::Slot(1), 0)?;
     let less = apply(&mut nodes, LESS, &[b, a])?;
     let place = 1;
-    let f_b = nodes.push(&Node::Declared { place, args: &[b] })?;
+    let f_b = nodes.push(&Node::Declared { place, args: &[b] }, 0)?;
     let difference = apply(&mut nodes, MINUS, &[b, a])?;
     let g = apply(&mut nodes, ITE, &[less, difference, f_b])?;
-    let x = nodes.push(&Node::Declared {
-        place: 0,
-        args: &[],
-    })?;
-    let f_x = nodes.push(&Node::Declared { place, args: &[x] })?;
+    let x = nodes.push(
+        &Node::Declared {
+            place: 0,
+            args: &[],
+        },
+        0,
+    )?;
+    let f_x = nodes.push(&Node::Declared { place, args: &[x] }, 0)?;
     Ok((nodes, g, [x, f_x]))
 }
 
@@ -60,7 +63,7 @@ fn value(alloc: Global) -> Result<(u64, Option<Value>, u64), Memory> {
         place: 0,
         args: &args,
     };
-    let term = transient.push(&call)?.behind(script.len())?;
+    let term = transient.push(&call, 0)?.behind(script.len())?;
     let tables = Tables {
         model: &model,
         model_bodies: &declared,

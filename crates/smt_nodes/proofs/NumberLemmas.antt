@@ -1,43 +1,33 @@
 -- The numbers that rows hold, as a table grows and is cut.
 use Rattle.std.proofs.Common.{◌≡◌, ◌<◌, ◌⊎◌, inl, inr, ℕ, List, [], ◌∷◌, ◌++◌, length, take, slice_get, Option}
-use Rattle.std.proofs.Common.{Some, None, option_map, refl, ap, sym, subst, ◌∙◌, arith}
+use Rattle.std.proofs.Common.{Some, option_map, refl, ap, sym, subst, ◌∙◌, arith}
 use Rattle.std.proofs.lemmas.List.{length-take}
 use Rattle.std.proofs.lemmas.Option.{slice_get_within}
-use Rattle.smt_nodes.specs.Internal.Lists.{Grows, Lists, first_of, lengths, node_of}
-use Rattle.smt_nodes.specs.Internal.Numbers.{AreNumbered, IsNumberHeld, IsPrefix, number_in}
-use Rattle.smt_nodes.specs.Internal.Rows.{IsSound, annotated, last_ends}
+use Rattle.smt_nodes.specs.Internal.Annotations.{inner}
+use Rattle.smt_nodes.specs.Internal.Lists.{Grows, IsPrefix, Lists, first_of, lengths, node_of}
+use Rattle.smt_nodes.specs.Internal.Numbers.{IsNumberHeld, number_in}
+use Rattle.smt_nodes.specs.Internal.Rows.{AreNumbered, IsSound, last_ends}
 use Rattle.smt_nodes.specs.Literals.{spelled}
 use Rattle.smt_nodes.specs.Node as spec
+use Rattle.smt_nodes.specs.declared.annotated.AnnotatedNode.{AnnotatedNode}
 use Rattle.smt_nodes.specs.declared.large.LargeNumber.{LargeNumber}
 use Rattle.smt_nodes.specs.declared.rows.Ends.{Ends}
 use Rattle.smt_nodes.specs.declared.rows.Stored.{Stored}
-use Rattle.smt_nodes.specs.declared.rows.Stored.TheVariants.{Large, Same}
+use Rattle.smt_nodes.specs.declared.rows.Stored.TheVariants.{Large}
 use Rattle.smt_nodes.specs.declared.rows.StoredRow.{StoredRow}
-use Rattle.smt_nodes.proofs.PlaceLemmas.{get_kept, get_pushed, get_taken}
-use Rattle.smt_nodes.proofs.RowLemmas.{node_kept}
-use Rattle.smt_nodes.proofs.SoundLemmas.{sound_cut}
-use Rattle.smt_nodes.proofs.TableLemmas.{cut_grows}
+use Rattle.smt_nodes.proofs.PlaceLemmas.{Keeps, get_pushed, get_taken, kept_place, longer_keeps}
+use Rattle.smt_nodes.proofs.RowLemmas.{inner_kept, node_kept}
+use Rattle.smt_nodes.proofs.SoundLemmas.{KeepsBelow, below_keeps}
+use Rattle.smt_nodes.proofs.TableLemmas.{node_cut}
 
--- lists of large numbers in which what a row of this number holds is the same
-abbrev Keeps : List LargeNumber → List LargeNumber → ℕ → Type 0
-Keeps large left row = (place : ℕ) (x : LargeNumber) → slice_get large place ≡ Some x → x.row ≡ row
-    → slice_get left place ≡ Some x
-
-held_on : (large left : List LargeNumber) (row : ℕ) (s : Stored) (number : Option ℕ) → Keeps large left row
-    → IsNumberHeld large row s number → IsNumberHeld left row s number
+held_on : (large left : List LargeNumber) (row : ℕ) (s : Stored) (number : Option ℕ)
+    → Keeps (λ x. x.row) large left row → IsNumberHeld large row s number → IsNumberHeld left row s number
 held_on large left row s number keeps h = by s h
   where
-    same : (place : ℕ) (o : Option LargeNumber) → slice_get large place ≡ o → option_map (λ x. x.row) o ≡ Some row
-        → slice_get left place ≡ slice_get large place
-    same place None at own = cc
-    same place (Some x) at own =
-        let mine : x.row ≡ row = cc in
-        keeps place x at mine ∙ sym at
-
     by : (s : Stored) → IsNumberHeld large row s number → IsNumberHeld left row s number
     by (Large base n place) h =
         let here : slice_get left place ≡ slice_get large place =
-        same place (slice_get large place) refl (h.own place refl) in
+        kept_place (λ x. x.row) large left row place keeps (h.own place refl) in
         record {
           value = ap (λ o. number_in o) here ∙ h.value;
           own = λ p e. (let there : place ≡ p = cc in
@@ -46,59 +36,61 @@ held_on large left row s number keeps h = by s h
         }
     by _ h = record { value = h.value; own = λ p e. cc }
 
-held_longer : (large more : List LargeNumber) (row : ℕ) (s : Stored) (number : Option ℕ)
-    → IsNumberHeld large row s number → IsNumberHeld (large ++ more) row s number
-held_longer large more row s number h =
-    held_on large (large ++ more) row s number (λ place x at mine. get_kept large more place x at) h
+-- a number that is held, of a node that is stored the same
+held_at : (left : List LargeNumber) (row : ℕ) (s s' : Stored) (n n' : spec.Node) → s ≡ s' → n ≡ n'
+    → IsNumberHeld left row s (spelled n) → IsNumberHeld left row s' (spelled n')
+held_at left row s s' n n' same is h =
+    subst (λ (x : Stored). IsNumberHeld left row x (spelled n')) same
+    (subst (λ (x : spec.Node). IsNumberHeld left row s (spelled x)) is h)
 
 -- ---- growing
 
-pub numbered_grown : (rows : List StoredRow) (t u : Lists) (large larger : List LargeNumber) → IsSound rows t
-    → Grows t u → IsPrefix large larger → AreNumbered rows t large → AreNumbered rows u larger
-numbered_grown rows t u large larger sound grown (more, longer) numbered = λ i r at.
-    let node : node_of t r.ends r.stored ≡ node_of u r.ends r.stored =
-    sym (node_kept t u r.ends r.stored (sound.held i r at) (sound.within i r at) grown) in
-    subst (λ (l : List LargeNumber). IsNumberHeld l i r.stored (spelled (node_of u r.ends r.stored))) (sym longer)
-    (held_longer large more i r.stored (spelled (node_of u r.ends r.stored))
-    (subst (λ (n : spec.Node). IsNumberHeld large i r.stored (spelled n)) node (numbered i r at)))
+pub numbered_grown : (rows : List StoredRow) (t u : Lists) (large larger : List LargeNumber)
+    (nodes more : List AnnotatedNode) → IsSound rows t nodes → Grows t u → IsPrefix large larger
+    → IsPrefix nodes more → AreNumbered rows t large nodes → AreNumbered rows u larger more
+numbered_grown rows t u large larger nodes more sound grown longer prefix numbered = λ i r at.
+    let same : inner nodes r.stored ≡ inner more r.stored =
+    sym (inner_kept nodes more i r.stored (longer_keeps (λ x. x.row) nodes more i prefix) (sound.own i r at)) in
+    let node : node_of t r.ends (inner nodes r.stored) ≡ node_of u r.ends (inner more r.stored) =
+    sym (node_kept t u r.ends (inner nodes r.stored) (sound.held i r at) (sound.within i r at) grown)
+    ∙ ap (λ (s : Stored). node_of u r.ends s) same in
+    held_at larger i (inner nodes r.stored) (inner more r.stored) (node_of t r.ends (inner nodes r.stored))
+    (node_of u r.ends (inner more r.stored)) same node
+    (held_on large larger i (inner nodes r.stored) (spelled (node_of t r.ends (inner nodes r.stored)))
+    (longer_keeps (λ x. x.row) large larger i longer) (numbered i r at))
 
-pub numbered_pushed : (rows : List StoredRow) (t : Lists) (large : List LargeNumber) (new : StoredRow)
-    → AreNumbered rows t large → new.ends ≡ lengths t
-    → IsNumberHeld large (length rows) new.stored (spelled (node_of t (lengths t) new.stored))
-    → AreNumbered (rows ++ new ∷ []) t large
-numbered_pushed rows t large new numbered ends held = λ i r at. by i r (get_pushed rows new i r at)
+pub numbered_pushed : (rows : List StoredRow) (t : Lists) (large : List LargeNumber) (nodes : List AnnotatedNode)
+    (new : StoredRow) → AreNumbered rows t large nodes → new.ends ≡ lengths t
+    → IsNumberHeld large (length rows) (inner nodes new.stored) (spelled (node_of t (lengths t) (inner nodes new.stored)))
+    → AreNumbered (rows ++ new ∷ []) t large nodes
+numbered_pushed rows t large nodes new numbered ends held = λ i r at. by i r (get_pushed rows new i r at)
   where
-    here : IsNumberHeld large (length rows) new.stored (spelled (node_of t new.ends new.stored))
-    here = subst (λ (e : Ends). IsNumberHeld large (length rows) new.stored (spelled (node_of t e new.stored)))
-        (sym ends) held
+    Holds : ℕ → StoredRow → Type 0
+    Holds i r = IsNumberHeld large i (inner nodes r.stored) (spelled (node_of t r.ends (inner nodes r.stored)))
 
-    by : (i : ℕ) (r : StoredRow) → (slice_get rows i ≡ Some r) ⊎ ((i ≡ length rows) × (new ≡ r))
-        → IsNumberHeld large i r.stored (spelled (node_of t r.ends r.stored))
+    here : Holds (length rows) new
+    here = subst (λ (e : Ends). IsNumberHeld large (length rows) (inner nodes new.stored)
+        (spelled (node_of t e (inner nodes new.stored)))) (sym ends) held
+
+    by : (i : ℕ) (r : StoredRow) → (slice_get rows i ≡ Some r) ⊎ ((i ≡ length rows) × (new ≡ r)) → Holds i r
     by i r (inl at) = numbered i r at
     by i r (inr (e, is)) =
-        subst (λ (j : ℕ). IsNumberHeld large j r.stored (spelled (node_of t r.ends r.stored))) (sym e)
-        (subst (λ (s : StoredRow). IsNumberHeld large (length rows) s.stored (spelled (node_of t s.ends s.stored)))
-        is here)
-
--- a row of another's node holds no number
-pub annotated_held : (t : Lists) (e : Ends) (large : List LargeNumber) (row id : ℕ) (s : Stored)
-    → IsNumberHeld large row (annotated id s) (spelled (node_of t e (annotated id s)))
-annotated_held t e large row id (Same number around) = record { value = refl; own = λ p h. cc }
-annotated_held t e large row id _ = record { value = refl; own = λ p h. cc }
+        subst (λ (j : ℕ). Holds j r) (sym e) (subst (λ (s : StoredRow). Holds (length rows) s) is here)
 
 -- ---- cut
 
-pub numbered_cut : (n : ℕ) (rows : List StoredRow) (t : Lists) (large left : List LargeNumber) → IsSound rows t
-    → AreNumbered rows t large
-    → ((place : ℕ) (x : LargeNumber) → slice_get large place ≡ Some x → x.row < n → slice_get left place ≡ Some x)
-    → AreNumbered (take n rows) (first_of (last_ends (take n rows)) t) left
-numbered_cut n rows t large left sound numbered kept = λ i r at.
+pub numbered_cut : (n : ℕ) (rows : List StoredRow) (t : Lists) (large fewer : List LargeNumber)
+    (nodes left : List AnnotatedNode) → IsSound rows t nodes → AreNumbered rows t large nodes
+    → ((place : ℕ) (x : LargeNumber) → slice_get large place ≡ Some x → x.row < n → slice_get fewer place ≡ Some x)
+    → KeepsBelow n nodes left → AreNumbered (take n rows) (first_of (last_ends (take n rows)) t) fewer left
+numbered_cut n rows t large fewer nodes left sound numbered kept keeps = λ i r at.
     let u = first_of (last_ends (take n rows)) t in
-    let cut : IsSound (take n rows) u = sound_cut n rows t sound in
-    let node : node_of t r.ends r.stored ≡ node_of u r.ends r.stored =
-    node_kept u t r.ends r.stored (cut.held i r at) (cut.within i r at) (cut_grows (last_ends (take n rows)) t) in
     let below : i < n = omega (arith, slice_get_within (take n rows) i r at, length-take n rows) in
-    held_on large left i r.stored (spelled (node_of u r.ends r.stored))
+    held_at fewer i (inner nodes r.stored) (inner left r.stored) (node_of t r.ends (inner nodes r.stored))
+    (node_of u r.ends (inner left r.stored))
+    (sym (inner_kept nodes left i r.stored (below_keeps n rows nodes left i r keeps at)
+    (sound.own i r (get_taken n rows i r at))))
+    (sym (node_cut n rows t nodes left i r sound keeps at))
+    (held_on large fewer i (inner nodes r.stored) (spelled (node_of t r.ends (inner nodes r.stored)))
     (λ place x here mine. kept place x here (omega (arith, below, mine)))
-    (subst (λ (m : spec.Node). IsNumberHeld large i r.stored (spelled m)) node
     (numbered i r (get_taken n rows i r at)))

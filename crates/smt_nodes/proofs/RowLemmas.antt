@@ -1,22 +1,22 @@
 -- What a row stands for, as rows and lists grow.
-use Rattle.std.proofs.Common.{◌≡◌, ◌≤◌, ◌<◌, ◌+◌, ℕ, List, ◌++◌, length, slice_get, get_or, Some, refl}
+use Rattle.std.proofs.Common.{◌≡◌, ◌<◌, ℕ, List, length, slice_get, get_or, Option, Some, option_map, refl}
 use Rattle.std.proofs.Common.{ap, ◌∙◌, arith}
-use Rattle.std.proofs.lemmas.Option.{get_or_from_slice_get, slice_get-get_or, slice_get_within}
 use Rattle.smt_theory.specs.declared.op.CoreOp.TheVariants.{True}
 use Rattle.smt_theory.specs.declared.op.Op.{Op}
 use Rattle.smt_theory.specs.declared.op.Op.TheVariants.{Core}
-use Rattle.smt_nodes.specs.Internal.Lists.{Grows, IsHeld, IsStored, IsUpTo, Lists, before, lengths, node_of}
-use Rattle.smt_nodes.specs.Internal.Lists.{literal_of, rows_in}
+use Rattle.smt_nodes.specs.Internal.Annotations.{IsAnnotated, IsOwn, around_of, inner, stored_in}
+use Rattle.smt_nodes.specs.Internal.Lists.{Grows, IsHeld, IsUpTo, Lists, before, lengths, literal_of, node_of}
 use Rattle.smt_theory.specs.PlainOp.{op_of_plain}
-use Rattle.smt_nodes.specs.Internal.Rows.{IsSound, annotated, around_of, row_view, source, source_by}
+use Rattle.smt_nodes.specs.Internal.Rows.{IsSound, row_view}
 use Rattle.smt_nodes.specs.Node as spec
+use Rattle.smt_nodes.specs.declared.annotated.AnnotatedNode.{AnnotatedNode}
 use Rattle.smt_nodes.specs.declared.rows.Ends.{Ends}
 use Rattle.smt_nodes.specs.declared.rows.Stored.{Stored}
 use Rattle.smt_nodes.specs.declared.rows.Stored.TheVariants.{Literal, Large, Slot, Plain, Numbered}
 use Rattle.smt_nodes.specs.declared.rows.Stored.TheVariants.{Declared}
-use Rattle.smt_nodes.specs.declared.rows.Stored.TheVariants.{Defined, Let, Same}
+use Rattle.smt_nodes.specs.declared.rows.Stored.TheVariants.{Defined, Let, Annotated}
 use Rattle.smt_nodes.specs.declared.rows.StoredRow.{StoredRow}
-use Rattle.smt_nodes.proofs.PlaceLemmas.{before_kept, read_kept}
+use Rattle.smt_nodes.proofs.PlaceLemmas.{Keeps, before_kept, kept_place, read_kept}
 
 -- the node of a row stays as the lists grow
 pub node_kept : (t u : Lists) (ends : Ends) (s : Stored) → IsHeld ends s → IsUpTo ends (lengths t) → Grows t u
@@ -43,90 +43,38 @@ node_kept t u ends (Defined place n) held within more =
     ap (λ is. spec.Defined place is) (before_kept n ends.parts t.parts u.parts within.parts more.parts)
 node_kept t u ends (Let n body) held within more =
     ap (λ is. spec.Let is body) (before_kept n ends.parts t.parts u.parts within.parts more.parts)
-node_kept t u ends (Same number around) held within more = refl
+node_kept t u ends (Annotated place around) held within more = refl
 
--- the row that holds the node stays as rows come behind
-pub source_kept : (rows more : List StoredRow) (r : StoredRow) → rows_in r.stored ≤ length rows
-    → source (rows ++ more) r ≡ source rows r
-source_kept rows more r below = by r.stored below
-  where
-    by : (s : Stored) → rows_in s ≤ length rows → source_by (rows ++ more) r s ≡ source_by rows r s
-    by (Same number around) h = read_kept rows (rows ++ more) number r r (omega arith) (more, refl)
-    by _ h = refl
+-- what is stored for a node itself stays, where what belongs to its row does
+pub inner_kept : (nodes left : List AnnotatedNode) (row : ℕ) (s : Stored) → Keeps (λ x. x.row) nodes left row
+    → IsOwn nodes row s → inner left s ≡ inner nodes s
+inner_kept nodes left row (Annotated place around) keeps own =
+    ap (λ (o : Option AnnotatedNode). stored_in o) (kept_place (λ x. x.row) nodes left row place keeps (own place refl))
+inner_kept nodes left row _ keeps own = refl
 
--- and is one of the rows
-pub source_at : (rows : List StoredRow) (i : ℕ) (r : StoredRow) → slice_get rows i ≡ Some r
-    → rows_in r.stored ≤ i → (j : ℕ) × (slice_get rows j ≡ Some (source rows r))
-source_at rows i r at below = by r.stored below
-  where
-    by : (s : Stored) → rows_in s ≤ i → (j : ℕ) × (slice_get rows j ≡ Some (source_by rows r s))
-    by (Same number around) h =
-        (number, slice_get-get_or rows number r (omega (arith, slice_get_within rows i r at)))
-    by _ h = (i, at)
+-- and it is still the row's own
+pub own_kept : (nodes left : List AnnotatedNode) (row : ℕ) (s : Stored) → Keeps (λ x. x.row) nodes left row
+    → IsOwn nodes row s → IsOwn left row s
+own_kept nodes left row s keeps own = λ place at.
+    ap (λ (o : Option AnnotatedNode). option_map (λ x. x.row) o)
+    (kept_place (λ x. x.row) nodes left row place keeps (own place at)) ∙ own place at
 
--- what a row stands for stays as rows and lists grow
-pub row_kept : (rows more : List StoredRow) (t u : Lists) (i : ℕ) (r : StoredRow) → IsSound rows t → Grows t u
-    → slice_get rows i ≡ Some r → row_view (rows ++ more) u r ≡ row_view rows t r
-row_kept rows more t u i r sound grown at =
-    let below : rows_in r.stored ≤ i = sound.below i r at in
-    let within : rows_in r.stored ≤ length rows = omega (arith, slice_get_within rows i r at) in
-    let p : (j : ℕ) × (slice_get rows j ≡ Some (source rows r)) = source_at rows i r at below in
-    let here : node_of u (source (rows ++ more) r).ends (source (rows ++ more) r).stored
-    ≡ node_of t (source rows r).ends (source rows r).stored =
-    ap (λ (s : StoredRow). node_of u s.ends s.stored) (source_kept rows more r within)
-    ∙ node_kept t u (source rows r).ends (source rows r).stored (sound.held p.0 (source rows r) p.1)
-    (sound.within p.0 (source rows r) p.1) grown in
+-- what a row stands for stays as the lists grow
+pub row_kept : (rows : List StoredRow) (t u : Lists) (nodes left : List AnnotatedNode) (i : ℕ) (r : StoredRow)
+    → IsSound rows t nodes → Grows t u → Keeps (λ x. x.row) nodes left i → slice_get rows i ≡ Some r
+    → row_view u left r ≡ row_view t nodes r
+row_kept rows t u nodes left i r sound grown keeps at =
+    let here : node_of u r.ends (inner left r.stored) ≡ node_of t r.ends (inner nodes r.stored) =
+    ap (λ (s : Stored). node_of u r.ends s) (inner_kept nodes left i r.stored keeps (sound.own i r at))
+    ∙ node_kept t u r.ends (inner nodes r.stored) (sound.held i r at) (sound.within i r at) grown in
     ap (λ (n : spec.Node). record { node = n; around = around_of r.stored }) here
 
--- a row that names no other holds its own node, without annotations
-own_source : (rows : List StoredRow) (r : StoredRow) → rows_in r.stored ≡ 0 → source rows r ≡ r
-own_source rows r own = by r.stored own
-  where
-    by : (s : Stored) → rows_in s ≡ 0 → source_by rows r s ≡ r
-    by (Same number around) h = absurd (omega arith)
-    by _ h = refl
-
-own_around : (s : Stored) → rows_in s ≡ 0 → around_of s ≡ 0
-own_around (Same number around) h = absurd (omega arith)
-own_around _ h = refl
-
--- a stored node
-pub stored_view : (rows : List StoredRow) (t : Lists) (r : StoredRow) (n : spec.Node) → r.ends ≡ lengths t
-    → IsStored t r.stored n → row_view rows t r ≡ record { node = n; around = 0 }
-stored_view rows t r n ends stored =
-    let node : node_of t (source rows r).ends (source rows r).stored ≡ n =
-    ap (λ (s : StoredRow). node_of t s.ends s.stored) (own_source rows r stored.own)
-    ∙ ap (λ (e : Ends). node_of t e r.stored) ends ∙ stored.node in
-    let around : around_of r.stored ≡ 0 = own_around r.stored stored.own in
+-- a row of which this is stored
+pub stored_view : (t : Lists) (nodes : List AnnotatedNode) (row count : ℕ) (bare : Stored) (r : StoredRow)
+    → r.ends ≡ lengths t → IsAnnotated nodes row bare count r.stored
+    → row_view t nodes r ≡ record { node = node_of t (lengths t) bare; around = count }
+stored_view t nodes row count bare r ends stored =
+    let node : node_of t r.ends (inner nodes r.stored) ≡ node_of t (lengths t) bare =
+    ap (λ (s : Stored). node_of t r.ends s) stored.node ∙ ap (λ (e : Ends). node_of t e bare) ends in
+    let around : around_of r.stored ≡ count = stored.around in
     λ k. record { node = node k; around = around k }
-
--- one annotation more
-pub annotated_around : (i : ℕ) (s : Stored) → around_of (annotated i s) ≡ around_of s + 1
-annotated_around i (Same number around) = refl
-annotated_around i _ = refl
-
-annotated_source : (rows more : List StoredRow) (i : ℕ) (r new : StoredRow) → slice_get rows i ≡ Some r
-    → rows_in r.stored ≤ i → new.stored ≡ annotated i r.stored → source (rows ++ more) new ≡ source rows r
-annotated_source rows more i r new at below is =
-    ap (λ (s : Stored). source_by (rows ++ more) new s) is ∙ by r.stored below
-  where
-    itself : get_or (rows ++ more) i new ≡ r
-    itself = read_kept rows (rows ++ more) i new r (slice_get_within rows i r at) (more, refl)
-        ∙ get_or_from_slice_get rows i r r at
-
-    by : (s : Stored) → rows_in s ≤ i → source_by (rows ++ more) new (annotated i s) ≡ source_by rows r s
-    by (Same number around) h =
-        read_kept rows (rows ++ more) number new r (omega (arith, slice_get_within rows i r at)) (more, refl)
-    by _ h = itself
-
--- a row with one annotation more
-pub annotated_view : (rows more : List StoredRow) (t : Lists) (i : ℕ) (r new : StoredRow) → IsSound rows t
-    → slice_get rows i ≡ Some r → new.stored ≡ annotated i r.stored
-    → row_view (rows ++ more) t new
-    ≡ record (row_view rows t r) { around = (row_view rows t r).around + 1 }
-annotated_view rows more t i r new sound at is =
-    let from : source (rows ++ more) new ≡ source rows r =
-    annotated_source rows more i r new at (sound.below i r at) is in
-    let around : around_of new.stored ≡ around_of r.stored + 1 =
-    ap (λ (s : Stored). around_of s) is ∙ annotated_around i r.stored in
-    λ k. record { node = node_of t (from k).ends (from k).stored; around = around k }

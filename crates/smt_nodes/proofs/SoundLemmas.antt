@@ -3,11 +3,15 @@ use Rattle.std.proofs.Common.{◌≡◌, ◌≤◌, ◌<◌, ◌-◌, ◌⊎◌,
 use Rattle.std.proofs.Common.{slice_get, get_or, Option, Some, ap, sym, subst, ◌∙◌, arith}
 use Rattle.std.proofs.lemmas.List.{length-take}
 use Rattle.std.proofs.lemmas.Option.{slice_get-get_or, slice_get_within}
-use Rattle.smt_nodes.specs.Internal.Lists.{Grows, IsHeld, IsUpTo, Lists, first_of, lengths, rows_in}
+use Rattle.smt_nodes.specs.Internal.Annotations.{IsOwn, inner}
+use Rattle.smt_nodes.specs.Internal.Lists.{Grows, IsHeld, IsPrefix, IsUpTo, Lists, first_of, lengths}
 use Rattle.smt_nodes.specs.Internal.Rows.{IsSound, ends_in, last_ends}
+use Rattle.smt_nodes.specs.declared.annotated.AnnotatedNode.{AnnotatedNode}
 use Rattle.smt_nodes.specs.declared.rows.Ends.{Ends}
+use Rattle.smt_nodes.specs.declared.rows.Stored.{Stored}
 use Rattle.smt_nodes.specs.declared.rows.StoredRow.{StoredRow}
-use Rattle.smt_nodes.proofs.PlaceLemmas.{get_pushed, get_taken, longer}
+use Rattle.smt_nodes.proofs.PlaceLemmas.{Keeps, get_pushed, get_taken, longer, longer_keeps}
+use Rattle.smt_nodes.proofs.RowLemmas.{inner_kept, own_kept}
 
 up_to_itself : (a : Ends) → IsUpTo a a
 up_to_itself a = record { parts = omega arith; digits = omega arith; ops = omega arith }
@@ -21,10 +25,12 @@ up_to_on a b c p q = record {
 
 -- ---- growing
 
-pub sound_grown : (rows : List StoredRow) (t u : Lists) → IsSound rows t → Grows t u → IsSound rows u
-sound_grown rows t u sound grown = record {
-  held = sound.held;
-  below = sound.below;
+pub sound_grown : (rows : List StoredRow) (t u : Lists) (nodes more : List AnnotatedNode) → IsSound rows t nodes
+    → Grows t u → IsPrefix nodes more → IsSound rows u more
+sound_grown rows t u nodes more sound grown prefix = record {
+  held = λ i r at. subst (λ (s : Stored). IsHeld r.ends s)
+      (sym (inner_kept nodes more i r.stored (keeps i) (sound.own i r at))) (sound.held i r at);
+  own = λ i r at. own_kept nodes more i r.stored (keeps i) (sound.own i r at);
   ordered = sound.ordered;
   within = λ i r at. up_to_on r.ends (lengths t) (lengths u) (sound.within i r at) further;
 }
@@ -36,12 +42,15 @@ sound_grown rows t u sound grown = record {
       ops = longer t.ops u.ops grown.ops;
     }
 
-pub sound_pushed : (rows : List StoredRow) (t : Lists) (new : StoredRow) → IsSound rows t
-    → new.ends ≡ lengths t → IsHeld (lengths t) new.stored → rows_in new.stored ≤ length rows
-    → IsSound (rows ++ new ∷ []) t
-sound_pushed rows t new sound ends held below = record {
+    keeps : (i : ℕ) → Keeps (λ x. x.row) nodes more i
+    keeps i = longer_keeps (λ x. x.row) nodes more i prefix
+
+pub sound_pushed : (rows : List StoredRow) (t : Lists) (nodes : List AnnotatedNode) (new : StoredRow)
+    → IsSound rows t nodes → new.ends ≡ lengths t → IsHeld (lengths t) (inner nodes new.stored)
+    → IsOwn nodes (length rows) new.stored → IsSound (rows ++ new ∷ []) t nodes
+sound_pushed rows t nodes new sound ends held own = record {
   held = λ i r at. held_by r i (get_pushed rows new i r at);
-  below = λ i r at. below_by r i (get_pushed rows new i r at);
+  own = λ i r at. own_by r i (get_pushed rows new i r at);
   ordered = λ i j r s le at there. ordered_by i j r s le (get_pushed rows new i r at)
       (get_pushed rows new j s there);
   within = λ i r at. within_by r i (get_pushed rows new i r at);
@@ -50,20 +59,20 @@ sound_pushed rows t new sound ends held below = record {
     whole : IsUpTo new.ends (lengths t)
     whole = subst (λ (e : Ends). IsUpTo e (lengths t)) (sym ends) (up_to_itself (lengths t))
 
-    kept : IsHeld new.ends new.stored
-    kept = subst (λ (e : Ends). IsHeld e new.stored) (sym ends) held
+    kept : IsHeld new.ends (inner nodes new.stored)
+    kept = subst (λ (e : Ends). IsHeld e (inner nodes new.stored)) (sym ends) held
 
     held_by : (r : StoredRow) (i : ℕ) → (slice_get rows i ≡ Some r) ⊎ ((i ≡ length rows) × (new ≡ r))
-        → IsHeld r.ends r.stored
+        → IsHeld r.ends (inner nodes r.stored)
     held_by r i (inl at) = sound.held i r at
-    held_by r i (inr (e, is)) = subst (λ (s : StoredRow). IsHeld s.ends s.stored) is kept
+    held_by r i (inr (e, is)) = subst (λ (s : StoredRow). IsHeld s.ends (inner nodes s.stored)) is kept
 
-    below_by : (r : StoredRow) (i : ℕ) → (slice_get rows i ≡ Some r) ⊎ ((i ≡ length rows) × (new ≡ r))
-        → rows_in r.stored ≤ i
-    below_by r i (inl at) = sound.below i r at
-    below_by r i (inr (e, is)) =
-        let same : rows_in new.stored ≡ rows_in r.stored = ap (λ (s : StoredRow). rows_in s.stored) is in
-        omega (arith, below, e, same)
+    own_by : (r : StoredRow) (i : ℕ) → (slice_get rows i ≡ Some r) ⊎ ((i ≡ length rows) × (new ≡ r))
+        → IsOwn nodes i r.stored
+    own_by r i (inl at) = sound.own i r at
+    own_by r i (inr (e, is)) =
+        subst (λ (j : ℕ). IsOwn nodes j r.stored) (sym e)
+        (subst (λ (s : StoredRow). IsOwn nodes (length rows) s.stored) is own)
 
     within_by : (r : StoredRow) (i : ℕ) → (slice_get rows i ≡ Some r) ⊎ ((i ≡ length rows) × (new ≡ r))
         → IsUpTo r.ends (lengths t)
@@ -86,9 +95,9 @@ sound_pushed rows t new sound ends held below = record {
 -- ---- cut
 
 -- so far as the last row reaches, each does
-last_reaches : (n : ℕ) (rows : List StoredRow) (t : Lists) (i : ℕ) (r : StoredRow) → IsSound rows t
-    → slice_get (take n rows) i ≡ Some r → IsUpTo r.ends (last_ends (take n rows))
-last_reaches n rows t i r sound at =
+last_reaches : (n : ℕ) (rows : List StoredRow) (t : Lists) (nodes : List AnnotatedNode) (i : ℕ) (r : StoredRow)
+    → IsSound rows t nodes → slice_get (take n rows) i ≡ Some r → IsUpTo r.ends (last_ends (take n rows))
+last_reaches n rows t nodes i r sound at =
     subst (λ (o : Option StoredRow). IsUpTo r.ends (ends_in o)) (sym there)
     (sound.ordered i (length (take n rows) - 1) r (get_or (take n rows) (length (take n rows) - 1) r)
     (omega (arith, within)) (get_taken n rows i r at)
@@ -110,13 +119,27 @@ left_within a b t p q = record {
   ops = omega (arith, p.ops, q.ops, length-take b.ops t.ops);
 }
 
-pub sound_cut : (n : ℕ) (rows : List StoredRow) (t : Lists) → IsSound rows t
-    → IsSound (take n rows) (first_of (last_ends (take n rows)) t)
-sound_cut n rows t sound = record {
-  held = λ i r at. sound.held i r (get_taken n rows i r at);
-  below = λ i r at. sound.below i r (get_taken n rows i r at);
+-- what belongs to the rows below this one among the first stands at its place among the second
+abbrev pub KeepsBelow : ℕ → List AnnotatedNode → List AnnotatedNode → Type 0
+KeepsBelow n nodes left = (i : ℕ) (x : AnnotatedNode) → slice_get nodes i ≡ Some x → x.row < n
+    → slice_get left i ≡ Some x
+
+pub below_keeps : (n : ℕ) (rows : List StoredRow) (nodes left : List AnnotatedNode) (i : ℕ) (r : StoredRow)
+    → KeepsBelow n nodes left → slice_get (take n rows) i ≡ Some r → Keeps (λ x. x.row) nodes left i
+below_keeps n rows nodes left i r kept at = λ place x there mine.
+    kept place x there (omega (arith, mine, slice_get_within (take n rows) i r at, length-take n rows))
+
+pub sound_cut : (n : ℕ) (rows : List StoredRow) (t : Lists) (nodes left : List AnnotatedNode)
+    → IsSound rows t nodes → KeepsBelow n nodes left
+    → IsSound (take n rows) (first_of (last_ends (take n rows)) t) left
+sound_cut n rows t nodes left sound kept = record {
+  held = λ i r at. subst (λ (s : Stored). IsHeld r.ends s)
+      (sym (inner_kept nodes left i r.stored (below_keeps n rows nodes left i r kept at)
+      (sound.own i r (get_taken n rows i r at)))) (sound.held i r (get_taken n rows i r at));
+  own = λ i r at. own_kept nodes left i r.stored (below_keeps n rows nodes left i r kept at)
+      (sound.own i r (get_taken n rows i r at));
   ordered = λ i j r s le at there. sound.ordered i j r s le (get_taken n rows i r at)
       (get_taken n rows j s there);
-  within = λ i r at. left_within r.ends (last_ends (take n rows)) t (last_reaches n rows t i r sound at)
+  within = λ i r at. left_within r.ends (last_ends (take n rows)) t (last_reaches n rows t nodes i r sound at)
       (sound.within i r (get_taken n rows i r at));
 }

@@ -1,3 +1,4 @@
 pub mod Lists
+pub mod Annotations
 pub mod Numbers
 pub mod Rows

@@ -5,13 +5,14 @@
 //! `Nodes::cut` keeps the first nodes. So `(+ x 1)`, where `x` is the first variable in scope:
 //!
 //! ```text
-//! let x = nodes.push(&Node::Slot(0))?;                               // 0
-//! let one = nodes.push(&Node::Numeral(b"1"))?;                       // 1
-//! let sum = nodes.push(&Node::Apply { op: plus, args: &[x, one] })?; // 2
-//! nodes.get(sum.number())                                            // Some(Node::Apply { .. })
+//! let x = nodes.push(&Node::Slot(0), 0)?;                               // 0
+//! let one = nodes.push(&Node::Numeral(b"1"), 0)?;                       // 1
+//! let sum = nodes.push(&Node::Apply { op: plus, args: &[x, one] }, 0)?; // 2
+//! nodes.get(sum.number())                                               // Some(Node::Apply { .. })
 //! ```
 #![tactic(auto)]
 
+mod annotated;
 mod large;
 mod node;
 mod op;

@@ -60,8 +60,8 @@ pub(crate) enum Stored {
     Defined(u32, u32),
     /// The count of the values of a `let`, and its body.
     Let(u32, TermId),
-    /// The node of the row of this number, with this many annotations round it.
-    Same(u32, u32),
+    /// The place of a node among those with annotations round them, and how many these are.
+    Annotated(u32, u32),
 }
 
 /// A row: what is stored, and where the row ends in each list.

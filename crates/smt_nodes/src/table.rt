@@ -2,9 +2,10 @@
 
 ghost use Rattle.std.proofs.Props.{props};
 ghost use Rattle.std.specs.Prelude.{◌≡◌, IfOk};
+ghost use Rattle.smt_nodes.specs.Internal.Annotations.{annotated_of, around_of};
 ghost use Rattle.smt_nodes.specs.Internal.Lists.{lists_of};
-ghost use Rattle.smt_nodes.specs.Internal.Numbers.{AreNumbered, large_of};
-ghost use Rattle.smt_nodes.specs.Internal.Rows.{IsSound, annotated, around_of, last_ends};
+ghost use Rattle.smt_nodes.specs.Internal.Numbers.{large_of};
+ghost use Rattle.smt_nodes.specs.Internal.Rows.{AreNumbered, IsSound, last_ends};
 
 use crate::node::{Node, NodeParts};
 use crate::rows::{Ends, Stored, StoredRow};
@@ -16,28 +17,30 @@ use std::alloc::Global;
 
 /// A table of nodes, with numbers from 0 in the order in which they came.
 ///
-/// With each node it counts the annotations without a label directly round it (`!`, SMT-LIB 2.6, section
+/// With each node it keeps how many annotations without a label are directly round it (`!`, SMT-LIB 2.6, section
 /// 3.6.5). It holds at most 2^32 - 1 nodes, and as many arguments and digits in all.
 #[derive(Drop)]
 pub struct Nodes {
     rows: Vec<StoredRow>,
     tables: Tables,
-    ghost sound: { IsSound rows.items (lists_of tables) } by { Prim.hlevel props },
-    ghost numbered: { AreNumbered rows.items (lists_of tables) (large_of tables) } by { Prim.hlevel props },
+    ghost sound: { IsSound rows.items (lists_of tables) (annotated_of tables) } by { Prim.hlevel props },
+    ghost numbered: { AreNumbered rows.items (lists_of tables) (large_of tables)
+        (annotated_of tables) } by { Prim.hlevel props },
 }
 
 impl Nodes {
     ghost use Rattle.std.specs.Prelude.{ℕ, ◌≡◌, ◌<◌, ◌≤◌, ◌∷◌, ◌++◌, ◌+◌, [], length, take, slice_get};
-    ghost use Rattle.std.specs.Prelude.{Some, option_map, IfOk, OnOk, OnErr};
-    ghost use Rattle.smt_nodes.specs.Node.{Apply, Row};
+    ghost use Rattle.std.specs.Prelude.{None, Some, option_map, IfOk, OnOk, OnErr};
+    ghost use Rattle.smt_nodes.specs.Node.{Apply};
     ghost use Rattle.smt_theory.specs.PlainOp.{op_of_plain};
     ghost use Rattle.smt_nodes.specs.NodeView.{node_view};
     ghost use Rattle.smt_nodes.specs.NodeParts.{parts_of};
     ghost use Rattle.smt_nodes.specs.PartsView.{parts_view};
     ghost use Rattle.smt_nodes.specs.Nodes.{rows_of};
-    ghost use Rattle.smt_nodes.specs.Internal.Lists.{IsHeld, lengths, rows_in};
+    ghost use Rattle.smt_nodes.specs.Internal.Annotations.{IsOwn, annotated_in, inner};
+    ghost use Rattle.smt_nodes.specs.Internal.Lists.{IsHeld, lengths};
     ghost use Rattle.smt_nodes.specs.Internal.Numbers.{IsNumberHeld};
-    ghost use Rattle.smt_nodes.specs.Internal.Rows.{row_view, source};
+    ghost use Rattle.smt_nodes.specs.Internal.Rows.{row_view};
     ghost use Rattle.smt_nodes.specs.Internal.Lists.{node_of};
     ghost use Rattle.smt_nodes.specs.Literals.{literal_number, spelled};
 
@@ -100,8 +103,8 @@ impl Nodes {
     {
         match self.row(number) {
             Some(row) => {
-                let held = self.source(row);
-                self.tables.number(held.stored)
+                let stored = self.tables.inner(row.stored);
+                self.tables.number(stored)
             }
             None => None,
         }
@@ -118,46 +121,35 @@ impl Nodes {
         }
     }
 
-    /// Adds a node without annotations round it, and returns its number. The only error is want of memory,
-    /// and then no node is added.
+    /// Adds a node with this many annotations without a label directly round it, and returns its number. The
+    /// only error is want of memory, and then no node is added.
     #[inline(always)]
-    pub fn push(&mut self, node: &Node<'_>) -> Result<TermId, Memory>
+    pub fn push(&mut self, node: &Node<'_>, around: u32) -> Result<TermId, Memory>
         ensures pushed { OnOk result (rows_of self.new
-            ≡ rows_of self.old ++ (record { node = node_view node.now; around = 0 }) ∷ []) }
+            ≡ rows_of self.old ++ (record { node = node_view node.now; around = around }) ∷ []) }
         ensures number { IfOk result (λ id. id ≡ length (rows_of self.old)) }
         ensures unchanged { OnErr result (rows_of self.new ≡ rows_of self.old) }
     {
         let stored = self.tables.store(node, self.rows.len())?;
-        self.push_row(stored)
+        self.push_stored(stored, around)
     }
 
     /// Adds the node of an operator that holds no number, with its arguments, as `push` does. It takes less
     /// time.
     #[inline(always)]
-    pub fn push_plain(&mut self, op: PlainOp, args: &[TermId]) -> Result<TermId, Memory>
+    pub fn push_plain(
+        &mut self,
+        op: PlainOp,
+        args: &[TermId],
+        around: u32,
+    ) -> Result<TermId, Memory>
         ensures pushed { OnOk result (rows_of self.new ≡ rows_of self.old
-            ++ (record { node = Apply (op_of_plain op) args.now; around = 0 }) ∷ []) }
+            ++ (record { node = Apply (op_of_plain op) args.now; around = around }) ∷ []) }
         ensures number { IfOk result (λ id. id ≡ length (rows_of self.old)) }
         ensures unchanged { OnErr result (rows_of self.new ≡ rows_of self.old) }
     {
         let stored = self.tables.store_plain(op, args)?;
-        self.push_row(stored)
-    }
-
-    /// Adds the node of a number once more, with one more annotation round it, and returns the new number.
-    ///
-    /// The only error is want of memory, and then no node is added. The cost does not grow with the node's
-    /// arguments.
-    pub fn annotate(&mut self, id: TermId) -> Result<TermId, Memory>
-        requires { id < length (rows_of self.old) }
-        ensures pushed { OnOk result ((row : Row) × (slice_get (rows_of self.old) id ≡ Some row)
-            × (rows_of self.new ≡ rows_of self.old ++ (record row { around = row.around + 1 }) ∷ [])) }
-        ensures number { IfOk result (λ new. new ≡ length (rows_of self.old)) }
-        ensures unchanged { OnErr result (rows_of self.new ≡ rows_of self.old) }
-    {
-        let row = self.rows.as_slice()[id.number()];
-        let stored = annotated(id, row.stored)?;
-        self.push_row(stored)
+        self.push_stored(stored, around)
     }
 
     /// Keeps the first `count` nodes. The cost is that of the nodes that it removes.
@@ -169,13 +161,34 @@ impl Nodes {
         self.tables.truncate(ends, count);
     }
 
+    // Adds the node of which this is stored at the ends of the lists, with this many annotations round it, and
+    // returns its number.
+    #[inline(always)]
+    fn push_stored(&mut self, stored: Stored, around: u32) -> Result<TermId, Memory>
+        requires held { IsHeld (lengths (lists_of self.old.tables)) stored }
+        requires bare { annotated_in stored ≡ None }
+        requires number { IsNumberHeld (large_of self.old.tables) (length self.old.rows.items) stored
+            (spelled (node_of (lists_of self.old.tables) (lengths (lists_of self.old.tables)) stored)) }
+        ensures pushed { OnOk result (rows_of self.new ≡ rows_of self.old ++ (record {
+          node = node_of (lists_of self.old.tables) (lengths (lists_of self.old.tables)) stored;
+          around = around;
+        }) ∷ []) }
+        ensures number { IfOk result (λ id. id ≡ length (rows_of self.old)) }
+        ensures unchanged { OnErr result (rows_of self.new ≡ rows_of self.old) }
+    {
+        let stored = self.tables.annotate(stored, around, self.rows.len())?;
+        self.push_row(stored)
+    }
+
     // Adds a row, where the lists hold what it stores, and returns its number.
     #[inline(always)]
     fn push_row(&mut self, stored: Stored) -> Result<TermId, Memory>
-        requires held { IsHeld (lengths (lists_of self.old.tables)) stored }
-        requires below { rows_in stored ≤ length self.old.rows.items }
-        requires number { IsNumberHeld (large_of self.old.tables) (length self.old.rows.items) stored
-            (spelled (node_of (lists_of self.old.tables) (lengths (lists_of self.old.tables)) stored)) }
+        requires held { IsHeld (lengths (lists_of self.old.tables)) (inner (annotated_of self.old.tables) stored) }
+        requires own { IsOwn (annotated_of self.old.tables) (length self.old.rows.items) stored }
+        requires number { IsNumberHeld (large_of self.old.tables) (length self.old.rows.items)
+            (inner (annotated_of self.old.tables) stored)
+            (spelled (node_of (lists_of self.old.tables) (lengths (lists_of self.old.tables))
+            (inner (annotated_of self.old.tables) stored))) }
         ensures pushed { OnOk result (self.new.rows.items ≡ self.old.rows.items
             ++ (record { stored = stored; ends = lengths (lists_of self.old.tables) }) ∷ []) }
         ensures number { IfOk result (λ id. id ≡ length self.old.rows.items) }
@@ -200,28 +213,15 @@ impl Nodes {
         }
     }
 
-    // The row that holds the node of a row.
-    #[inline(always)]
-    fn source(&self, row: StoredRow) -> StoredRow
-        ensures { result ≡ source self.now.rows.items row }
-    {
-        match row.stored {
-            Stored::Same(number, _) => match self.row(number as usize) {
-                Some(found) => found,
-                None => row,
-            },
-            _ => row,
-        }
-    }
-
     // The node of a row.
     #[inline(always)]
     fn node(&self, row: StoredRow) -> Node<'_>
         requires { (i : ℕ) × (slice_get self.now.rows.items i ≡ Some row) }
-        ensures { node_view result ≡ (row_view self.now.rows.items (lists_of self.now.tables) row).node }
+        ensures { node_view result
+            ≡ (row_view (lists_of self.now.tables) (annotated_of self.now.tables) row).node }
     {
-        let source = self.source(row);
-        self.tables.node(source.ends, source.stored)
+        let stored = self.tables.inner(row.stored);
+        self.tables.node(row.ends, stored)
     }
 
     // The parts of the node of a row.
@@ -229,10 +229,10 @@ impl Nodes {
     fn parts(&self, row: StoredRow) -> NodeParts<'_>
         requires { (i : ℕ) × (slice_get self.now.rows.items i ≡ Some row) }
         ensures { parts_view result
-            ≡ parts_of (row_view self.now.rows.items (lists_of self.now.tables) row).node }
+            ≡ parts_of (row_view (lists_of self.now.tables) (annotated_of self.now.tables) row).node }
     {
-        let held = self.source(row);
-        self.tables.node_parts(held.ends, held.stored)
+        let stored = self.tables.inner(row.stored);
+        self.tables.node_parts(row.ends, stored)
     }
 }
 
@@ -242,21 +242,8 @@ fn around(stored: Stored) -> u32
     ensures { result ≡ around_of stored }
 {
     match stored {
-        Stored::Same(_, around) => around,
+        Stored::Annotated(_, around) => around,
         _ => 0,
-    }
-}
-
-// What is stored for the row of this number with one more annotation round its node.
-fn annotated(id: TermId, stored: Stored) -> Result<Stored, Memory>
-    ensures { IfOk result (λ s. s ≡ annotated id stored) }
-{
-    match stored {
-        Stored::Same(number, around) => match around.checked_add(1) {
-            Some(more) => Ok(Stored::Same(number, more)),
-            None => Err(Memory),
-        },
-        _ => Ok(Stored::Same(id.raw(), 1)),
     }
 }
 

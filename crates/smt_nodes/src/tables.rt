@@ -1,8 +1,9 @@
-//! The lists that rows reach into: arguments, digits, operators with numbers, and large numbers of literals.
-//! Each only grows at its end or is cut. This file knows no rows.
+//! The lists that rows reach into: arguments, digits, operators with numbers, large numbers of literals, and nodes
+//! with annotations round them. Each only grows at its end or is cut. This file knows no rows.
 
 ghost use Rattle.std.specs.Prelude.{◌≡◌, ◌≤◌, ◌<◌, ◌++◌, ◌^◌, length, slice_index_or, IfOk, OnOk, OnErr};
 ghost use Rattle.std.specs.Prelude.{◌∷◌, [], ℕ, List, None, Some, slice_get};
+ghost use Rattle.smt_nodes.specs.declared.annotated.AnnotatedNode.{AnnotatedNode};
 ghost use Rattle.smt_nodes.specs.declared.large.LargeNumber.{LargeNumber};
 ghost use Rattle.smt_theory.specs.PlainOp.{op_of_plain};
 ghost use Rattle.smt_theory.specs.declared.op.CoreOp.{CoreOp};
@@ -11,13 +12,15 @@ ghost use Rattle.smt_nodes.specs.Node as spec;
 ghost use Rattle.smt_nodes.specs.NodeView.{node_view};
 ghost use Rattle.smt_nodes.specs.NodeParts.{parts_of};
 ghost use Rattle.smt_nodes.specs.PartsView.{parts_view};
+ghost use Rattle.smt_nodes.specs.Internal.Annotations.{IsAnnotated, annotated_in, annotated_of, inner, stored_in};
 ghost use Rattle.smt_nodes.specs.Internal.Lists.{Grows, IsHeld, IsStored, IsUpTo, before, first_of, lengths};
-ghost use Rattle.smt_nodes.specs.Internal.Lists.{lists_of, literal_of, node_of, no_lists};
-ghost use Rattle.smt_nodes.specs.Internal.Numbers.{IsNumberHeld, IsPrefix, held_number, large_of};
+ghost use Rattle.smt_nodes.specs.Internal.Lists.{IsPrefix, lists_of, literal_of, node_of, no_lists};
+ghost use Rattle.smt_nodes.specs.Internal.Numbers.{IsNumberHeld, held_number, large_of};
 ghost use Rattle.smt_nodes.specs.Internal.Numbers.{number_in};
 ghost use Rattle.smt_nodes.specs.Literals.{spelled};
 
-use crate::large::{LargeNumber, count_before};
+use crate::annotated::{self, AnnotatedNode};
+use crate::large::{self, LargeNumber};
 use crate::node::{Node, NodeParts};
 use crate::op::NumberedOp;
 use crate::rows::{Base, Ends, Stored};
@@ -36,6 +39,7 @@ pub(crate) struct Tables {
     digits: Vec<u8>,
     ops: Vec<NumberedOp>,
     large: Vec<LargeNumber>,
+    annotated: Vec<AnnotatedNode>,
 }
 
 impl Tables {
@@ -43,12 +47,14 @@ impl Tables {
     pub(crate) fn new(alloc: Global) -> Tables
         ensures lists { lists_of result ≡ no_lists }
         ensures large { large_of result ≡ [] }
+        ensures annotated { annotated_of result ≡ [] }
     {
         Tables {
             parts: Vec::new(alloc),
             digits: Vec::new(alloc),
             ops: Vec::new(alloc),
             large: Vec::new(alloc),
+            annotated: Vec::new(alloc),
         }
     }
 
@@ -75,12 +81,16 @@ impl Tables {
         ensures lists { lists_of self.new ≡ first_of ends (lists_of self.old) }
         ensures large { (i : ℕ) (x : LargeNumber) → slice_get (large_of self.old) i ≡ Some x → x.row < rows
             → slice_get (large_of self.new) i ≡ Some x }
+        ensures annotated { (i : ℕ) (x : AnnotatedNode) → slice_get (annotated_of self.old) i ≡ Some x
+            → x.row < rows → slice_get (annotated_of self.new) i ≡ Some x }
     {
         self.parts.truncate(ends.parts as usize);
         self.digits.truncate(ends.digits as usize);
         self.ops.truncate(ends.ops as usize);
         self.large
-            .truncate(count_before(self.large.as_slice(), rows));
+            .truncate(large::count_before(self.large.as_slice(), rows));
+        self.annotated
+            .truncate(annotated::count_before(self.annotated.as_slice(), rows));
     }
 
     /// The node of a row.
@@ -114,7 +124,7 @@ impl Tables {
                 values: self.parts(count, ends.parts),
                 body,
             },
-            Stored::Same(number, _) => Node::Slot(number as usize),
+            Stored::Annotated(place, _) => Node::Slot(place as usize),
         }
     }
 
@@ -127,7 +137,7 @@ impl Tables {
     {
         match stored {
             Stored::Literal(_, _, _) | Stored::Large(_, _, _) => NodeParts::Args(&[]),
-            Stored::Slot(_) | Stored::Same(_, _) => NodeParts::Args(&[]),
+            Stored::Slot(_) | Stored::Annotated(_, _) => NodeParts::Args(&[]),
             Stored::Plain(_, count) | Stored::Numbered(_, count) => {
                 NodeParts::Args(self.parts(count, ends.parts))
             }
@@ -144,6 +154,62 @@ impl Tables {
                 body,
             },
         }
+    }
+
+    /// What is stored for the node of a row itself, without the annotations round it.
+    #[inline(always)]
+    pub(crate) fn inner(&self, stored: Stored) -> Stored
+        ensures { result ≡ inner (annotated_of self.now) stored }
+    {
+        match stored {
+            Stored::Annotated(place, _) => self.annotated_at(place as usize),
+            _ => stored,
+        }
+    }
+
+    // What is stored for the node at a place among those with annotations round them.
+    fn annotated_at(&self, place: usize) -> Stored
+        ensures { result ≡ stored_in (slice_get (annotated_of self.now) place) }
+    {
+        match self.annotated.as_slice().get(place) {
+            Some(node) => node.stored,
+            None => Stored::Slot(0),
+        }
+    }
+
+    /// What the row of this number stores for a node with this many annotations round it, from what is stored for
+    /// the node itself.
+    #[inline(always)]
+    pub(crate) fn annotate(
+        &mut self,
+        stored: Stored,
+        around: u32,
+        row: usize,
+    ) -> Result<Stored, Memory>
+        requires { annotated_in stored ≡ None }
+        ensures lists { lists_of self.new ≡ lists_of self.old }
+        ensures large { large_of self.new ≡ large_of self.old }
+        ensures longer { IsPrefix (annotated_of self.old) (annotated_of self.new) }
+        ensures annotated { IfOk result (IsAnnotated (annotated_of self.new) row stored around) }
+    {
+        if around == 0 {
+            return Ok(stored);
+        }
+        self.push_annotated(stored, around, row)
+    }
+
+    // Stores a node with annotations round it, out of line: most nodes have none.
+    #[inline(never)]
+    fn push_annotated(&mut self, stored: Stored, around: u32, row: usize) -> Result<Stored, Memory>
+        ensures lists { lists_of self.new ≡ lists_of self.old }
+        ensures large { large_of self.new ≡ large_of self.old }
+        ensures longer { IsPrefix (annotated_of self.old) (annotated_of self.new) }
+        ensures annotated { IfOk result (IsAnnotated (annotated_of self.new) row stored around) }
+    {
+        let place = narrow(self.annotated.len())?;
+        let row = narrow(row)?;
+        self.annotated.push(AnnotatedNode { row, stored })?;
+        Ok(Stored::Annotated(place, around))
     }
 
     /// The number that the digits of a literal spell, from what is stored for it.
@@ -177,6 +243,7 @@ impl Tables {
         ensures grown { Grows (lists_of self.old) (lists_of self.new) }
         ensures stored { IfOk result (λ s. IsStored (lists_of self.new) s (node_view node.now)) }
         ensures longer { IsPrefix (large_of self.old) (large_of self.new) }
+        ensures annotated { annotated_of self.new ≡ annotated_of self.old }
         ensures number { IfOk result (λ s.
             IsNumberHeld (large_of self.new) row s (spelled (node_view node.now))) }
     {
@@ -203,6 +270,7 @@ impl Tables {
         ensures grown { Grows (lists_of self.old) (lists_of self.new) }
         ensures stored { IfOk result (λ s. IsStored (lists_of self.new) s (literal_of base digits.now)) }
         ensures longer { IsPrefix (large_of self.old) (large_of self.new) }
+        ensures annotated { annotated_of self.new ≡ annotated_of self.old }
         ensures number { IfOk result (λ s.
             IsNumberHeld (large_of self.new) row s (spelled (literal_of base digits.now))) }
     {
@@ -224,6 +292,7 @@ impl Tables {
         ensures pushed { OnOk result (large_of self.new ≡ large_of self.old ++ large ∷ []) }
         ensures unchanged { OnErr result (large_of self.new ≡ large_of self.old) }
         ensures lists { lists_of self.new ≡ lists_of self.old }
+        ensures annotated { annotated_of self.new ≡ annotated_of self.old }
     {
         let place = narrow(self.large.len())?;
         self.large.push(large)?;
@@ -236,6 +305,7 @@ impl Tables {
         ensures grown { Grows (lists_of self.old) (lists_of self.new) }
         ensures stored { IfOk result (λ s. IsStored (lists_of self.new) s (spec.Apply op.now args.now)) }
         ensures large { self.new.large ≡ self.old.large }
+        ensures annotated { annotated_of self.new ≡ annotated_of self.old }
     {
         match PlainOp::from_op(*op) {
             Some(plain) => self.store_plain(plain, args),
@@ -250,6 +320,7 @@ impl Tables {
         ensures stored { IfOk result (λ s. IsStored (lists_of self.new) s
             (spec.Apply (op_of_plain op) args.now)) }
         ensures large { self.new.large ≡ self.old.large }
+        ensures annotated { annotated_of self.new ≡ annotated_of self.old }
         ensures number { IfOk result (λ s. (large : List LargeNumber) (row : ℕ)
             → IsNumberHeld large row s None) }
     {
@@ -261,6 +332,7 @@ impl Tables {
         ensures grown { Grows (lists_of self.old) (lists_of self.new) }
         ensures stored { IfOk result (λ s. IsStored (lists_of self.new) s (spec.Apply op.now args.now)) }
         ensures large { self.new.large ≡ self.old.large }
+        ensures annotated { annotated_of self.new ≡ annotated_of self.old }
     {
         let place = narrow(self.ops.len())?;
         self.ops.push(NumberedOp::new(op))?;
@@ -275,6 +347,7 @@ impl Tables {
         ensures parts { self.new.parts ≡ self.old.parts }
         ensures ops { self.new.ops ≡ self.old.ops }
         ensures large { self.new.large ≡ self.old.large }
+        ensures annotated { annotated_of self.new ≡ annotated_of self.old }
     {
         let count = narrow(digits.len())?;
         self.digits.extend_from_slice(digits)?;
@@ -290,6 +363,7 @@ impl Tables {
         ensures digits { self.new.digits ≡ self.old.digits }
         ensures ops { self.new.ops ≡ self.old.ops }
         ensures large { self.new.large ≡ self.old.large }
+        ensures annotated { annotated_of self.new ≡ annotated_of self.old }
     {
         if parts.is_empty() {
             return Ok(0);

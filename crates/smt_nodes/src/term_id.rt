@@ -1,6 +1,6 @@
 //! The numbers of nodes. This file knows no table.
 
-ghost use Rattle.std.specs.Prelude.{◌≡◌, ◌≤◌, ◌+◌, ◌-◌, IfOk};
+ghost use Rattle.std.specs.Prelude.{◌≡◌, ◌+◌, IfOk};
 
 use smt_faults::Memory;
 use std::marker::Model;
@@ -53,24 +53,6 @@ impl TermId {
             }),
             _ => Err(Memory),
         }
-    }
-
-    /// The inverse of `behind`: the number of the same node in its own table, without the `count` nodes that
-    /// come before.
-    pub fn after(self, count: usize) -> TermId
-        requires { count ≤ self }
-        ensures { result ≡ self - count }
-    {
-        TermId {
-            number: self.number - count as u32,
-        }
-    }
-
-    // The number in four bytes.
-    pub(crate) fn raw(self) -> u32
-        ensures { result ≡ self }
-    {
-        self.number
     }
 
     // The node of this number, from 0.

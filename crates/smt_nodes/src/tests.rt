@@ -5,19 +5,21 @@ use smt_faults::Memory;
 use smt_theory::{Arithmetic, BitsOp, IntsOp, Op};
 use std::alloc::Global;
 
-// `(+ x (! 1))`, where `x` is the first variable in scope, and then one operator with a number on top.
+// `(! (! (+ x (! 1))))`, where `x` is the first variable in scope, and then one operator with a number on top.
 fn sum(alloc: Global) -> Result<Nodes, Memory> {
     let mut nodes = Nodes::new(alloc);
-    let x = nodes.push(&Node::Slot(0))?;
-    let one = nodes.push(&Node::Numeral(b"1"))?;
-    let one = nodes.annotate(one)?;
+    let x = nodes.push(&Node::Slot(0), 0)?;
+    let one = nodes.push(&Node::Numeral(b"1"), 1)?;
     let op = Op::Ints(IntsOp::Arithmetic(Arithmetic::Plus));
-    let sum = nodes.push(&Node::Apply {
-        op,
-        args: &[x, one],
-    })?;
+    let sum = nodes.push(
+        &Node::Apply {
+            op,
+            args: &[x, one],
+        },
+        2,
+    )?;
     let op = Op::Bits(BitsOp::Repeat(2));
-    let _ = nodes.push(&Node::Apply { op, args: &[sum] })?;
+    let _ = nodes.push(&Node::Apply { op, args: &[sum] }, 0)?;
     Ok(nodes)
 }
 
@@ -37,19 +39,18 @@ fn arity_by_parts(nodes: &Nodes, number: usize) -> usize {
     }
 }
 
-// The numbers of three literals: one that has room in its row, one that has none, and one of 129 digits.
+// The numbers of three literals: one that has room in its row, one that has none and stands in two annotations, and
+// one of 129 digits.
 fn numbers(alloc: Global) -> Result<[Option<u128>; 3], Memory> {
     let mut nodes = Nodes::new(alloc);
-    let _ = nodes.push(&Node::Bin(b"101"))?;
-    let large = nodes.push(&Node::Hex(b"Ffffffff"))?;
-    let _ = nodes.annotate(large)?;
+    let _ = nodes.push(&Node::Bin(b"101"), 0)?;
+    let _ = nodes.push(&Node::Hex(b"Ffffffff"), 1)?;
     let digits = [b'1'; 129];
-    let _ = nodes.push(&Node::Bin(&digits))?;
+    let _ = nodes.push(&Node::Bin(&digits), 0)?;
     nodes.cut(1);
-    let _ = nodes.push(&Node::Slot(0))?;
-    let large = nodes.push(&Node::Hex(b"Ffffffff"))?;
-    let large = nodes.annotate(large)?;
-    let longest = nodes.push(&Node::Bin(&digits))?;
+    let _ = nodes.push(&Node::Slot(0), 0)?;
+    let large = nodes.push(&Node::Hex(b"Ffffffff"), 2)?;
+    let longest = nodes.push(&Node::Bin(&digits), 0)?;
     Ok([
         nodes.literal(0),
         nodes.literal(large.number()),
@@ -74,14 +75,17 @@ fn a_sum_is_read(rt: HostRuntime) {
     let mut built = false;
     for _ in 0..2 {
         if let Ok(mut nodes) = sum(rt.alloc()) {
-            assert_eq!(rt; nodes.len(), 5);
-            assert_eq!(rt; arity(&nodes, 3), 2);
-            assert_eq!(rt; arity(&nodes, 4), 1);
-            assert_eq!(rt; arity_by_parts(&nodes, 3), 2);
-            assert_eq!(rt; nodes.around(2), Some(1));
-            nodes.cut(4);
             assert_eq!(rt; nodes.len(), 4);
-            assert_eq!(rt; nodes.around(4), None);
+            assert_eq!(rt; arity(&nodes, 2), 2);
+            assert_eq!(rt; arity(&nodes, 3), 1);
+            assert_eq!(rt; arity_by_parts(&nodes, 2), 2);
+            assert_eq!(rt; nodes.around(0), Some(0));
+            assert_eq!(rt; nodes.around(1), Some(1));
+            assert_eq!(rt; nodes.around(2), Some(2));
+            nodes.cut(2);
+            assert_eq!(rt; nodes.len(), 2);
+            assert_eq!(rt; nodes.around(1), Some(1));
+            assert_eq!(rt; nodes.around(2), None);
             built = true;
         }
     }

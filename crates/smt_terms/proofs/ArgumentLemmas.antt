@@ -150,13 +150,13 @@ no_sorts d start is = none_after (argument_sorts d.arguments) start is
 no_terms : (d : Draft) (start : ℕ) → start ≡ waiting d → terms_from start d.arguments ≡ []
 no_terms d start is = none_after (argument_terms d.arguments) start (is ∙ sym d.arguments.paired)
 
-pub applied_alone : (library : Library) (old new : Draft) (f : Identifier) (start : ℕ) → start ≡ waiting old
-    → (c : CheckedTerm)
-    → AddsApplied library old new f (sorts_from start old.arguments) (terms_from start old.arguments) c
-    → AddsApplied library old new f [] [] c
-applied_alone library old new f start is c adds =
-    subst (λ ss. AddsApplied library old new f ss [] c) (no_sorts old start is)
-    (subst (λ js. AddsApplied library old new f (sorts_from start old.arguments) js c) (no_terms old start is) adds)
+pub applied_alone : (library : Library) (old new : Draft) (around : ℕ) (f : Identifier) (start : ℕ)
+    → start ≡ waiting old → (c : CheckedTerm)
+    → AddsApplied library old new around f (sorts_from start old.arguments) (terms_from start old.arguments) c
+    → AddsApplied library old new around f [] [] c
+applied_alone library old new around f start is c adds =
+    subst (λ ss. AddsApplied library old new around f ss [] c) (no_sorts old start is)
+    (subst (λ js. AddsApplied library old new around f (sorts_from start old.arguments) js c) (no_terms old start is) adds)
 
 -- ---- a draft with other arguments
 
@@ -171,9 +171,10 @@ pub so_far_with : (Are : Denoting) (library : Library) (old new : Draft) (argume
 so_far_with Are library old new arguments all left done is_open so =
     record { longer = so.longer; named = so.named; before = so.before }
 
-pub stands_with : (library : Library) (old new : Draft) (arguments : Arguments) (term : Sexp) (c : CheckedTerm)
-    → Stands library old new term c → Stands library old (record new { arguments = arguments }) term c
-stands_with library old new arguments term c stands = record {
+pub stands_with : (library : Library) (old new : Draft) (around : ℕ) (arguments : Arguments) (term : Sexp)
+    (c : CheckedTerm) → Stands library old new around term c
+    → Stands library old (record new { arguments = arguments }) around term c
+stands_with library old new around arguments term c stands = record {
   own = stands.own;
   number = stands.number;
   denotes = stands.denotes;

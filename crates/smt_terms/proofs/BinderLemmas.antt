@@ -109,16 +109,7 @@ bang_with_parts names scope args attributes term b split is =
     (λ c. cond c (result_and_then (sort_in names scope term) (labelled_in names scope attributes term))
     (Err Form)) is
 
--- a fault of the term is its fault
-pub fault_of_annotated : (names : Names) (scope : Scope) (args attributes : Sexps) (term : Sexp)
-    (e : TermFault) → args ≡ Cons term attributes → are_attributes attributes ≡ true
-    → Tells (sort_in names scope term) e → Tells (bang_in names scope args) e
-fault_of_annotated names scope args attributes term e split is (inl m) = inl m
-fault_of_annotated names scope args attributes term e split is (inr h) =
-    inr (bang_with_parts names scope args attributes term true split is ∙ ap
-    (λ r. result_and_then r (labelled_in names scope attributes term)) h)
-
--- and then that of its labels
+-- a fault of its labels comes after those of the term
 annotated_by : (names later : Names) (scope : Scope) (args attributes : Sexps) (term : Sexp) (sort : Sort)
     (o : Option TermFlaw) → later ≡ behind (labels_in term) names → args ≡ Cons term attributes
     → are_attributes attributes ≡ true

@@ -8,13 +8,12 @@ use Rattle.smt_forms.specs.Bindings.{named_trees}
 use Rattle.smt_forms.specs.Labels.{labels_among}
 use Rattle.smt_forms.specs.Variables.{uses_variable}
 use Rattle.smt_nodes.specs.Node as node
-use Rattle.smt_nodes.specs.Node.{Row}
 use Rattle.smt_nodes.specs.Nodes.{rows_of}
 use Rattle.smt_terms.specs.Denotes.{AreBound, Denotes, Slots, Table, slots_bound, slots_from}
 use Rattle.smt_terms.specs.Denotes.{unless_labelled}
 use Rattle.smt_terms.specs.Internal.Calls.{SeesTheSame, has_labels}
 use Rattle.smt_terms.specs.Internal.DraftView.{Variables, inside, placed_from, seen_by, sorts_seen}
-use Rattle.smt_terms.specs.Internal.NodesView.{AddsAround, AddsNode, BindingsStand, GrowsTo, Stands}
+use Rattle.smt_terms.specs.Internal.NodesView.{AddsNode, BindingsStand, GrowsTo, Stands}
 use Rattle.smt_terms.specs.Internal.NodesView.{nodes_given}
 use Rattle.smt_terms.specs.Internal.LabelsView.{given_names, given_terms}
 use Rattle.smt_terms.specs.Internal.TableView.{AreNamed, IsReady, names_of_definitions, places_seen, rows_in}
@@ -24,13 +23,12 @@ use Rattle.smt_terms.specs.declared.labels.Labels.{Labels}
 use Rattle.smt_terms.specs.declared.library.Library.{Library}
 use Rattle.smt_terms.specs.declared.library.draft.CheckedTerm.{CheckedTerm}
 use Rattle.smt_terms.specs.declared.library.draft.Draft.{Draft}
-use Rattle.smt_terms.proofs.AroundLemmas.{bound_later, denotes_around}
 use Rattle.smt_terms.proofs.CheckerLemmas.{Scope}
 use Rattle.smt_terms.proofs.ClosedLemmas.{neither}
-use Rattle.smt_terms.proofs.DenotesLemmas.{bound_kept, denotes_kept, slice_get-append}
+use Rattle.smt_terms.proofs.DenotesLemmas.{bound_kept, bound_later, denotes_kept}
 use Rattle.smt_terms.proofs.DraftLemmas.{inside_none, names_of, no_labels, places_more, slots_more, uses_none}
 use Rattle.smt_terms.proofs.LabelLemmas.{given_names_of}
-use Rattle.smt_terms.proofs.NodeLemmas.{added, made_stands}
+use Rattle.smt_terms.proofs.NodeLemmas.{made_stands}
 use Rattle.smt_terms.proofs.TableLemmas.{grows_on, grows_same, keeps_labels, keeps_on, named_kept, ready_kept}
 use Rattle.smt_terms.proofs.TableLemmas.{grows_given}
 
@@ -68,19 +66,19 @@ module _ (d mid inner : Draft) (bindings : Sexps) (bound : Scope) (kept : SeesTh
       ∙ length-map bound (λ v. v.0)))
 
 -- a `let` whose values stand for theirs, and its body for its own
-pub let_stands : (library : Library) (d mid inner last cut new : Draft) (args bindings : Sexps) (body : Sexp)
-    (bound : Scope) (js : List ℕ) (b : Bool) (checked c : CheckedTerm) → args ≡ Cons (Items bindings) (Cons body Nil)
+pub let_stands : (library : Library) (d mid inner last cut new : Draft) (around : ℕ) (args bindings : Sexps)
+    (body : Sexp) (bound : Scope) (js : List ℕ) (b : Bool) (checked c : CheckedTerm) → args ≡ Cons (Items bindings) (Cons body Nil)
     → SeesTheSame d mid → d.base ≤ length (seen_by d)
     → seen_by inner ≡ placed_from (length (seen_by mid)) bound ++ seen_by mid → inner.base ≡ mid.base
     → inner.labels ≡ mid.labels → inner.nodes ≡ mid.nodes → names_of bound ≡ map (λ t. t.0) (named_trees bindings)
     → GrowsTo d mid → BindingsStand library d mid bindings js b → GrowsTo inner last
-    → Stands library inner last body checked → cut.labels ≡ last.labels → cut.nodes ≡ last.nodes
-    → GrowsTo cut new → AddsNode library.nodes cut new (node.Let js checked.node) c → c.is_open ≡ (b || checked.is_open)
-    → Stands library d new (Items (Cons (Reserved Let) args)) c
-let_stands library d mid inner last cut new args bindings body bound js b checked c split kept within more base
+    → Stands library inner last 0 body checked → cut.labels ≡ last.labels → cut.nodes ≡ last.nodes
+    → GrowsTo cut new → AddsNode library.nodes cut new around (node.Let js checked.node) c → c.is_open ≡ (b || checked.is_open)
+    → Stands library d new around (Items (Cons (Reserved Let) args)) c
+let_stands library d mid inner last cut new around args bindings body bound js b checked c split kept within more base
     labels nodes named first values second inside_stands labels_cut nodes_cut third adds opened =
-    subst (λ (ts : Sexps). Stands library d new (Items (Cons (Reserved Let) ts)) c) (sym split)
-    (made_stands library d cut new (Items (Cons (Reserved Let) (Cons (Items bindings) (Cons body Nil))))
+    subst (λ (ts : Sexps). Stands library d new around (Items (Cons (Reserved Let) ts)) c) (sym split)
+    (made_stands library d cut new around (Items (Cons (Reserved Let) (Cons (Items bindings) (Cons body Nil))))
     (node.Let js checked.node) c to_cut
     (keeps_on library d last cut to_last
     (keeps_on library d inner last to_inner
@@ -146,39 +144,18 @@ labelled_holds : (xs : List (List ℕ)) (bare : Type 0) (labelled : List ℕ →
 labelled_holds [] bare labelled some h = cc
 labelled_holds (x ∷ xs) bare labelled some h = h x xs refl
 
--- one without labels
-pub annotated_stands : (library : Library) (d mid new : Draft) (args attributes : Sexps) (term : Sexp)
-    (checked c : CheckedTerm) → args ≡ Cons term attributes → has_labels (labels_among attributes) ≡ false
-    → GrowsTo d mid → Stands library d mid term checked → GrowsTo mid new → AddsAround library.nodes mid new checked.node c.node
-    → c.is_open ≡ checked.is_open → Stands library d new (Items (Cons (Reserved Bang) args)) c
-annotated_stands library d mid new args attributes term checked c split none first stands second adds opened =
-    subst (λ (ts : Sexps). Stands library d new (Items (Cons (Reserved Bang) ts)) c) (sym split) (record {
-      own = omega (arith, adds.number, length-append (rows_of library.nodes) (rows_of mid.nodes));
-      number = omega (
-        arith,
-        adds.number,
-        ap length adds.row.2,
-        length-append (rows_in library mid) ((record r { around = r.around + 1 }) ∷ []),
-      );
+-- one without labels: the node of the term in it keeps the annotation
+pub annotated_stands : (library : Library) (d new : Draft) (around : ℕ) (args attributes : Sexps) (term : Sexp)
+    (c : CheckedTerm) → args ≡ Cons term attributes → has_labels (labels_among attributes) ≡ false
+    → Stands library d new (around + 1) term c → Stands library d new around (Items (Cons (Reserved Bang) args)) c
+annotated_stands library d new around args attributes term c split none stands =
+    subst (λ (ts : Sexps). Stands library d new around (Items (Cons (Reserved Bang) ts)) c) (sym split) (record {
+      own = stands.own;
+      number = stands.number;
       denotes = λ ready closed. bare_holds (labels_among attributes) _ _ (no_labels (labels_among attributes) none)
-          (subst (λ (i : ℕ). Denotes t (slots_seen d) (places_seen d) 1 i term) (sym adds.number)
-          (denotes_around t checked.node (length (rows_in library mid)) r
-          (ap (λ rs. slice_get rs checked.node) adds.row.2
-          ∙ slice_get-append (rows_in library mid) ((record r { around = r.around + 1 }) ∷ []) checked.node r
-          adds.row.1)
-          (ap (λ rs. slice_get rs (length (rows_in library mid))) adds.row.2
-          ∙ added (rows_in library mid) (record r { around = r.around + 1 })) stands.number (slots_seen d)
-          (places_seen d) 0 term
-          (denotes_kept (table_in library mid) t (second library) (slots_seen d) (places_seen d) 0 checked.node term
-          (stands.denotes ready (sym opened ∙ closed)))));
-      named = keeps_on library d mid new first stands.named (keeps_labels library mid new second adds.labels);
+          (stands.denotes ready closed);
+      named = stands.named;
     })
-  where
-    t : Table
-    t = table_in library new
-
-    r : Row
-    r = adds.row.0
 
 -- ## Labelled terms
 
@@ -205,9 +182,9 @@ first_body bodies old new n (x ∷ xs) some more =
     first_given (λ l. l.node) bodies old.given.items new.given.items n (map (λ y. n) xs) more
 
 -- a term with labels, the first of which names it
-pub labelled_stands : (library : Library) (d inner mid given new : Draft) (term : Sexp) (attributes : Sexps)
-    (place : ℕ) (checked c : CheckedTerm) (more : List Label) → inner.labels ≡ d.labels → inner.nodes ≡ d.nodes
-    → inner.base ≡ length (seen_by inner) → GrowsTo inner mid → Stands library inner mid term checked
+pub labelled_stands : (library : Library) (d inner mid given new : Draft) (around : ℕ) (term : Sexp)
+    (attributes : Sexps) (place : ℕ) (checked c : CheckedTerm) (more : List Label) → inner.labels ≡ d.labels → inner.nodes ≡ d.nodes
+    → inner.base ≡ length (seen_by inner) → GrowsTo inner mid → Stands library inner mid 0 term checked
     → checked.is_open ≡ false → uses_variable (sorts_seen d) term ≡ false
     → place ≡ length library.bodies.items + length mid.labels.given.items
     → has_labels (labels_among attributes) ≡ true → given.nodes ≡ mid.nodes
@@ -216,11 +193,11 @@ pub labelled_stands : (library : Library) (d inner mid given new : Draft) (term 
     → nodes_given given.labels ≡ nodes_given mid.labels ++ map (λ x. checked.node) (labels_among attributes)
     → ((t : Table) → AreNamed t mid.labels.given.items → Denotes t [] 0 0 checked.node term
     → AreNamed t given.labels.given.items)
-    → GrowsTo given new → AddsNode library.nodes given new (node.Defined place []) c
-    → Stands library d new (Items (Cons (Reserved Bang) (Cons term attributes))) c
-labelled_stands library d inner mid given new term attributes place checked c more labels nodes base first stands
+    → GrowsTo given new → AddsNode library.nodes given new around (node.Defined place []) c
+    → Stands library d new around (Items (Cons (Reserved Bang) (Cons term attributes))) c
+labelled_stands library d inner mid given new around term attributes place checked c more labels nodes base first stands
     closed unused is_place some same_nodes longer terms bodies named last adds =
-    made_stands library d given new (Items (Cons (Reserved Bang) (Cons term attributes))) (node.Defined place []) c
+    made_stands library d given new around (Items (Cons (Reserved Bang) (Cons term attributes))) (node.Defined place []) c
     to_given
     (λ ready is. named (table_in library given)
     (named_kept (table_in library mid) (table_in library given) (step library) mid.labels.given.items

@@ -1,6 +1,7 @@
 -- Nodes stand for their terms in longer tables too.
 use Rattle.std.proofs.Common.{◌≡◌, ℕ, zero, suc, ◌+◌, Bool, true, false, cond, List, [], ◌∷◌, ◌++◌}
 use Rattle.std.proofs.Common.{length, slice_get, Option, Some, None, Result, Ok, Err, refl, ap, sym, ◌∙◌, subst}
+use Rattle.std.proofs.Common.{◌≤◌, arith}
 use Rattle.std.specs.Prelude.{bytes_eq}
 use Rattle.smt_trees.specs.Sexp.{Sexp, Sexps, Atom, Reserved, Items, Nil, Cons, Numeral, Hexadecimal, Binary}
 use Rattle.smt_trees.specs.Sexp.{Symbol}
@@ -176,3 +177,11 @@ module _ (t u : Table) (longer : IsLonger t u) where
     bound_kept slots next i (j ∷ js) (Cons (Items (Cons (Atom Symbol x) (Cons term Nil))) rest) d =
         (d.0, denotes_kept slots next 0 j term d.1, bound_kept slots next i js rest d.2)
     bound_kept slots next i _ _ d = absurd d
+
+-- nodes below a row are below a later one
+pub bound_later : (t : Table) (slots : Slots) (next i later : ℕ) (js : List ℕ) (bindings : Sexps) → i ≤ later
+    → AreBound t slots next i js bindings → AreBound t slots next later js bindings
+bound_later t slots next i later [] Nil h d = tt
+bound_later t slots next i later (j ∷ js) (Cons (Items (Cons (Atom Symbol x) (Cons term Nil))) rest) h d =
+    (omega (arith, d.0, h), d.1, bound_later t slots next i later js rest h d.2)
+bound_later t slots next i later _ _ h d = absurd d

@@ -68,11 +68,12 @@ named_alone None head args n free h = h
 named_alone (Some op) head args n free h = cc
 
 -- the node of a name in force is that of the identifier
-pub some_head : (library : Library) (old new : Draft) (x : List ℕ) (sorts : List Sort) (args : List ℕ) (e : Entry)
-    (c : CheckedTerm) → Some (rank_of e) ≡ look_up (names_of_library library).ranks x
+pub some_head : (library : Library) (old new : Draft) (around : ℕ) (x : List ℕ) (sorts : List Sort)
+    (args : List ℕ) (e : Entry) (c : CheckedTerm) → Some (rank_of e) ≡ look_up (names_of_library library).ranks x
     → Some e.place ≡ look_up (places_of_library library) x → are_exactly e.parameters.items sorts ≡ true
-    → AddsNode library.nodes old new (node_at e.place args) c → AddsApplied library old new (Plain x) sorts args c
-some_head library old new x sorts args e c ranked placed same adds = record {
+    → AddsNode library.nodes old new around (node_at e.place args) c
+    → AddsApplied library old new around (Plain x) sorts args c
+some_head library old new around x sorts args e c ranked placed same adds = record {
   node = node_at e.place args;
   added = adds;
   is = λ free counted.
@@ -85,20 +86,20 @@ some_head library old new x sorts args e c ranked placed same adds = record {
 }
 
 -- and that of an operator
-pub no_head : (library : Library) (old new : Draft) (x : List ℕ) (sorts : List Sort) (args : List ℕ)
-    (c : CheckedTerm) → AddsOperator library old new (op_by library.sorts.theories x []) args c
-    → AddsApplied library old new (Plain x) sorts args c
-no_head library old new x sorts args c adds = record {
+pub no_head : (library : Library) (old new : Draft) (around : ℕ) (x : List ℕ) (sorts : List Sort)
+    (args : List ℕ) (c : CheckedTerm) → AddsOperator library old new around (op_by library.sorts.theories x []) args c
+    → AddsApplied library old new around (Plain x) sorts args c
+no_head library old new around x sorts args c adds = record {
   node = adds.0;
   added = adds.1;
   is = λ free counted. adds.2 (look_up (heads_of_library library) x);
 }
 
-pub indexed_head : (library : Library) (old new : Draft) (x : List ℕ) (indexes : List IndexView)
+pub indexed_head : (library : Library) (old new : Draft) (around : ℕ) (x : List ℕ) (indexes : List IndexView)
     (sorts : List Sort) (args : List ℕ) (c : CheckedTerm)
-    → AddsOperator library old new (op_by library.sorts.theories x indexes) args c
-    → AddsApplied library old new (Indexed x indexes) sorts args c
-indexed_head library old new x indexes sorts args c adds = record {
+    → AddsOperator library old new around (op_by library.sorts.theories x indexes) args c
+    → AddsApplied library old new around (Indexed x indexes) sorts args c
+indexed_head library old new around x indexes sorts args c adds = record {
   node = adds.0;
   added = adds.1;
   is = λ free counted. adds.2 None;

@@ -31,7 +31,6 @@ pub mod HeadLemmas
 pub mod EndLemmas
 pub mod FirstRowLemmas
 pub mod TableLemmas
-pub mod AroundLemmas
 pub mod NodeLemmas
 pub mod PartNodeLemmas
 pub mod ArgumentLemmas

@@ -1,5 +1,5 @@
 -- Nodes that are added stand for their terms.
-use Rattle.std.proofs.Common.{suc, zero, ◌≤◌, ◌≡◌, ◌<◌, ◌-◌, ℕ, Bool, true, false, List, [], ◌∷◌, ◌++◌, length, map, nat_lt}
+use Rattle.std.proofs.Common.{◌≡◌, ◌<◌, ◌-◌, ℕ, Bool, true, false, List, [], ◌∷◌, ◌++◌, length, map, nat_lt}
 use Rattle.std.proofs.Common.{slice_get, Option, Some, None, Result, Ok, Err, refl, ap, sym, ◌∙◌, subst}
 use Rattle.std.proofs.Common.{arith, cond, ◌==◌, IfOk}
 use Rattle.std.proofs.lemmas.List.{length-append}
@@ -19,7 +19,7 @@ use Rattle.smt_terms.specs.Denotes.{AreDenoted, Denotes, HasBodyBelow, Head, IsN
 use Rattle.smt_terms.specs.Denotes.{applied_node, named_node, node_at, node_of, symbol_node}
 use Rattle.smt_terms.specs.Internal.DraftView.{IsPlaced, seen_by}
 use Rattle.smt_terms.specs.Internal.NodesView.{AddsApplied, AddsNode, GrowsTo, KeepsNamed, Stands, TermsStand}
-use Rattle.smt_terms.specs.Internal.NodesView.{bare_row}
+use Rattle.smt_terms.specs.Internal.NodesView.{row_with}
 use Rattle.smt_terms.specs.Internal.TableView.{HasBody, IsReady, places_seen, rows_in, slots_seen}
 use Rattle.smt_terms.specs.Internal.TableView.{table_in, table_of}
 use Rattle.smt_terms.specs.declared.library.Found.{Found}
@@ -40,36 +40,23 @@ pub added : {A : Type 0} (xs : List A) (x : A) → slice_get (xs ++ x ∷ []) (l
 added [] x = refl
 added (y ∷ xs) x = added xs x
 
--- what stands in the first of two lists, and in the second
-pub get_before : {A : Type 0} (xs ys : List A) (i : ℕ) → i < length xs → slice_get (xs ++ ys) i ≡ slice_get xs i
-get_before [] ys i within = absurd (omega (arith, within))
-get_before (x ∷ xs) ys zero within = refl
-get_before (x ∷ xs) ys (suc i) within = get_before xs ys i (omega (arith, within))
-
-pub get_behind : {A : Type 0} (xs ys : List A) (i : ℕ) → length xs ≤ i
-    → slice_get (xs ++ ys) i ≡ slice_get ys (i - length xs)
-get_behind [] ys i past = let same : i ≡ i - 0 = omega arith in ap (λ (k : ℕ). slice_get ys k) same
-get_behind (x ∷ xs) ys zero past = absurd (omega (arith, past))
-get_behind (x ∷ xs) ys (suc i) past =
-    let same : i - length xs ≡ suc i - suc (length xs) = omega arith in
-    get_behind xs ys i (omega (arith, past)) ∙ ap (λ (k : ℕ). slice_get ys k) same
-
 -- what is found is this row
 pub is_row : (o : Option Row) (r : Row) → o ≡ Some r → IsRow o r.around (Some r.node)
 is_row o r h = subst (λ (p : Option Row). IsRow p r.around (Some r.node)) (sym h) (refl, refl)
 
 -- the node that is added is found by its number
-pub row_added : (library : Library) (old new : Draft) (n : Node) (c : CheckedTerm) → AddsNode library.nodes old new n c
-    → IsRow (slice_get (rows_in library new) (length (rows_in library old))) 0 (Some n)
-row_added library old new n c adds =
-    is_row (slice_get (rows_in library new) (length (rows_in library old))) (bare_row n)
+pub row_added : (library : Library) (old new : Draft) (around : ℕ) (n : Node) (c : CheckedTerm)
+    → AddsNode library.nodes old new around n c
+    → IsRow (slice_get (rows_in library new) (length (rows_in library old))) around (Some n)
+row_added library old new around n c adds =
+    is_row (slice_get (rows_in library new) (length (rows_in library old))) (row_with around n)
     (ap (λ (rs : List Row). slice_get rs (length (rows_in library old))) adds.rows
-    ∙ added (rows_in library old) (bare_row n))
+    ∙ added (rows_in library old) (row_with around n))
 
-pub number_added : (library : Library) (old new : Draft) (n : Node) (c : CheckedTerm) → AddsNode library.nodes old new n c
-    → c.node < length (rows_in library new)
-number_added library old new n c adds =
-    omega (arith, adds.number, ap length adds.rows, length-append (rows_in library old) (bare_row n ∷ []))
+pub number_added : (library : Library) (old new : Draft) (around : ℕ) (n : Node) (c : CheckedTerm)
+    → AddsNode library.nodes old new around n c → c.node < length (rows_in library new)
+number_added library old new around n c adds =
+    omega (arith, adds.number, ap length adds.rows, length-append (rows_in library old) (row_with around n ∷ []))
 
 -- ## What is named has a body
 
@@ -107,22 +94,23 @@ has_body t (Indexed f is) args n ready h =
 -- ## One node more
 
 -- a node that is added behind others stands for a term where it does so by its number
-pub made_stands : (library : Library) (old mid new : Draft) (term : Sexp) (n : Node) (c : CheckedTerm)
-    → GrowsTo old mid → KeepsNamed library old mid → GrowsTo mid new → AddsNode library.nodes mid new n c
+pub made_stands : (library : Library) (old mid new : Draft) (around : ℕ) (term : Sexp) (n : Node)
+    (c : CheckedTerm) → GrowsTo old mid → KeepsNamed library old mid → GrowsTo mid new
+    → AddsNode library.nodes mid new around n c
     → (IsReady (table_in library old) → c.is_open ≡ false
     → HasBodyBelow (table_in library mid).bodies (length (rows_in library mid)) (Some n)
-    × (IsNode (table_in library new) 0 (length (rows_in library mid)) (Some n)
-    → Denotes (table_in library new) (slots_seen old) (places_seen old) 0 (length (rows_in library mid)) term))
-    → Stands library old new term c
-made_stands library old mid new term n c first named second adds made = record {
+    × (IsNode (table_in library new) around (length (rows_in library mid)) (Some n)
+    → Denotes (table_in library new) (slots_seen old) (places_seen old) around (length (rows_in library mid)) term))
+    → Stands library old new around term c
+made_stands library old mid new around term n c first named second adds made = record {
   own = omega (arith, adds.number, length-append (rows_of library.nodes) (rows_of mid.nodes));
-  number = number_added library mid new n c adds;
+  number = number_added library mid new around n c adds;
   denotes = λ ready closed.
       let m = made ready closed in
-      subst (λ (i : ℕ). Denotes (table_in library new) (slots_seen old) (places_seen old) 0 i term)
+      subst (λ (i : ℕ). Denotes (table_in library new) (slots_seen old) (places_seen old) around i term)
       (sym adds.number)
       (m.1 (
-        row_added library mid new n c adds,
+        row_added library mid new around n c adds,
         subst (λ ls. HasBodyBelow (library.bodies.items ++ map (λ l. l.node) ls.given.items)
             (length (rows_in library mid)) (Some n)) (sym adds.labels) m.0,
       ));
@@ -132,49 +120,50 @@ made_stands library old mid new term n c first named second adds made = record {
 -- ## Leaves
 
 -- a literal
-pub literal_stands : (library : Library) (old new : Draft) (term : Sexp) (n : Node) (c : CheckedTerm)
-    → GrowsTo old new → AddsNode library.nodes old new n c
+pub literal_stands : (library : Library) (old new : Draft) (around : ℕ) (term : Sexp) (n : Node) (c : CheckedTerm)
+    → GrowsTo old new → AddsNode library.nodes old new around n c
     → HasBodyBelow (table_in library old).bodies (length (rows_in library old)) (Some n)
-    → ((t : Table) (slots : Slots) (next i : ℕ) → IsNode t 0 i (Some n) → Denotes t slots next 0 i term)
-    → Stands library old new term c
-literal_stands library old new term n c longer adds body made =
-    made_stands library old old new term n c (grows_itself old) (keeps_itself library old) longer adds
+    → ((t : Table) (slots : Slots) (next i : ℕ) → IsNode t around i (Some n) → Denotes t slots next around i term)
+    → Stands library old new around term c
+literal_stands library old new around term n c longer adds body made =
+    made_stands library old old new around term n c (grows_itself old) (keeps_itself library old) longer adds
     (λ ready closed. (
       body,
       λ is. made (table_in library new) (slots_seen old) (places_seen old) (length (rows_in library old)) is,
     ))
 
 -- a variable
-pub variable_stands : (library : Library) (old new : Draft) (x : List ℕ) (b : Bound) (c : CheckedTerm)
+pub variable_stands : (library : Library) (old new : Draft) (around : ℕ) (x : List ℕ) (b : Bound) (c : CheckedTerm)
     → IsPlaced (seen_by old) old.base → look_up (seen_by old) x ≡ Some b
     → c.is_open ≡ nat_lt b.place old.base → GrowsTo old new
-    → AddsNode library.nodes old new (node.Slot (b.place - old.base)) c → Stands library old new (Atom Symbol x) c
-variable_stands library old new x b c placed found is longer adds =
-    made_stands library old old new (Atom Symbol x) (node.Slot (b.place - old.base)) c (grows_itself old)
+    → AddsNode library.nodes old new around (node.Slot (b.place - old.base)) c
+    → Stands library old new around (Atom Symbol x) c
+variable_stands library old new around x b c placed found is longer adds =
+    made_stands library old old new around (Atom Symbol x) (node.Slot (b.place - old.base)) c (grows_itself old)
     (keeps_itself library old) longer adds
     (λ ready closed. (
       tt,
-      λ made. subst (λ (o : Option ℕ). IsNode (table_in library new) 0 (length (rows_in library old))
+      λ made. subst (λ (o : Option ℕ). IsNode (table_in library new) around (length (rows_in library old))
           (symbol_node (table_in library new) x o))
           (sym (slot_inside (seen_by old) old.base x b placed found (sym is ∙ closed))) made,
     ))
 
 -- an application whose node is as the table of names has it
-applied_stands : (library : Library) (old mid new : Draft) (term : Sexp) (f : Identifier) (sorts : List Sort)
+applied_stands : (library : Library) (old mid new : Draft) (around : ℕ) (term : Sexp) (f : Identifier) (sorts : List Sort)
     (args : List ℕ) (c : CheckedTerm) → GrowsTo old mid → KeepsNamed library old mid → GrowsTo mid new
-    → AddsApplied library mid new f sorts args c → length args ≡ length sorts
+    → AddsApplied library mid new around f sorts args c → length args ≡ length sorts
     → (IsReady (table_in library old) → c.is_open ≡ false
-    → IsNode (table_in library new) 0 (length (rows_in library mid)) (node_of (table_in library new) f args)
-    → Denotes (table_in library new) (slots_seen old) (places_seen old) 0 (length (rows_in library mid)) term)
-    → Stands library old new term c
-applied_stands library old mid new term f sorts args c first named second adds counted made =
-    made_stands library old mid new term adds.node c first named second adds.added
+    → IsNode (table_in library new) around (length (rows_in library mid)) (node_of (table_in library new) f args)
+    → Denotes (table_in library new) (slots_seen old) (places_seen old) around (length (rows_in library mid)) term)
+    → Stands library old new around term c
+applied_stands library old mid new around term f sorts args c first named second adds counted made =
+    made_stands library old mid new around term adds.node c first named second adds.added
     (λ ready closed.
     let at : node_of (table_in library mid) f args ≡ Some adds.node =
     same mid ∙ adds.is ready.free counted in (
       has_body (table_in library mid) f args adds.node (ready_kept library old mid first ready) at,
       λ is. made ready closed
-          (subst (λ (o : Option Node). IsNode (table_in library new) 0 (length (rows_in library mid)) o)
+          (subst (λ (o : Option Node). IsNode (table_in library new) around (length (rows_in library mid)) o)
           (sym (same new ∙ adds.is ready.free counted)) is),
     ))
   where
@@ -186,23 +175,23 @@ applied_stands library old mid new term f sorts args c first named second adds c
         by (Indexed x is) = refl
 
 -- a symbol that is no variable
-pub symbol_stands : (library : Library) (old new : Draft) (x : List ℕ) (c : CheckedTerm)
-    → look_up (seen_by old) x ≡ None → GrowsTo old new → AddsApplied library old new (Plain x) [] [] c
-    → Stands library old new (Atom Symbol x) c
-symbol_stands library old new x c none longer adds =
-    applied_stands library old old new (Atom Symbol x) (Plain x) [] [] c (grows_itself old)
+pub symbol_stands : (library : Library) (old new : Draft) (around : ℕ) (x : List ℕ) (c : CheckedTerm)
+    → look_up (seen_by old) x ≡ None → GrowsTo old new → AddsApplied library old new around (Plain x) [] [] c
+    → Stands library old new around (Atom Symbol x) c
+symbol_stands library old new around x c none longer adds =
+    applied_stands library old old new around (Atom Symbol x) (Plain x) [] [] c (grows_itself old)
     (keeps_itself library old) longer adds refl
-    (λ ready closed is. subst (λ (o : Option ℕ). IsNode (table_in library new) 0 (length (rows_in library old))
+    (λ ready closed is. subst (λ (o : Option ℕ). IsNode (table_in library new) around (length (rows_in library old))
     (symbol_node (table_in library new) x o)) (sym (slot_none (seen_by old) old.base x none)) is)
 
 -- an identifier with indexes alone
-pub indexed_stands : (library : Library) (old new : Draft) (head : Sexp) (args parts : Sexps) (f : Identifier)
-    (c : CheckedTerm) → parts ≡ Cons head args → begins_indexed head ≡ true → indexed args ≡ Ok f
-    → GrowsTo old new → AddsApplied library old new f [] [] c → Stands library old new (Items parts) c
-indexed_stands library old new head args parts f c split is_head is longer adds =
-    subst (λ (ps : Sexps). Stands library old new (Items ps) c)
+pub indexed_stands : (library : Library) (old new : Draft) (around : ℕ) (head : Sexp) (args parts : Sexps)
+    (f : Identifier) (c : CheckedTerm) → parts ≡ Cons head args → begins_indexed head ≡ true → indexed args ≡ Ok f
+    → GrowsTo old new → AddsApplied library old new around f [] [] c → Stands library old new around (Items parts) c
+indexed_stands library old new around head args parts f c split is_head is longer adds =
+    subst (λ (ps : Sexps). Stands library old new around (Items ps) c)
     (sym (split ∙ ap (λ (h : Sexp). Cons h args) (underscore_head head is_head)))
-    (applied_stands library old old new (Items (Cons (Reserved Underscore) args)) f [] [] c (grows_itself old)
+    (applied_stands library old old new around (Items (Cons (Reserved Underscore) args)) f [] [] c (grows_itself old)
     (keeps_itself library old) longer adds refl (λ ready closed made. (f, is, made)))
 
 -- ## Applications
@@ -222,16 +211,16 @@ other_denotes t slots next around i head args other f js is made all =
     by _ k l m g = (f, js, g, made, all)
 
 -- an application to arguments that stand for theirs
-pub call_stands : (library : Library) (old mid new : Draft) (head : Sexp) (args parts : Sexps) (f : Identifier)
-    (sorts : List Sort) (js : List ℕ) (is_open : Bool) (c : CheckedTerm) → parts ≡ Cons head args → IsPlainHead head
+pub call_stands : (library : Library) (old mid new : Draft) (around : ℕ) (head : Sexp) (args parts : Sexps)
+    (f : Identifier) (sorts : List Sort) (js : List ℕ) (is_open : Bool) (c : CheckedTerm) → parts ≡ Cons head args → IsPlainHead head
     → applied head args ≡ Ok f → c.is_open ≡ is_open → GrowsTo old mid
     → TermsStand library old mid args js is_open → length js ≡ length sorts → GrowsTo mid new
-    → AddsApplied library mid new f sorts js c → Stands library old new (Items parts) c
-call_stands library old mid new head args parts f sorts js is_open c split other is same first all counted
+    → AddsApplied library mid new around f sorts js c → Stands library old new around (Items parts) c
+call_stands library old mid new around head args parts f sorts js is_open c split other is same first all counted
     second adds =
-    subst (λ (ps : Sexps). Stands library old new (Items ps) c) (sym split)
-    (applied_stands library old mid new (Items (Cons head args)) f sorts js c first all.named second adds counted
-    (λ ready closed made. other_denotes (table_in library new) (slots_seen old) (places_seen old) 0
+    subst (λ (ps : Sexps). Stands library old new around (Items ps) c) (sym split)
+    (applied_stands library old mid new around (Items (Cons head args)) f sorts js c first all.named second adds counted
+    (λ ready closed made. other_denotes (table_in library new) (slots_seen old) (places_seen old) around
     (length (rows_in library mid)) head args other f js is made
     (all_kept (table_in library mid) (table_in library new) (second library) (slots_seen old) (places_seen old)
     (length (rows_in library mid)) js args (all.denote ready (sym same ∙ closed)))))

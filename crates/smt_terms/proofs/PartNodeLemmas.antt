@@ -63,7 +63,7 @@ so_far-none Are library d all done none = record {
 pub so_far-next : (Are : Denoting) (library : Library) (old mid new : Draft) (all left rest : Sexps)
     (done after : List ℕ) (is_open : Bool) (term : Sexp) (c : CheckedTerm)
     → SoFar Are library old mid all left done is_open → SeesTheSame old mid → StandsFirst Are term left rest
-    → GrowsTo mid new → Stands library mid new term c → after ≡ done ++ c.node ∷ []
+    → GrowsTo mid new → Stands library mid new 0 term c → after ≡ done ++ c.node ∷ []
     → SoFar Are library old new all rest after (is_open || c.is_open)
 so_far-next Are library old mid new all left rest done after is_open term c first kept cons second stands more =
     record {

@@ -111,7 +111,7 @@ module _ (d inner : Draft) (bound : Scope) (none : seen_by d ≡ []) (zero_base 
 
   -- the node that is found over the variables stands for the term
   pub whole_denotes : (library : Library) (new : Draft) (t : Sexp) (c : CheckedTerm) → inner.labels ≡ d.labels
-      → inner.nodes ≡ d.nodes → c.is_open ≡ is_open inner t → Stands library inner new t c
+      → inner.nodes ≡ d.nodes → c.is_open ≡ is_open inner t → Stands library inner new 0 t c
       → IsReady (table_in library d)
       → Denotes (table_in library new) (slots_from 0 (names_of bound)) (length bound) 0 c.node t
   whole_denotes library new t c labels nodes opened stands ready =
@@ -130,7 +130,7 @@ on_answered (Err e) P Q f h = h
 
 -- labels stand for their terms behind the variables too
 pub whole_named : (library : Library) (d inner new : Draft) (t : Sexp) (c : CheckedTerm) → inner.labels ≡ d.labels
-    → inner.nodes ≡ d.nodes → Stands library inner new t c → KeepsNamed library d new
+    → inner.nodes ≡ d.nodes → Stands library inner new 0 t c → KeepsNamed library d new
 whole_named library d inner new t c labels nodes stands =
     keeps_on library d inner new (grows_same d inner labels nodes)
     (keeps_labels library d inner (grows_same d inner labels nodes) labels) stands.named

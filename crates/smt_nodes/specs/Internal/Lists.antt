@@ -1,10 +1,11 @@
 -- The lists behind the rows, and the node that a row stores by its counts and where it ends.
 use Rattle.std.specs.Prelude.{◌≡◌, ◌≤◌, ◌+◌, ◌-◌, ℕ, List, [], ◌++◌, length, take, slice_index_or}
-use Rattle.std.specs.Prelude.{slice_range}
+use Rattle.std.specs.Prelude.{None, slice_range}
 use Rattle.smt_theory.specs.declared.op.CoreOp.TheVariants.{True}
 use Rattle.smt_theory.specs.declared.op.Op.{Op}
 use Rattle.smt_theory.specs.declared.op.Op.TheVariants.{Core}
 use Rattle.smt_theory.specs.PlainOp.{op_of_plain}
+use Rattle.smt_nodes.specs.Internal.Annotations.{annotated_in}
 use Rattle.smt_nodes.specs.Node as spec
 use Rattle.smt_nodes.specs.declared.rows.Base.{Base}
 use Rattle.smt_nodes.specs.declared.rows.Base.TheVariants.{Decimal, Hexadecimal, Binary}
@@ -12,7 +13,7 @@ use Rattle.smt_nodes.specs.declared.rows.Ends.{Ends}
 use Rattle.smt_nodes.specs.declared.rows.Stored.{Stored}
 use Rattle.smt_nodes.specs.declared.rows.Stored.TheVariants.{Literal, Large, Slot, Plain, Numbered}
 use Rattle.smt_nodes.specs.declared.rows.Stored.TheVariants.{Declared}
-use Rattle.smt_nodes.specs.declared.rows.Stored.TheVariants.{Defined, Let, Same}
+use Rattle.smt_nodes.specs.declared.rows.Stored.TheVariants.{Defined, Let, Annotated}
 use Rattle.smt_nodes.specs.declared.tables.Tables.{Tables}
 
 pub record Lists : Type 0 where
@@ -42,11 +43,15 @@ pub record IsUpTo (a b : Ends) : Type 0 where
   pub digits : a.digits ≤ b.digits
   pub ops : a.ops ≤ b.ops
 
+-- the second list is the first, and perhaps more behind it
+abbrev pub IsPrefix : {A : Type 0} → List A → List A → Type 0
+IsPrefix {A} first second = (more : List A) × (second ≡ first ++ more)
+
 -- the second lists are the first, and perhaps more behind them
 pub record Grows (t u : Lists) : Type 0 where
-  pub parts : (more : List ℕ) × (u.parts ≡ t.parts ++ more)
-  pub digits : (more : List ℕ) × (u.digits ≡ t.digits ++ more)
-  pub ops : (more : List Op) × (u.ops ≡ t.ops ++ more)
+  pub parts : IsPrefix t.parts u.parts
+  pub digits : IsPrefix t.digits u.digits
+  pub ops : IsPrefix t.ops u.ops
 
 -- so many up to an end
 abbrev pub before : {A : Type 0} → ℕ → ℕ → List A → List A
@@ -68,8 +73,8 @@ node_of t ends (Numbered place n) =
 node_of t ends (Declared place n) = spec.Declared place (before n ends.parts t.parts)
 node_of t ends (Defined place n) = spec.Defined place (before n ends.parts t.parts)
 node_of t ends (Let n body) = spec.Let (before n ends.parts t.parts) body
--- of no use: such a row has the node of another
-node_of t ends (Same number around) = spec.Slot number
+-- of no use: what is stored for the node of such a row is elsewhere
+node_of t ends (Annotated place around) = spec.Slot place
 
 -- how much of each list a node takes
 abbrev pub parts_in : Stored → ℕ
@@ -89,11 +94,6 @@ abbrev pub ops_in : Stored → ℕ
 ops_in (Numbered place n) = place + 1
 ops_in _ = 0
 
--- how many rows stand below what a node names among them
-abbrev pub rows_in : Stored → ℕ
-rows_in (Same number around) = number + 1
-rows_in _ = 0
-
 -- a node takes no more than there is up to these ends
 pub record IsHeld (ends : Ends) (stored : Stored) : Type 0 where
   pub parts : parts_in stored ≤ ends.parts
@@ -104,4 +104,4 @@ pub record IsHeld (ends : Ends) (stored : Stored) : Type 0 where
 pub record IsStored (t : Lists) (stored : Stored) (seen : spec.Node) : Type 0 where
   pub held : IsHeld (lengths t) stored
   pub node : node_of t (lengths t) stored ≡ seen
-  pub own : rows_in stored ≡ 0
+  pub bare : annotated_in stored ≡ None

@@ -1,13 +1,10 @@
 -- The numbers that literals spell, as rows hold them, and the large ones behind the rows.
-use Rattle.std.specs.Prelude.{◌≡◌, ℕ, List, ◌++◌, Option, Some, None, option_map, slice_get}
-use Rattle.smt_nodes.specs.Internal.Lists.{Lists, node_of}
-use Rattle.smt_nodes.specs.Literals.{spelled}
+use Rattle.std.specs.Prelude.{◌≡◌, ℕ, List, Option, Some, None, option_map, slice_get}
 use Rattle.smt_nodes.specs.declared.large.LargeNumber.{LargeNumber}
 use Rattle.smt_nodes.specs.declared.rows.Base.{Base}
 use Rattle.smt_nodes.specs.declared.rows.Base.TheVariants.{Decimal, Hexadecimal, Binary}
 use Rattle.smt_nodes.specs.declared.rows.Stored.{Stored}
 use Rattle.smt_nodes.specs.declared.rows.Stored.TheVariants.{Literal, Large}
-use Rattle.smt_nodes.specs.declared.rows.StoredRow.{StoredRow}
 use Rattle.smt_nodes.specs.declared.tables.Tables.{Tables}
 
 abbrev pub radix : Base → ℕ
@@ -17,10 +14,6 @@ radix Binary = 2
 
 abbrev pub large_of : Tables → List LargeNumber
 large_of t = t.large.items
-
--- the second list is the first, and perhaps more behind it
-abbrev pub IsPrefix : List LargeNumber → List LargeNumber → Type 0
-IsPrefix before after = (more : List LargeNumber) × (after ≡ before ++ more)
 
 abbrev pub number_in : Option LargeNumber → Option ℕ
 number_in (Some large) = large.number
@@ -42,8 +35,3 @@ pub record IsNumberHeld (large : List LargeNumber) (row : ℕ) (stored : Stored)
   pub value : held_number large stored ≡ number
   pub own : (place : ℕ) → place_in stored ≡ Some place
       → option_map (λ x. x.row) (slice_get large place) ≡ Some row
-
--- each row holds the number that its literal spells
-abbrev pub AreNumbered : List StoredRow → Lists → List LargeNumber → Type 0
-AreNumbered rows t large = (i : ℕ) (r : StoredRow) → slice_get rows i ≡ Some r
-    → IsNumberHeld large i r.stored (spelled (node_of t r.ends r.stored))

@@ -1,48 +1,37 @@
 -- The rows as they are stored, what they stand for, and what every table keeps.
-use Rattle.std.specs.Prelude.{◌≡◌, ◌≤◌, ◌+◌, ◌-◌, ℕ, List, length, map, Option, Some, None, slice_get}
-use Rattle.std.specs.Prelude.{slice_index_or}
-use Rattle.smt_nodes.specs.Internal.Lists.{IsHeld, IsUpTo, Lists, lengths, node_of, rows_in}
+use Rattle.std.specs.Prelude.{◌≡◌, ◌≤◌, ◌-◌, ℕ, List, length, map, Option, Some, None, slice_get}
+use Rattle.smt_nodes.specs.Internal.Annotations.{IsOwn, around_of, inner}
+use Rattle.smt_nodes.specs.Internal.Lists.{IsHeld, IsUpTo, Lists, lengths, node_of}
+use Rattle.smt_nodes.specs.Internal.Numbers.{IsNumberHeld}
+use Rattle.smt_nodes.specs.Literals.{spelled}
 use Rattle.smt_nodes.specs.Node.{Row}
+use Rattle.smt_nodes.specs.declared.annotated.AnnotatedNode.{AnnotatedNode}
+use Rattle.smt_nodes.specs.declared.large.LargeNumber.{LargeNumber}
 use Rattle.smt_nodes.specs.declared.rows.Ends.{Ends}
-use Rattle.smt_nodes.specs.declared.rows.Stored.{Stored}
-use Rattle.smt_nodes.specs.declared.rows.Stored.TheVariants.{Same}
 use Rattle.smt_nodes.specs.declared.rows.StoredRow.{StoredRow}
 
--- the row that holds the node of a row: another, or itself
-abbrev pub source_by : List StoredRow → StoredRow → Stored → StoredRow
-source_by rows row (Same number around) = slice_index_or rows number row
-source_by rows row _ = row
-
-abbrev pub source : List StoredRow → StoredRow → StoredRow
-source rows row = source_by rows row row.stored
-
--- how many annotations stand round it
-abbrev pub around_of : Stored → ℕ
-around_of (Same number around) = around
-around_of _ = 0
-
-abbrev pub row_view : List StoredRow → Lists → StoredRow → Row
-row_view rows t row = record {
-  node = node_of t (source rows row).ends (source rows row).stored;
+abbrev pub row_view : Lists → List AnnotatedNode → StoredRow → Row
+row_view t nodes row = record {
+  node = node_of t row.ends (inner nodes row.stored);
   around = around_of row.stored;
 }
 
-abbrev pub views : List StoredRow → Lists → List Row
-views rows t = map (row_view rows t) rows
+abbrev pub views : List StoredRow → Lists → List AnnotatedNode → List Row
+views rows t nodes = map (row_view t nodes) rows
 
--- what every table keeps: a row takes no more than there is up to its end, names another only below itself,
--- and reaches no further than the rows behind it and the lists
-pub record IsSound (rows : List StoredRow) (t : Lists) : Type 0 where
-  pub held : (i : ℕ) (r : StoredRow) → slice_get rows i ≡ Some r → IsHeld r.ends r.stored
-  pub below : (i : ℕ) (r : StoredRow) → slice_get rows i ≡ Some r → rows_in r.stored ≤ i
+-- what every table keeps: a row takes no more than there is up to its end, what it names among the nodes with
+-- annotations is its own, and it reaches no further than the rows behind it and the lists
+pub record IsSound (rows : List StoredRow) (t : Lists) (nodes : List AnnotatedNode) : Type 0 where
+  pub held : (i : ℕ) (r : StoredRow) → slice_get rows i ≡ Some r → IsHeld r.ends (inner nodes r.stored)
+  pub own : (i : ℕ) (r : StoredRow) → slice_get rows i ≡ Some r → IsOwn nodes i r.stored
   pub ordered : (i j : ℕ) (r s : StoredRow) → i ≤ j → slice_get rows i ≡ Some r → slice_get rows j ≡ Some s
       → IsUpTo r.ends s.ends
   pub within : (i : ℕ) (r : StoredRow) → slice_get rows i ≡ Some r → IsUpTo r.ends (lengths t)
 
--- the node of the row of this number, with one annotation more
-abbrev pub annotated : ℕ → Stored → Stored
-annotated id (Same number around) = Same number (around + 1)
-annotated id _ = Same id 1
+-- each row holds the number that its literal spells
+abbrev pub AreNumbered : List StoredRow → Lists → List LargeNumber → List AnnotatedNode → Type 0
+AreNumbered rows t large nodes = (i : ℕ) (r : StoredRow) → slice_get rows i ≡ Some r
+    → IsNumberHeld large i (inner nodes r.stored) (spelled (node_of t r.ends (inner nodes r.stored)))
 
 abbrev pub ends_in : Option StoredRow → Ends
 ends_in (Some row) = row.ends

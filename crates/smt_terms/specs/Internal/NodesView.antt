@@ -1,7 +1,6 @@
 -- What the sort checker adds to a table of nodes.
-use Rattle.std.specs.Prelude.{◌≡◌, ◌<◌, ◌≤◌, ◌+◌, ℕ, List, [], ◌∷◌, ◌++◌, Bool, false, Option, Result, Some}
+use Rattle.std.specs.Prelude.{◌≡◌, ◌<◌, ◌≤◌, ℕ, List, [], ◌∷◌, ◌++◌, Bool, false, Option, Result, Some}
 use Rattle.std.specs.Prelude.{length, map}
-use Rattle.std.specs.Prelude.{slice_get}
 use Rattle.smt_nodes.specs.Node.{Node, Row}
 use Rattle.smt_nodes.specs.Nodes.{rows_of}
 use Rattle.smt_nodes.specs.declared.table.Nodes.{Nodes}
@@ -31,9 +30,9 @@ abbrev pub IsNodeOf : Library → Identifier → List Sort → List ℕ → Node
 IsNodeOf library f sorts args node = AreFree (table_of library) → length args ≡ length sorts
     → node_of (table_of library) f args ≡ Some node
 
--- a node without annotations
-abbrev pub bare_row : Node → Row
-bare_row node = record { node = node; around = 0 }
+-- a node with so many annotations without a label directly round it
+abbrev pub row_with : ℕ → Node → Row
+row_with around node = record { node = node; around = around }
 
 -- the nodes of the labels that were given
 abbrev pub nodes_given : Labels → List ℕ
@@ -43,30 +42,24 @@ nodes_given labels = map (λ l. l.node) labels.given.items
 abbrev pub GrowsTo : (old new : Draft) → Type 0
 GrowsTo old new = (library : Library) → IsLonger (table_in library old) (table_in library new)
 
--- the answer is this node, which is added alone, where the draft's nodes stand behind those of a table
-pub record AddsNode (before : Nodes) (old new : Draft) (node : Node) (c : CheckedTerm) : Type 0 where
-  pub rows : rows_behind before new ≡ rows_behind before old ++ bare_row node ∷ []
+-- the answer is this node with so many annotations round it, which is added alone, where the draft's nodes stand
+-- behind those of a table
+pub record AddsNode (before : Nodes) (old new : Draft) (around : ℕ) (node : Node) (c : CheckedTerm) : Type 0 where
+  pub rows : rows_behind before new ≡ rows_behind before old ++ row_with around node ∷ []
   pub number : c.node ≡ length (rows_behind before old)
   pub labels : new.labels ≡ old.labels
 
 -- the answer is the node of an identifier applied to these arguments, which is added alone
-pub record AddsApplied (library : Library) (old new : Draft) (f : Identifier) (sorts : List Sort)
+pub record AddsApplied (library : Library) (old new : Draft) (around : ℕ) (f : Identifier) (sorts : List Sort)
     (args : List ℕ) (c : CheckedTerm) : Type 0 where
   pub node : Node
-  pub added : AddsNode library.nodes old new node c
+  pub added : AddsNode library.nodes old new around node c
   pub is : IsNodeOf library f sorts args node
 
 -- the same of what an operator is
-abbrev pub AddsOperator : Library → (old new : Draft) → Result Op OpFault → List ℕ → CheckedTerm → Type 0
-AddsOperator library old new op args c = (node : Node) × AddsNode library.nodes old new node c
+abbrev pub AddsOperator : Library → (old new : Draft) → ℕ → Result Op OpFault → List ℕ → CheckedTerm → Type 0
+AddsOperator library old new around op args c = (node : Node) × AddsNode library.nodes old new around node c
     × ((head : Option Head) → applied_node op head args ≡ Some node)
-
--- the row of the first number is added once more, with one annotation more round it
-pub record AddsAround (before : Nodes) (old new : Draft) (inner added : ℕ) : Type 0 where
-  pub row : (r : Row) × (slice_get (rows_behind before old) inner ≡ Some r)
-      × (rows_behind before new ≡ rows_behind before old ++ (record r { around = r.around + 1 }) ∷ [])
-  pub number : added ≡ length (rows_behind before old)
-  pub labels : new.labels ≡ old.labels
 
 -- if the node of each label stood for its term, it does so with the new labels
 abbrev pub KeepsNamed : Library → (old new : Draft) → Type 0
@@ -74,13 +67,13 @@ KeepsNamed library old new = IsReady (table_in library old)
     → AreNamed (table_in library old) old.labels.given.items
     → AreNamed (table_in library new) new.labels.given.items
 
--- the node that was found is one of the draft's own, and stands for the term, unless that uses a variable from
--- outside
-pub record Stands (library : Library) (old new : Draft) (term : Sexp) (c : CheckedTerm) : Type 0 where
+-- the node that was found is one of the draft's own, and stands for the term, which has so many annotations
+-- without a label directly round it already, unless that uses a variable from outside
+pub record Stands (library : Library) (old new : Draft) (around : ℕ) (term : Sexp) (c : CheckedTerm) : Type 0 where
   pub own : length (rows_of library.nodes) ≤ c.node
   pub number : c.node < length (rows_in library new)
   pub denotes : IsReady (table_in library old) → c.is_open ≡ false
-      → Denotes (table_in library new) (slots_seen old) (places_seen old) 0 c.node term
+      → Denotes (table_in library new) (slots_seen old) (places_seen old) around c.node term
   pub named : KeepsNamed library old new
 
 -- what nodes of terms are, below a row, and what those of bindings are

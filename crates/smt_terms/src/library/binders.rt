@@ -40,6 +40,7 @@ impl Library {
         &self,
         draft: &mut Draft<'a>,
         args: Trees<'a>,
+        around: u32,
     ) -> Result<CheckedTerm, TermFault>
         requires { IsPlaced (seen_by draft.old) draft.old.base }
         ensures sort { HasSort self.now draft.old (Items (Cons (Reserved Let) (sexps_of args.entry))) result }
@@ -49,7 +50,7 @@ impl Library {
         ensures waiting { OnOk result (HasTheSame draft.old draft.new) }
         ensures open { IfOk result (λ c. c.is_open
             ≡ is_open draft.old (Items (Cons (Reserved Let) (sexps_of args.entry)))) }
-        ensures node { IfOk result (Stands self.now draft.old draft.new
+        ensures node { IfOk result (Stands self.now draft.old draft.new around
             (Items (Cons (Reserved Let) (sexps_of args.entry)))) }
         ensures longer { GrowsTo draft.old draft.new }
     {
@@ -63,9 +64,9 @@ impl Library {
         let start = draft.arguments.len();
         let (bound, is_open) = self.bound_by(draft, bindings)?;
         draft.bind(bound.as_slice())?;
-        let inner = self.sort_of(draft, body)?;
+        let inner = self.sort_of(draft, body, 0)?;
         draft.scope.cut(outer);
-        let checked = draft.push_let(&self.nodes, start, inner, is_open)?;
+        let checked = draft.push_let(&self.nodes, start, inner, is_open, around)?;
         draft.arguments.truncate(start);
         Ok(checked)
     }
@@ -102,7 +103,7 @@ impl Library {
             if names.contains(name) {
                 return Err(TermFault::BoundTwice);
             }
-            let checked = self.sort_of(draft, term)?;
+            let checked = self.sort_of(draft, term, 0)?;
             names.insert(name)?;
             push_variable(&mut bound, name, checked.sort)?;
             draft.arguments.push(checked.sort, checked.node)?;
@@ -113,12 +114,13 @@ impl Library {
     }
 
     // The sort and the node of an annotated term, by the trees after the `!` (SMT-LIB 2.6, section 3.6.5). Unless the
-    // annotation has a label, the node is the term's with one more annotation around it.
+    // annotation has a label, the node is that of the term in it, with one more annotation around it.
     #[cycle(check)]
     pub(super) fn sort_of_annotated<'a>(
         &self,
         draft: &mut Draft<'a>,
         args: Trees<'a>,
+        around: u32,
     ) -> Result<CheckedTerm, TermFault>
         requires { IsPlaced (seen_by draft.old) draft.old.base }
         ensures sort { HasSort self.now draft.old (Items (Cons (Reserved Bang) (sexps_of args.entry))) result }
@@ -128,7 +130,7 @@ impl Library {
         ensures waiting { OnOk result (HasTheSame draft.old draft.new) }
         ensures open { IfOk result (λ c. c.is_open
             ≡ is_open draft.old (Items (Cons (Reserved Bang) (sexps_of args.entry)))) }
-        ensures node { IfOk result (Stands self.now draft.old draft.new
+        ensures node { IfOk result (Stands self.now draft.old draft.new around
             (Items (Cons (Reserved Bang) (sexps_of args.entry)))) }
         ensures longer { GrowsTo draft.old draft.new }
     {
@@ -139,10 +141,11 @@ impl Library {
             return Err(TermFault::Form);
         }
         if has_label(attributes) {
-            self.sort_of_labelled(draft, term, attributes)
-        } else {
-            let checked = self.sort_of(draft, term)?;
-            Ok(draft.annotate(&self.nodes, checked)?)
+            return self.sort_of_labelled(draft, term, attributes, around);
+        }
+        match around.checked_add(1) {
+            Some(more) => self.sort_of(draft, term, more),
+            None => Err(TermFault::Memory),
         }
     }
 
@@ -154,6 +157,7 @@ impl Library {
         draft: &mut Draft<'a>,
         term: Tree<'a>,
         attributes: Trees<'a>,
+        around: u32,
     ) -> Result<CheckedTerm, TermFault>
         requires placed { IsPlaced (seen_by draft.old) draft.old.base }
         requires form { bindings.are_attributes (sexps_of attributes) ≡ true }
@@ -166,13 +170,13 @@ impl Library {
         ensures waiting { OnOk result (HasTheSame draft.old draft.new) }
         ensures open { IfOk result (λ c. c.is_open ≡ is_open draft.old
             (Items (Cons (Reserved Bang) (Cons (sexp_of term.entry) (sexps_of attributes.entry))))) }
-        ensures node { IfOk result (Stands self.now draft.old draft.new
+        ensures node { IfOk result (Stands self.now draft.old draft.new around
             (Items (Cons (Reserved Bang) (Cons (sexp_of term.entry) (sexps_of attributes.entry))))) }
         ensures longer { GrowsTo draft.old draft.new }
     {
         let base = draft.base;
         draft.base = draft.scope.len();
-        let checked = self.sort_of(draft, term)?;
+        let checked = self.sort_of(draft, term, 0)?;
         let place = self.bodies.len() + draft.labels.given.len();
         self.give_labels(&mut draft.labels, term, &checked, attributes)?;
         draft.base = base;
@@ -181,6 +185,7 @@ impl Library {
             &Node::Defined { place, args: &[] },
             &checked.sort,
             false,
+            around,
         )?)
     }
 

@@ -40,13 +40,15 @@ use smt_trees::{Tree, Trees};
 impl Library {
     /// The sort and the node of a term over these names and the variables that it sees, or its first fault. Unless it
     /// fails, the draft then has the variables and the arguments of before. The draft may gain nodes and labels, at a
-    /// fault too.
+    /// fault too. This many annotations without a label are directly round the term already; its node keeps how many
+    /// there are with those that the term begins with. The parts of a term start from none.
     #[cycle(check)]
     #[inline(always)]
     pub(crate) fn sort_of<'a>(
         &self,
         draft: &mut Draft<'a>,
         term: Tree<'a>,
+        around: u32,
     ) -> Result<CheckedTerm, TermFault>
         requires { IsPlaced (seen_by draft.old) draft.old.base }
         ensures sort { HasSort self.now draft.old (sexp_of term.entry) result }
@@ -54,12 +56,12 @@ impl Library {
         ensures kept { OnOk result (SeesTheSame draft.old draft.new) }
         ensures waiting { OnOk result (HasTheSame draft.old draft.new) }
         ensures open { IfOk result (λ c. c.is_open ≡ is_open draft.old (sexp_of term.entry)) }
-        ensures node { IfOk result (Stands self.now draft.old draft.new (sexp_of term.entry)) }
+        ensures node { IfOk result (Stands self.now draft.old draft.new around (sexp_of term.entry)) }
         ensures longer { GrowsTo draft.old draft.new }
     {
         match term {
-            Tree::Symbol(name) => self.sort_of_symbol(draft, name),
-            _ => self.sort_of_other(draft, term),
+            Tree::Symbol(name) => self.sort_of_symbol(draft, name, around),
+            _ => self.sort_of_other(draft, term, around),
         }
     }
 
@@ -69,6 +71,7 @@ impl Library {
         &self,
         draft: &mut Draft<'a>,
         term: Tree<'a>,
+        around: u32,
     ) -> Result<CheckedTerm, TermFault>
         requires { IsPlaced (seen_by draft.old) draft.old.base }
         ensures sort { HasSort self.now draft.old (sexp_of term.entry) result }
@@ -76,15 +79,15 @@ impl Library {
         ensures kept { OnOk result (SeesTheSame draft.old draft.new) }
         ensures waiting { OnOk result (HasTheSame draft.old draft.new) }
         ensures open { IfOk result (λ c. c.is_open ≡ is_open draft.old (sexp_of term.entry)) }
-        ensures node { IfOk result (Stands self.now draft.old draft.new (sexp_of term.entry)) }
+        ensures node { IfOk result (Stands self.now draft.old draft.new around (sexp_of term.entry)) }
         ensures longer { GrowsTo draft.old draft.new }
     {
         match term {
-            Tree::Symbol(name) => self.sort_of_symbol(draft, name),
-            Tree::Numeral(digits) => self.push_numeral(draft, digits),
-            Tree::List(parts) => self.sort_of_list(draft, parts),
-            Tree::Hex(digits) => self.push_hex(draft, digits),
-            Tree::Bin(digits) => self.push_bin(draft, digits),
+            Tree::Symbol(name) => self.sort_of_symbol(draft, name, around),
+            Tree::Numeral(digits) => self.push_numeral(draft, digits, around),
+            Tree::List(parts) => self.sort_of_list(draft, parts, around),
+            Tree::Hex(digits) => self.push_hex(draft, digits, around),
+            Tree::Bin(digits) => self.push_bin(draft, digits, around),
             Tree::Decimal(_) | Tree::Text(_) => Err(TermFault::Unsupported),
             Tree::Keyword(_) | Tree::Reserved(_) => Err(TermFault::Form),
         }
@@ -92,10 +95,15 @@ impl Library {
 
     // Adds the node of a numeral and finds its sort. (The toolchain proves a function that lends a node only if it
     // names the type of nodes' numbers: hence the empty list, here and below.)
-    fn push_numeral(&self, draft: &mut Draft<'_>, digits: &[u8]) -> Result<CheckedTerm, TermFault>
+    fn push_numeral(
+        &self,
+        draft: &mut Draft<'_>,
+        digits: &[u8],
+        around: u32,
+    ) -> Result<CheckedTerm, TermFault>
         ensures sort { IsOutcome (λ c. c.sort) (integers (names_of_library self.now).theories) result }
         ensures open { IfOk result (λ c. c.is_open ≡ false) }
-        ensures node { IfOk result (Stands self.now draft.old draft.new (Atom Numeral digits.now)) }
+        ensures node { IfOk result (Stands self.now draft.old draft.new around (Atom Numeral digits.now)) }
         ensures longer { GrowsTo draft.old draft.new }
         ensures scope { draft.new.scope ≡ draft.old.scope }
         ensures base { draft.new.base ≡ draft.old.base }
@@ -108,15 +116,21 @@ impl Library {
             draft,
             &Node::Numeral(digits),
             self.sort_of_numeral(),
+            around,
         )
     }
 
     // Adds the node of a hexadecimal literal and finds its sort.
-    fn push_hex(&self, draft: &mut Draft<'_>, digits: &[u8]) -> Result<CheckedTerm, TermFault>
+    fn push_hex(
+        &self,
+        draft: &mut Draft<'_>,
+        digits: &[u8],
+        around: u32,
+    ) -> Result<CheckedTerm, TermFault>
         ensures sort { IsOutcome (λ c. c.sort) (bit_vectors (names_of_library self.now).theories
             (width_of (4 * length digits.now))) result }
         ensures open { IfOk result (λ c. c.is_open ≡ false) }
-        ensures node { IfOk result (Stands self.now draft.old draft.new (Atom Hexadecimal digits.now)) }
+        ensures node { IfOk result (Stands self.now draft.old draft.new around (Atom Hexadecimal digits.now)) }
         ensures longer { GrowsTo draft.old draft.new }
         ensures scope { draft.new.scope ≡ draft.old.scope }
         ensures base { draft.new.base ≡ draft.old.base }
@@ -129,15 +143,21 @@ impl Library {
             draft,
             &Node::Hex(digits),
             self.sort_of_digits(4, digits),
+            around,
         )
     }
 
     // Adds the node of a binary literal and finds its sort.
-    fn push_bin(&self, draft: &mut Draft<'_>, digits: &[u8]) -> Result<CheckedTerm, TermFault>
+    fn push_bin(
+        &self,
+        draft: &mut Draft<'_>,
+        digits: &[u8],
+        around: u32,
+    ) -> Result<CheckedTerm, TermFault>
         ensures sort { IsOutcome (λ c. c.sort) (bit_vectors (names_of_library self.now).theories
             (width_of (1 * length digits.now))) result }
         ensures open { IfOk result (λ c. c.is_open ≡ false) }
-        ensures node { IfOk result (Stands self.now draft.old draft.new (Atom Binary digits.now)) }
+        ensures node { IfOk result (Stands self.now draft.old draft.new around (Atom Binary digits.now)) }
         ensures longer { GrowsTo draft.old draft.new }
         ensures scope { draft.new.scope ≡ draft.old.scope }
         ensures base { draft.new.base ≡ draft.old.base }
@@ -150,6 +170,7 @@ impl Library {
             draft,
             &Node::Bin(digits),
             self.sort_of_digits(1, digits),
+            around,
         )
     }
 
@@ -177,6 +198,7 @@ impl Library {
         &self,
         draft: &mut Draft<'a>,
         parts: Trees<'a>,
+        around: u32,
     ) -> Result<CheckedTerm, TermFault>
         requires { IsPlaced (seen_by draft.old) draft.old.base }
         ensures sort { HasSort self.now draft.old (Items (sexps_of parts.entry)) result }
@@ -184,7 +206,7 @@ impl Library {
         ensures kept { OnOk result (SeesTheSame draft.old draft.new) }
         ensures waiting { OnOk result (HasTheSame draft.old draft.new) }
         ensures open { IfOk result (λ c. c.is_open ≡ is_open draft.old (Items (sexps_of parts.entry))) }
-        ensures node { IfOk result (Stands self.now draft.old draft.new (Items (sexps_of parts.entry))) }
+        ensures node { IfOk result (Stands self.now draft.old draft.new around (Items (sexps_of parts.entry))) }
         ensures longer { GrowsTo draft.old draft.new }
     {
         let Some((head, args)) = parts.split_first() else {
@@ -193,18 +215,18 @@ impl Library {
         if is_underscore(head) {
             let identifier = indexed_identifier(self.alloc, args)?;
             let start = draft.arguments.len();
-            return self.sort_applied(draft, &identifier, start, false);
+            return self.sort_applied(draft, &identifier, start, false, around);
         }
         if is_let(head) {
-            return self.sort_of_let(draft, args);
+            return self.sort_of_let(draft, args, around);
         }
         if is_bang(head) {
-            return self.sort_of_annotated(draft, args);
+            return self.sort_of_annotated(draft, args, around);
         }
         let identifier = applied_identifier(self.alloc, head, args)?;
         let start = draft.arguments.len();
         let is_open = self.sorts_of(draft, args)?;
-        let checked = self.sort_of_call(draft, &identifier, start, is_open)?;
+        let checked = self.sort_of_call(draft, &identifier, start, is_open, around)?;
         draft.arguments.truncate(start);
         Ok(checked)
     }
@@ -230,7 +252,7 @@ impl Library {
         let mut is_open = false;
         let mut left = terms;
         while let Some((term, rest)) = left.split_first() {
-            let checked = self.sort_of(draft, term)?;
+            let checked = self.sort_of(draft, term, 0)?;
             draft.arguments.push(checked.sort, checked.node)?;
             is_open |= checked.is_open;
             left = rest;
@@ -241,7 +263,12 @@ impl Library {
     // The sort and the node of a symbol alone: of the variable that it names, or else of a name or an operator
     // without arguments.
     #[inline(always)]
-    fn sort_of_symbol(&self, draft: &mut Draft<'_>, name: &[u8]) -> Result<CheckedTerm, TermFault>
+    fn sort_of_symbol(
+        &self,
+        draft: &mut Draft<'_>,
+        name: &[u8],
+        around: u32,
+    ) -> Result<CheckedTerm, TermFault>
         requires { IsPlaced (seen_by draft.old) draft.old.base }
         ensures sort { IsOutcome (λ c. c.sort) (checking.sort_of_symbol (names_of_library self.now) name.now
             (look_up (sorts_seen draft.old) name.now)) result }
@@ -250,18 +277,18 @@ impl Library {
         ensures base { draft.new.base ≡ draft.old.base }
         ensures labels { draft.new.labels ≡ draft.old.labels }
         ensures arguments { draft.new.arguments ≡ draft.old.arguments }
-        ensures node { IfOk result (Stands self.now draft.old draft.new (Atom Symbol name.now)) }
+        ensures node { IfOk result (Stands self.now draft.old draft.new around (Atom Symbol name.now)) }
         ensures longer { GrowsTo draft.old draft.new }
     {
         match draft.scope.find(name) {
             Some(variable) => {
                 let node = Node::Slot(variable.place.saturating_sub(draft.base));
                 let is_open = variable.place < draft.base;
-                Ok(draft.push(&self.nodes, &node, &variable.sort, is_open)?)
+                Ok(draft.push(&self.nodes, &node, &variable.sort, is_open, around)?)
             }
             None => {
                 let start = draft.arguments.len();
-                self.sort_of_plain(draft, name, start, false)
+                self.sort_of_plain(draft, name, start, false, around)
             }
         }
     }
@@ -275,13 +302,14 @@ impl Library {
         identifier: &Identifier<'_>,
         start: usize,
         is_open: bool,
+        around: u32,
     ) -> Result<CheckedTerm, TermFault>
         requires { start ≤ length (argument_sorts draft.old.arguments) }
         ensures sort { IsOutcome (λ c. c.sort) (checking.sort_of_call (names_of_library self.now)
             (sorts_seen draft.old) (identifier_view identifier.now)
             (sorts_from start draft.old.arguments)) result }
         ensures open { IfOk result (λ c. c.is_open ≡ is_open) }
-        ensures added { IfOk result (AddsApplied self.now draft.old draft.new (identifier_view identifier.now)
+        ensures added { IfOk result (AddsApplied self.now draft.old draft.new around (identifier_view identifier.now)
             (sorts_from start draft.old.arguments) (terms_from start draft.old.arguments)) }
         ensures longer { GrowsTo draft.old draft.new }
         ensures scope { draft.new.scope ≡ draft.old.scope }
@@ -292,7 +320,7 @@ impl Library {
         if is_variable(&draft.scope, identifier) {
             return Err(TermFault::IllSorted);
         }
-        self.sort_applied(draft, identifier, start, is_open)
+        self.sort_applied(draft, identifier, start, is_open, around)
     }
 
     // The sort and the node of an identifier that is no variable, applied to the arguments from this one on.
@@ -303,12 +331,13 @@ impl Library {
         identifier: &Identifier<'_>,
         start: usize,
         is_open: bool,
+        around: u32,
     ) -> Result<CheckedTerm, TermFault>
         requires { start ≤ length (argument_sorts draft.old.arguments) }
         ensures sort { IsOutcome (λ c. c.sort) (checking.sort_applied (names_of_library self.now)
             (identifier_view identifier.now) (sorts_from start draft.old.arguments)) result }
         ensures open { IfOk result (λ c. c.is_open ≡ is_open) }
-        ensures added { IfOk result (AddsApplied self.now draft.old draft.new (identifier_view identifier.now)
+        ensures added { IfOk result (AddsApplied self.now draft.old draft.new around (identifier_view identifier.now)
             (sorts_from start draft.old.arguments) (terms_from start draft.old.arguments)) }
         ensures longer { GrowsTo draft.old draft.new }
         ensures scope { draft.new.scope ≡ draft.old.scope }
@@ -317,10 +346,10 @@ impl Library {
         ensures arguments { draft.new.arguments ≡ draft.old.arguments }
     {
         match identifier {
-            Identifier::Plain(name) => self.sort_of_plain(draft, *name, start, is_open),
+            Identifier::Plain(name) => self.sort_of_plain(draft, *name, start, is_open, around),
             Identifier::Indexed { name, indexes } => {
                 let op = op_of(self.sorts.theories, *name, indexes.as_slice());
-                self.sort_of_indexed(draft, op, start, is_open)
+                self.sort_of_indexed(draft, op, start, is_open, around)
             }
         }
     }
@@ -334,12 +363,13 @@ impl Library {
         name: &[u8],
         start: usize,
         is_open: bool,
+        around: u32,
     ) -> Result<CheckedTerm, TermFault>
         requires { start ≤ length (argument_sorts draft.old.arguments) }
         ensures sort { IsOutcome (λ c. c.sort) (checking.sort_applied (names_of_library self.now)
             (Plain name.now) (sorts_from start draft.old.arguments)) result }
         ensures open { IfOk result (λ c. c.is_open ≡ is_open) }
-        ensures added { IfOk result (AddsApplied self.now draft.old draft.new (Plain name.now)
+        ensures added { IfOk result (AddsApplied self.now draft.old draft.new around (Plain name.now)
             (sorts_from start draft.old.arguments) (terms_from start draft.old.arguments)) }
         ensures longer { GrowsTo draft.old draft.new }
         ensures scope { draft.new.scope ≡ draft.old.scope }
@@ -352,9 +382,9 @@ impl Library {
                 if !are_same(entry.parameters.as_slice(), draft.arguments.sorts(start)) {
                     return Err(TermFault::IllSorted);
                 }
-                Ok(draft.push_named(&self.nodes, entry.place, start, entry.sort, is_open)?)
+                Ok(draft.push_named(&self.nodes, entry.place, start, entry.sort, is_open, around)?)
             }
-            None => self.sort_of_operator(draft, name, start, is_open),
+            None => self.sort_of_operator(draft, name, start, is_open, around),
         }
     }
 
@@ -366,13 +396,14 @@ impl Library {
         name: &[u8],
         start: usize,
         is_open: bool,
+        around: u32,
     ) -> Result<CheckedTerm, TermFault>
         requires { start ≤ length (argument_sorts draft.old.arguments) }
         ensures sort { IsOutcome (λ c. c.sort) (checking.sort_of_operator
             (op_by (names_of_library self.now).theories name.now [])
             (sorts_from start draft.old.arguments)) result }
         ensures open { IfOk result (λ c. c.is_open ≡ is_open) }
-        ensures added { IfOk result (AddsOperator self.now draft.old draft.new
+        ensures added { IfOk result (AddsOperator self.now draft.old draft.new around
             (op_by (names_of_library self.now).theories name.now [])
             (terms_from start draft.old.arguments)) }
         ensures longer { GrowsTo draft.old draft.new }
@@ -387,7 +418,7 @@ impl Library {
         let Some(sort) = plain_rank(op, draft.arguments.sorts(start)) else {
             return Err(TermFault::IllSorted);
         };
-        Ok(draft.push_plain(&self.nodes, op, start, sort, is_open)?)
+        Ok(draft.push_plain(&self.nodes, op, start, sort, is_open, around)?)
     }
 
     // The sort and the node of the operator that an identifier with indexes is, applied to the arguments from this
@@ -398,12 +429,13 @@ impl Library {
         op: Result<Op, OpFault>,
         start: usize,
         is_open: bool,
+        around: u32,
     ) -> Result<CheckedTerm, TermFault>
         requires { start ≤ length (argument_sorts draft.old.arguments) }
         ensures sort { IsOutcome (λ c. c.sort) (checking.sort_of_operator op
             (sorts_from start draft.old.arguments)) result }
         ensures open { IfOk result (λ c. c.is_open ≡ is_open) }
-        ensures added { IfOk result (AddsOperator self.now draft.old draft.new op
+        ensures added { IfOk result (AddsOperator self.now draft.old draft.new around op
             (terms_from start draft.old.arguments)) }
         ensures longer { GrowsTo draft.old draft.new }
         ensures scope { draft.new.scope ≡ draft.old.scope }
@@ -416,7 +448,7 @@ impl Library {
                 let Some(sort) = rank(op, draft.arguments.sorts(start)) else {
                     return Err(TermFault::IllSorted);
                 };
-                Ok(draft.push_numbered(&self.nodes, &op, start, sort, is_open)?)
+                Ok(draft.push_numbered(&self.nodes, &op, start, sort, is_open, around)?)
             }
             Err(OpFault::Unknown) => Err(TermFault::Unknown),
             Err(OpFault::Index) => Err(TermFault::Index),
@@ -448,10 +480,11 @@ fn push_literal(
     draft: &mut Draft<'_>,
     node: &Node<'_>,
     sort: Result<Sort, TermFlaw>,
+    around: u32,
 ) -> Result<CheckedTerm, TermFault>
     ensures sort { IsOutcome (λ c. c.sort) sort result }
     ensures open { IfOk result (λ c. c.is_open ≡ false) }
-    ensures added { IfOk result (λ c. AddsNode before.now draft.old draft.new (node_view node.now) c) }
+    ensures added { IfOk result (λ c. AddsNode before.now draft.old draft.new around (node_view node.now) c) }
     ensures longer { GrowsTo draft.old draft.new }
     ensures scope { draft.new.scope ≡ draft.old.scope }
     ensures base { draft.new.base ≡ draft.old.base }
@@ -459,7 +492,7 @@ fn push_literal(
     ensures arguments { draft.new.arguments ≡ draft.old.arguments }
 {
     let sort = sort?;
-    Ok(draft.push(before, node, &sort, false)?)
+    Ok(draft.push(before, node, &sort, false, around)?)
 }
 
 // The width of digits of this number of bits each, if it is a width.

@@ -3,16 +3,14 @@
 
 ghost use Rattle.std.specs.Prelude.{◌≡◌, ◌||◌, ◌<◌, ◌≤◌, ◌+◌, ◌++◌, ◌∷◌, [], length, slice_get, Some, IfOk, OnOk};
 ghost use Rattle.std.specs.Prelude.{OnErr};
-ghost use Rattle.smt_nodes.specs.Node.{Apply, Let, Row};
+ghost use Rattle.smt_nodes.specs.Node.{Apply, Let};
 ghost use Rattle.smt_theory.specs.PlainOp.{op_of_plain};
 ghost use Rattle.smt_terms.specs.Denotes as denotes;
 ghost use Rattle.smt_terms.specs.Internal.DraftView.{argument_sorts, terms_from};
 ghost use Rattle.smt_nodes.specs.NodeView.{node_view};
-ghost use Rattle.smt_nodes.specs.Nodes.{rows_of};
 ghost use Rattle.smt_forms.specs.ScopeView.{scope_view};
 ghost use Rattle.smt_terms.specs.Internal.DraftView.{placed_from, seen_by};
-ghost use Rattle.smt_terms.specs.Internal.NodesView.{AddsAround, AddsNode, GrowsTo};
-ghost use Rattle.smt_terms.specs.Internal.TableView.{rows_behind};
+ghost use Rattle.smt_terms.specs.Internal.NodesView.{AddsNode, GrowsTo};
 
 use crate::labels::Labels;
 use crate::library::Found;
@@ -103,7 +101,7 @@ impl<'a> Draft<'a> {
     }
 
     /// Adds the node of a term of this sort after the nodes of a table, or fails with `Memory`. `is_open` says whether
-    /// the term uses a variable from outside.
+    /// the term uses a variable from outside, and `around` how many annotations without a label are directly round it.
     #[inline(always)]
     pub(crate) fn push(
         &mut self,
@@ -111,17 +109,18 @@ impl<'a> Draft<'a> {
         node: &Node<'_>,
         sort: &Sort,
         is_open: bool,
+        around: u32,
     ) -> Result<CheckedTerm, Memory>
         ensures sort { IfOk result (λ c. c.sort ≡ sort.now) }
         ensures open { IfOk result (λ c. c.is_open ≡ is_open) }
-        ensures added { IfOk result (λ c. AddsNode before.now self.old self.new (node_view node.now) c) }
+        ensures added { IfOk result (λ c. AddsNode before.now self.old self.new around (node_view node.now) c) }
         ensures longer { GrowsTo self.old self.new }
         ensures scope { self.new.scope ≡ self.old.scope }
         ensures base { self.new.base ≡ self.old.base }
         ensures labels { self.new.labels ≡ self.old.labels }
         ensures arguments { self.new.arguments ≡ self.old.arguments }
     {
-        let own = self.nodes.push(node)?;
+        let own = self.nodes.push(node, around)?;
         let node = own.behind(before.len())?;
         Ok(CheckedTerm {
             sort: *sort,
@@ -139,11 +138,12 @@ impl<'a> Draft<'a> {
         start: usize,
         sort: Sort,
         is_open: bool,
+        around: u32,
     ) -> Result<CheckedTerm, Memory>
         requires { start ≤ length (argument_sorts self.old.arguments) }
         ensures sort { IfOk result (λ c. c.sort ≡ sort) }
         ensures open { IfOk result (λ c. c.is_open ≡ is_open) }
-        ensures added { IfOk result (λ c. AddsNode before.now self.old self.new
+        ensures added { IfOk result (λ c. AddsNode before.now self.old self.new around
             (Apply (op_of_plain op) (terms_from start self.old.arguments)) c) }
         ensures longer { GrowsTo self.old self.new }
         ensures scope { self.new.scope ≡ self.old.scope }
@@ -151,7 +151,9 @@ impl<'a> Draft<'a> {
         ensures labels { self.new.labels ≡ self.old.labels }
         ensures arguments { self.new.arguments ≡ self.old.arguments }
     {
-        let own = self.nodes.push_plain(op, self.arguments.terms(start))?;
+        let own = self
+            .nodes
+            .push_plain(op, self.arguments.terms(start), around)?;
         let node = own.behind(before.len())?;
         Ok(CheckedTerm {
             sort,
@@ -169,11 +171,12 @@ impl<'a> Draft<'a> {
         start: usize,
         sort: Sort,
         is_open: bool,
+        around: u32,
     ) -> Result<CheckedTerm, Memory>
         requires { start ≤ length (argument_sorts self.old.arguments) }
         ensures sort { IfOk result (λ c. c.sort ≡ sort) }
         ensures open { IfOk result (λ c. c.is_open ≡ is_open) }
-        ensures added { IfOk result (λ c. AddsNode before.now self.old self.new
+        ensures added { IfOk result (λ c. AddsNode before.now self.old self.new around
             (Apply op.now (terms_from start self.old.arguments)) c) }
         ensures longer { GrowsTo self.old self.new }
         ensures scope { self.new.scope ≡ self.old.scope }
@@ -182,7 +185,7 @@ impl<'a> Draft<'a> {
         ensures arguments { self.new.arguments ≡ self.old.arguments }
     {
         let args = self.arguments.terms(start);
-        let own = self.nodes.push(&Node::Apply { op: *op, args })?;
+        let own = self.nodes.push(&Node::Apply { op: *op, args }, around)?;
         let node = own.behind(before.len())?;
         Ok(CheckedTerm {
             sort,
@@ -199,11 +202,12 @@ impl<'a> Draft<'a> {
         start: usize,
         body: CheckedTerm,
         is_open: bool,
+        around: u32,
     ) -> Result<CheckedTerm, Memory>
         requires { start ≤ length (argument_sorts self.old.arguments) }
         ensures sort { IfOk result (λ c. c.sort ≡ body.sort) }
         ensures open { IfOk result (λ c. c.is_open ≡ (is_open || body.is_open)) }
-        ensures added { IfOk result (λ c. AddsNode before.now self.old self.new
+        ensures added { IfOk result (λ c. AddsNode before.now self.old self.new around
             (Let (terms_from start self.old.arguments) body.node) c) }
         ensures longer { GrowsTo self.old self.new }
         ensures scope { self.new.scope ≡ self.old.scope }
@@ -215,7 +219,7 @@ impl<'a> Draft<'a> {
             values: self.arguments.terms(start),
             body: body.node,
         };
-        let own = self.nodes.push(&node)?;
+        let own = self.nodes.push(&node, around)?;
         let node = own.behind(before.len())?;
         Ok(CheckedTerm {
             sort: body.sort,
@@ -233,11 +237,12 @@ impl<'a> Draft<'a> {
         start: usize,
         sort: Sort,
         is_open: bool,
+        around: u32,
     ) -> Result<CheckedTerm, Memory>
         requires { start ≤ length (argument_sorts self.old.arguments) }
         ensures sort { IfOk result (λ c. c.sort ≡ sort) }
         ensures open { IfOk result (λ c. c.is_open ≡ is_open) }
-        ensures added { IfOk result (λ c. AddsNode before.now self.old self.new
+        ensures added { IfOk result (λ c. AddsNode before.now self.old self.new around
             (denotes.node_at place (terms_from start self.old.arguments)) c) }
         ensures longer { GrowsTo self.old self.new }
         ensures scope { self.new.scope ≡ self.old.scope }
@@ -246,40 +251,12 @@ impl<'a> Draft<'a> {
         ensures arguments { self.new.arguments ≡ self.old.arguments }
     {
         let node = node_at(place, self.arguments.terms(start));
-        let own = self.nodes.push(&node)?;
+        let own = self.nodes.push(&node, around)?;
         let node = own.behind(before.len())?;
         Ok(CheckedTerm {
             sort,
             node,
             is_open,
-        })
-    }
-
-    /// Adds the node of a term of this draft with one more annotation around it, after the nodes of a table. It fails
-    /// with `Memory`.
-    pub(crate) fn annotate(
-        &mut self,
-        before: &Nodes,
-        term: CheckedTerm,
-    ) -> Result<CheckedTerm, Memory>
-        requires own { length (rows_of before.now) ≤ term.node }
-        requires below { term.node < length (rows_behind before.now self.old) }
-        ensures sort { IfOk result (λ c. c.sort ≡ term.sort) }
-        ensures open { IfOk result (λ c. c.is_open ≡ term.is_open) }
-        ensures added { IfOk result (λ c. AddsAround before.now self.old self.new term.node c.node) }
-        ensures longer { GrowsTo self.old self.new }
-        ensures scope { self.new.scope ≡ self.old.scope }
-        ensures base { self.new.base ≡ self.old.base }
-        ensures labels { self.new.labels ≡ self.old.labels }
-        ensures arguments { self.new.arguments ≡ self.old.arguments }
-    {
-        let count = before.len();
-        let own = self.nodes.annotate(term.node.after(count))?;
-        let node = own.behind(count)?;
-        Ok(CheckedTerm {
-            sort: term.sort,
-            node,
-            is_open: term.is_open,
         })
     }
 }

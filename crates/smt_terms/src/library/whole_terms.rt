@@ -97,6 +97,6 @@ impl Library {
         ensures longer { GrowsTo draft.old draft.new }
     {
         draft.bind(variables)?;
-        self.sort_of(draft, term)
+        self.sort_of(draft, term, 0)
     }
 }

@@ -1,4 +1,5 @@
 use Rattle.std.proofs.Common.{Some, option_map, ap, sym, ◌∙◌}
+use Rattle.smt_nodes.specs.Internal.Annotations.{annotated_of}
 use Rattle.smt_nodes.specs.Internal.Lists.{lists_of}
 use Rattle.smt_nodes.specs.Nodes.{rows_of}
 use Rattle.smt_nodes.proofs.TableLemmas.{row_absent, row_found}
@@ -9,7 +10,7 @@ unfolding rows_of
 returns-in-Some c =
     let nodes = c.args.self.now in
     ap (λ n. Some n) c.around.ensures ∙ sym (ap (λ o. option_map (λ row. row.around) o)
-    (row_found nodes.rows.items (lists_of nodes.tables) c.args.number c.in-Some.row
+    (row_found nodes.rows.items (lists_of nodes.tables) (annotated_of nodes.tables) c.args.number c.in-Some.row
     (sym c.row.ensures ∙ c.in-Some.is)))
 
 pub returns-in-None : goal.returns-in-None
@@ -17,4 +18,4 @@ unfolding rows_of
 returns-in-None c =
     let nodes = c.args.self.now in
     sym (ap (λ o. option_map (λ row. row.around) o)
-    (row_absent nodes.rows.items (lists_of nodes.tables) c.args.number (sym c.row.ensures ∙ c.in-None.is)))
+    (row_absent nodes.rows.items (lists_of nodes.tables) (annotated_of nodes.tables) c.args.number (sym c.row.ensures ∙ c.in-None.is)))

@@ -1,7 +1,8 @@
 use Rattle.std.proofs.Common.{◌≡◌, ℕ, ◌∙◌, ap, sym, subst, List, take}
+use Rattle.smt_nodes.specs.Internal.Annotations.{annotated_of}
 use Rattle.smt_nodes.specs.Internal.Lists.{Lists, first_of, lists_of}
-use Rattle.smt_nodes.specs.Internal.Numbers.{AreNumbered, large_of}
-use Rattle.smt_nodes.specs.Internal.Rows.{IsSound, last_ends, views}
+use Rattle.smt_nodes.specs.Internal.Numbers.{large_of}
+use Rattle.smt_nodes.specs.Internal.Rows.{AreNumbered, IsSound, last_ends, views}
 use Rattle.smt_nodes.specs.Nodes.{rows_of}
 use Rattle.smt_nodes.specs.declared.rows.Ends.{Ends}
 use Rattle.smt_nodes.specs.declared.rows.StoredRow.{StoredRow}
@@ -22,25 +23,32 @@ left n rows firsts seen t u e P is same ends lists p =
 pub invariant_of-self : goal.invariant_of-self
 invariant_of-self c =
     let nodes = c.args.self.now in
+    let after = c.truncate-2.new.self in
     record {
       sound = left c.args.count nodes.rows.items c.truncate.new.self.items c.as_slice.result.now
-          (lists_of nodes.tables) (lists_of c.truncate-2.new.self) c.last_ends-ends.result IsSound
+          (lists_of nodes.tables) (lists_of after) c.last_ends-ends.result
+          (λ rows t. IsSound rows t (annotated_of after))
           c.truncate.ensures.items c.as_slice.ensures.value c.last_ends-ends.ensures c.truncate-2.ensures.lists
-          (sound_cut c.args.count nodes.rows.items (lists_of nodes.tables) nodes.sound);
+          (sound_cut c.args.count nodes.rows.items (lists_of nodes.tables) (annotated_of nodes.tables)
+          (annotated_of after) nodes.sound c.truncate-2.ensures.annotated);
       numbered = left c.args.count nodes.rows.items c.truncate.new.self.items c.as_slice.result.now
-          (lists_of nodes.tables) (lists_of c.truncate-2.new.self) c.last_ends-ends.result
-          (λ rows t. AreNumbered rows t (large_of c.truncate-2.new.self))
+          (lists_of nodes.tables) (lists_of after) c.last_ends-ends.result
+          (λ rows t. AreNumbered rows t (large_of after) (annotated_of after))
           c.truncate.ensures.items c.as_slice.ensures.value c.last_ends-ends.ensures c.truncate-2.ensures.lists
           (numbered_cut c.args.count nodes.rows.items (lists_of nodes.tables) (large_of nodes.tables)
-          (large_of c.truncate-2.new.self) nodes.sound nodes.numbered c.truncate-2.ensures.large);
+          (large_of after) (annotated_of nodes.tables) (annotated_of after) nodes.sound nodes.numbered
+          c.truncate-2.ensures.large c.truncate-2.ensures.annotated);
     }
 
 pub returns : goal.returns
 unfolding rows_of
 returns c =
     let nodes = c.args.self.now in
+    let after = c.truncate-2.new.self in
     left c.args.count nodes.rows.items c.truncate.new.self.items c.as_slice.result.now
-    (lists_of nodes.tables) (lists_of c.truncate-2.new.self) c.last_ends-ends.result
-    (λ rows t. views rows t ≡ take c.args.count (views nodes.rows.items (lists_of nodes.tables)))
+    (lists_of nodes.tables) (lists_of after) c.last_ends-ends.result
+    (λ rows t. views rows t (annotated_of after)
+    ≡ take c.args.count (views nodes.rows.items (lists_of nodes.tables) (annotated_of nodes.tables)))
     c.truncate.ensures.items c.as_slice.ensures.value c.last_ends-ends.ensures c.truncate-2.ensures.lists
-    (views_cut c.args.count nodes.rows.items (lists_of nodes.tables) nodes.sound)
+    (views_cut c.args.count nodes.rows.items (lists_of nodes.tables) (annotated_of nodes.tables)
+    (annotated_of after) nodes.sound c.truncate-2.ensures.annotated)

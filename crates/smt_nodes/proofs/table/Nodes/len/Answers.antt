@@ -1,5 +1,6 @@
 use Rattle.std.proofs.Common.{◌≡◌, ℕ, length, vec_len, Vec, Global, arith, sym, ◌∙◌}
 use Rattle.std.proofs.lemmas.List.{length-map}
+use Rattle.smt_nodes.specs.Internal.Annotations.{annotated_of}
 use Rattle.smt_nodes.specs.Internal.Lists.{lists_of}
 use Rattle.smt_nodes.specs.Internal.Rows.{row_view}
 use Rattle.smt_nodes.specs.Nodes.{rows_of}
@@ -14,4 +15,4 @@ unfolding rows_of
 returns c =
     let nodes = c.args.self.now in
     counted nodes.rows c.len.result c.len.ensures
-    ∙ sym (length-map nodes.rows.items (row_view nodes.rows.items (lists_of nodes.tables)))
+    ∙ sym (length-map nodes.rows.items (row_view (lists_of nodes.tables) (annotated_of nodes.tables)))

@@ -1,13 +1,12 @@
 use Rattle.std.proofs.Common.{Option, ap, sym, ◌∙◌}
 use Rattle.std.specs.Option.{option_map}
+use Rattle.smt_nodes.specs.Internal.Annotations.{annotated_of}
 use Rattle.smt_nodes.specs.Internal.Lists.{lists_of}
 use Rattle.smt_nodes.specs.Internal.Numbers.{held_number, large_of}
-use Rattle.smt_nodes.specs.Internal.Rows.{source}
 use Rattle.smt_nodes.specs.Literals.{literal_number}
 use Rattle.smt_nodes.specs.Node.{Row}
 use Rattle.smt_nodes.specs.Nodes.{rows_of}
-use Rattle.smt_nodes.specs.declared.rows.StoredRow.{StoredRow}
-use Rattle.smt_nodes.proofs.RowLemmas.{source_at}
+use Rattle.smt_nodes.specs.declared.rows.Stored.{Stored}
 use Rattle.smt_nodes.proofs.TableLemmas.{row_absent, row_found}
 use Rattle.smt_nodes.proofs.table.Nodes.literal.Goals as goal
 
@@ -15,19 +14,16 @@ pub returns-in-Some : goal.returns-in-Some
 unfolding rows_of
 returns-in-Some c =
     let nodes = c.args.self.now in
-    let rows = nodes.rows.items in
     let row = c.in-Some.row in
     let at = sym c.row.ensures ∙ c.in-Some.is in
-    let p = source_at rows c.args.number row at (nodes.sound.below c.args.number row at) in
-    c.number.ensures
-    ∙ ap (λ (r : StoredRow). held_number (large_of nodes.tables) r.stored) c.source-held.ensures
-    ∙ (nodes.numbered p.0 (source rows row) p.1).value
+    c.number.ensures ∙ ap (λ (s : Stored). held_number (large_of nodes.tables) s) c.inner-stored.ensures
+    ∙ (nodes.numbered c.args.number row at).value
     ∙ sym (ap (λ (o : Option Row). literal_number (option_map (λ (r : Row). r.node) o))
-    (row_found rows (lists_of nodes.tables) c.args.number row at))
+    (row_found nodes.rows.items (lists_of nodes.tables) (annotated_of nodes.tables) c.args.number row at))
 
 pub returns-in-None : goal.returns-in-None
 unfolding rows_of
 returns-in-None c =
     let nodes = c.args.self.now in
     sym (ap (λ (o : Option Row). literal_number (option_map (λ (r : Row). r.node) o))
-    (row_absent nodes.rows.items (lists_of nodes.tables) c.args.number (sym c.row.ensures ∙ c.in-None.is)))
+    (row_absent nodes.rows.items (lists_of nodes.tables) (annotated_of nodes.tables) c.args.number (sym c.row.ensures ∙ c.in-None.is)))

@@ -1,33 +1,34 @@
-use Rattle.std.proofs.Common.{[], length, ap, sym, subst, append-nil, ◌∙◌}
-use Rattle.smt_nodes.specs.Internal.Lists.{lists_of}
+use Rattle.std.proofs.Common.{List, [], length, ap, sym, subst, append-nil, ◌∙◌}
+use Rattle.smt_nodes.specs.Internal.Annotations.{annotated_of}
+use Rattle.smt_nodes.specs.Internal.Lists.{lengths, lists_of, node_of}
 use Rattle.smt_nodes.specs.Internal.Numbers.{IsNumberHeld, large_of}
 use Rattle.smt_nodes.specs.Literals.{spelled}
-use Rattle.smt_nodes.specs.Node.{Apply, Node}
-use Rattle.smt_nodes.proofs.NumberLemmas.{numbered_grown}
-use Rattle.smt_nodes.proofs.SoundLemmas.{sound_grown}
+use Rattle.smt_nodes.specs.Node.{Apply, Node, Row}
 use Rattle.smt_nodes.specs.Nodes.{rows_of}
 use Rattle.smt_theory.specs.PlainOp.{op_of_plain}
-use Rattle.smt_nodes.proofs.OutcomeLemmas.{err_as_well, on_err, on_ok}
-use Rattle.smt_nodes.proofs.TableLemmas.{views_kept}
-use Rattle.smt_nodes.proofs.PushLemmas.{number_seen, stored_seen, unchanged_seen}
+use Rattle.smt_nodes.proofs.NumberLemmas.{numbered_grown}
+use Rattle.smt_nodes.proofs.OutcomeLemmas.{err_as_well, if_ok, on_err, on_ok}
+use Rattle.smt_nodes.proofs.PushLemmas.{as_before, grown_seen, pushed_seen}
+use Rattle.smt_nodes.proofs.SoundLemmas.{sound_grown}
 use Rattle.smt_nodes.proofs.table.Nodes.push_plain.Goals as goal
 
 pub invariant_of-self : goal.invariant_of-self
 invariant_of-self c =
     let nodes = c.args.self.now in
+    let after = c.store_plain.new.self in
+    let same = as_before (annotated_of nodes.tables) (annotated_of after) c.store_plain.ensures.annotated in
     record {
-      sound = sound_grown nodes.rows.items (lists_of nodes.tables) (lists_of c.store_plain.new.self) nodes.sound
-          c.store_plain.ensures.grown;
-      numbered = numbered_grown nodes.rows.items (lists_of nodes.tables) (lists_of c.store_plain.new.self)
-          (large_of nodes.tables) (large_of c.store_plain.new.self) nodes.sound c.store_plain.ensures.grown (
+      sound = sound_grown nodes.rows.items (lists_of nodes.tables) (lists_of after) (annotated_of nodes.tables)
+          (annotated_of after) nodes.sound c.store_plain.ensures.grown same;
+      numbered = numbered_grown nodes.rows.items (lists_of nodes.tables) (lists_of after) (large_of nodes.tables)
+          (large_of after) (annotated_of nodes.tables) (annotated_of after) nodes.sound c.store_plain.ensures.grown (
             [],
-            ap (λ xs. xs.items) c.store_plain.ensures.large
-                ∙ sym (append-nil (large_of nodes.tables)),
-          ) nodes.numbered;
+            ap (λ xs. xs.items) c.store_plain.ensures.large ∙ sym (append-nil (large_of nodes.tables)),
+          ) same nodes.numbered;
     }
 
-pub push_row-requires-clause-number : goal.push_row-requires-clause-number
-push_row-requires-clause-number c =
+pub push_stored-requires-clause-number : goal.push_stored-requires-clause-number
+push_stored-requires-clause-number c =
     let nodes = c.args.self.now in
     subst (λ (n : Node). IsNumberHeld (large_of c.store_plain.new.self) (length nodes.rows.items)
     c.in_ok-stored.stored (spelled n)) (sym c.in_ok-stored.ensures.stored.node)
@@ -38,21 +39,31 @@ unfolding rows_of
 returns-in_err-stored-clause-unchanged c =
     let nodes = c.args.self.now in
     err_as_well c.from_residual.result
-    (views_kept nodes.rows.items (lists_of nodes.tables) (lists_of c.store_plain.new.self) nodes.sound
-    c.in_err-stored.ensures.grown)
+    (grown_seen nodes c.store_plain.new.self c.in_err-stored.ensures.grown
+    (as_before (annotated_of nodes.tables) (annotated_of c.store_plain.new.self) c.in_err-stored.ensures.annotated))
 
 pub returns-clause-pushed : goal.returns-clause-pushed
+unfolding rows_of
 returns-clause-pushed c =
-    on_ok c.push_row.result c.push_row.ensures.pushed
-    (stored_seen c.args.self.now c.push_row.new.self c.store_plain.new.self c.in_ok-stored.stored
-    (Apply (op_of_plain c.args.op) c.args.args.now) c.push_row.ensures.tables c.in_ok-stored.ensures.grown c.in_ok-stored.ensures.stored)
+    let after = c.store_plain.new.self in
+    on_ok c.push_stored.result c.push_stored.ensures.pushed
+    (pushed_seen c.args.self.now after (rows_of c.push_stored.new.self)
+    (node_of (lists_of after) (lengths (lists_of after)) c.in_ok-stored.stored) (Apply (op_of_plain c.args.op) c.args.args.now)
+    c.args.around c.in_ok-stored.ensures.grown c.in_ok-stored.ensures.annotated c.in_ok-stored.ensures.stored.node)
 
 pub returns-clause-number : goal.returns-clause-number
+unfolding rows_of
 returns-clause-number c =
-    number_seen c.args.self.now c.push_row.result c.push_row.ensures.number
+    let nodes = c.args.self.now in
+    if_ok c.push_stored.result c.push_stored.ensures.number
+    (λ id is. is ∙ ap (λ (rows : List Row). length rows) (grown_seen nodes c.store_plain.new.self
+    c.in_ok-stored.ensures.grown
+    (as_before (annotated_of nodes.tables) (annotated_of c.store_plain.new.self) c.in_ok-stored.ensures.annotated)))
 
 pub returns-clause-unchanged : goal.returns-clause-unchanged
+unfolding rows_of
 returns-clause-unchanged c =
-    on_err c.push_row.result c.push_row.ensures.unchanged
-    (unchanged_seen c.args.self.now c.push_row.new.self c.store_plain.new.self c.push_row.ensures.tables
-    c.in_ok-stored.ensures.grown)
+    let nodes = c.args.self.now in
+    on_err c.push_stored.result c.push_stored.ensures.unchanged
+    (λ is. is ∙ grown_seen nodes c.store_plain.new.self c.in_ok-stored.ensures.grown
+    (as_before (annotated_of nodes.tables) (annotated_of c.store_plain.new.self) c.in_ok-stored.ensures.annotated))

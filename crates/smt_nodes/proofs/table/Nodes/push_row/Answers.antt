@@ -1,7 +1,8 @@
 use Rattle.std.proofs.Common.{◌≡◌, List, [], ◌∷◌, ◌++◌, sym, ap, ◌∙◌, subst}
+use Rattle.smt_nodes.specs.Internal.Annotations.{annotated_of}
 use Rattle.smt_nodes.specs.Internal.Lists.{lists_of}
-use Rattle.smt_nodes.specs.Internal.Numbers.{AreNumbered, large_of}
-use Rattle.smt_nodes.specs.Internal.Rows.{IsSound}
+use Rattle.smt_nodes.specs.Internal.Numbers.{large_of}
+use Rattle.smt_nodes.specs.Internal.Rows.{AreNumbered, IsSound}
 use Rattle.smt_nodes.specs.declared.rows.StoredRow.{StoredRow}
 use Rattle.smt_nodes.proofs.NumberLemmas.{numbered_pushed}
 use Rattle.smt_nodes.proofs.SoundLemmas.{sound_pushed}
@@ -10,11 +11,13 @@ use Rattle.smt_nodes.proofs.table.Nodes.push_row.Goals as goal
 pub invariant_of-self : goal.invariant_of-self
 invariant_of-self c =
     let nodes = c.args.self.now in
-    let kept : IsSound c.reserve.new.self.items (lists_of nodes.tables) =
-    subst (λ (rows : List StoredRow). IsSound rows (lists_of nodes.tables)) (sym c.reserve.ensures.items)
+    let kept : IsSound c.reserve.new.self.items (lists_of nodes.tables) (annotated_of nodes.tables) =
+    subst (λ (rows : List StoredRow). IsSound rows (lists_of nodes.tables) (annotated_of nodes.tables)) (sym c.reserve.ensures.items)
     nodes.sound in
-    let numbered : AreNumbered c.reserve.new.self.items (lists_of nodes.tables) (large_of nodes.tables) =
-    subst (λ (rows : List StoredRow). AreNumbered rows (lists_of nodes.tables) (large_of nodes.tables))
+    let numbered : AreNumbered c.reserve.new.self.items (lists_of nodes.tables) (large_of nodes.tables)
+    (annotated_of nodes.tables) =
+    subst (λ (rows : List StoredRow). AreNumbered rows (lists_of nodes.tables) (large_of nodes.tables)
+    (annotated_of nodes.tables))
     (sym c.reserve.ensures.items) nodes.numbered in
     record { sound = kept; numbered = numbered }
 
@@ -25,12 +28,14 @@ invariant_of-self-2 c =
     record { stored = c.args.stored; ends = c.in_ok-ends.ends } in
     let pushed : c.push_reserved.new.self.items ≡ nodes.rows.items ++ new ∷ [] =
     c.push_reserved.ensures.items ∙ ap (λ rows. rows ++ new ∷ []) c.reserve.ensures.items in
-    let kept : IsSound c.push_reserved.new.self.items (lists_of nodes.tables) =
-    subst (λ (rows : List StoredRow). IsSound rows (lists_of nodes.tables)) (sym pushed)
-    (sound_pushed nodes.rows.items (lists_of nodes.tables) new nodes.sound c.in_ok-ends.ensures
-    c.requires.held c.requires.below) in
-    let numbered : AreNumbered c.push_reserved.new.self.items (lists_of nodes.tables) (large_of nodes.tables) =
-    subst (λ (rows : List StoredRow). AreNumbered rows (lists_of nodes.tables) (large_of nodes.tables)) (sym pushed)
-    (numbered_pushed nodes.rows.items (lists_of nodes.tables) (large_of nodes.tables) new nodes.numbered
-    c.in_ok-ends.ensures c.requires.number) in
+    let kept : IsSound c.push_reserved.new.self.items (lists_of nodes.tables) (annotated_of nodes.tables) =
+    subst (λ (rows : List StoredRow). IsSound rows (lists_of nodes.tables) (annotated_of nodes.tables)) (sym pushed)
+    (sound_pushed nodes.rows.items (lists_of nodes.tables) (annotated_of nodes.tables) new nodes.sound c.in_ok-ends.ensures
+    c.requires.held c.requires.own) in
+    let numbered : AreNumbered c.push_reserved.new.self.items (lists_of nodes.tables) (large_of nodes.tables)
+    (annotated_of nodes.tables) =
+    subst (λ (rows : List StoredRow). AreNumbered rows (lists_of nodes.tables) (large_of nodes.tables)
+    (annotated_of nodes.tables)) (sym pushed)
+    (numbered_pushed nodes.rows.items (lists_of nodes.tables) (large_of nodes.tables) (annotated_of nodes.tables)
+    new nodes.numbered c.in_ok-ends.ensures c.requires.number) in
     record { sound = kept; numbered = numbered }

@@ -1,4 +1,5 @@
 use Rattle.std.proofs.Common.{◌||◌, ◌++◌, [], Ok, ◌∷◌, map, take, refl, ap, sym, subst, ◌∙◌, arith, inr, append-nil}
+use Rattle.std.proofs.Common.{OnOk}
 use Rattle.std.proofs.lemmas.List.{map-append}
 use Rattle.std.proofs.lemmas.Result.{err_from_is_err_and}
 use Rattle.smt_trees.specs.Sexp.{Cons, Items, Reserved, weight_all}
@@ -25,7 +26,7 @@ use Rattle.smt_nodes.specs.Node as node
 use Rattle.smt_terms.specs.Denotes.{AreBound, AreDenoted}
 use Rattle.smt_terms.specs.Internal.NodesView.{AddsApplied, AddsNode, Stands, TermsStand}
 use Rattle.smt_terms.proofs.BinderLemmas.{annotated, bang_in, bound_in-fault, bound_in-next, bound_in-twice}
-use Rattle.smt_terms.proofs.BinderLemmas.{fault_of_annotated, fault_of_annotation, fault_of_bindings, let_in}
+use Rattle.smt_terms.proofs.BinderLemmas.{fault_of_annotation, fault_of_bindings, let_in}
 use Rattle.smt_terms.proofs.CheckerLemmas.{bang_head, fault_of_args, indexed_ok, let_head, plain_head}
 use Rattle.smt_terms.proofs.CheckerLemmas.{sorts_behind-end, sorts_behind-next, sorts_behind-start}
 use Rattle.smt_terms.proofs.ClosedLemmas.{bound-names, closed}
@@ -201,67 +202,48 @@ sort_of_annotated-returns-then-has_label-clause-open t c =
     (ap (λ ts. is_open c.args.draft.now (Items (Cons (Reserved Bang) ts))) c.in-Some.ensures)
     c.sort_of_labelled.ensures.open
 
-pub sort_of_annotated-returns-in_err-checked-clause-sort :
-    goal.sort_of_annotated-returns-in_err-checked-clause-sort
-sort_of_annotated-returns-in_err-checked-clause-sort t c =
-    let p = err_from_is_err_and c.from_residual.result c.from_residual.ensures.1 in
-    rw (p.1, p.2)
-    (fault_of_annotated (names_for c.args.self.now (labels_view c.args.draft.now.labels))
-    (sorts_seen c.args.draft.now) (sexps_of c.args.args) (sexps_of c.in-Some.attributes)
-    (sexp_of c.in-Some.term) _ c.in-Some.ensures
-    (sym c.are_attributes.ensures ∙ c.if-not-are_attributes.false) c.in_err-checked.ensures.sort)
-
-pub sort_of_annotated-returns-in_ok-annotate-clause-sort :
-    goal.sort_of_annotated-returns-in_ok-annotate-clause-sort
-sort_of_annotated-returns-in_ok-annotate-clause-sort t c =
-    annotated_alone (names_for c.args.self.now (labels_view c.args.draft.now.labels))
+pub sort_of_annotated-returns-in-Some-checked_add-clause-sort :
+    goal.sort_of_annotated-returns-in-Some-checked_add-clause-sort
+sort_of_annotated-returns-in-Some-checked_add-clause-sort t c =
+    carried_sort c.sort_of.result _ _
+    (annotated_alone (names_for c.args.self.now (labels_view c.args.draft.now.labels))
     (sorts_seen c.args.draft.now) (sexps_of c.args.args) (sexps_of c.in-Some.attributes)
     (sexp_of c.in-Some.term) c.in-Some.ensures
     (sym c.are_attributes.ensures ∙ c.if-not-are_attributes.false)
-    (sym c.has_label.ensures ∙ c.if-has_label.false)
-    ∙ c.in_ok-checked.ensures.sort ∙ ap (λ s. Ok s) (sym c.in_ok-annotate.ensures.sort)
+    (sym c.has_label.ensures ∙ c.if-has_label.false)) c.sort_of.ensures.sort
 
-pub sort_of_annotated-returns-in_ok-annotate-clause-labels :
-    goal.sort_of_annotated-returns-in_ok-annotate-clause-labels
-sort_of_annotated-returns-in_ok-annotate-clause-labels t c =
+pub sort_of_annotated-returns-in-Some-checked_add-clause-labels :
+    goal.sort_of_annotated-returns-in-Some-checked_add-clause-labels
+sort_of_annotated-returns-in-Some-checked_add-clause-labels t c =
     let term = sexp_of c.in-Some.term in
     let none =
     no_labels (labels_among (sexps_of c.in-Some.attributes)) (sym c.has_label.ensures ∙ c.if-has_label.false)
     in
-    let names = names_of_library c.args.self.now in
-    subst (λ ls. AreGiven names c.args.draft.now.labels ls
-    (labels_in (Items (Cons (Reserved Bang) (sexps_of c.args.args))))) (sym c.annotate.ensures.labels)
-    (subst (AreGiven names c.args.draft.now.labels c.sort_of.new.draft.labels)
+    subst (λ xs. OnOk c.sort_of.result (AreGiven (names_of_library c.args.self.now) c.args.draft.now.labels
+    c.sort_of.new.draft.labels xs))
     (sym (ap (λ ts. labels_in (Items (Cons (Reserved Bang) ts))) c.in-Some.ensures
     ∙ ap (λ xs. labels_in term ++ map (λ x. (x, term)) xs) none ∙ append-nil (labels_in term)))
-    c.in_ok-checked.ensures.labels)
+    c.sort_of.ensures.labels
 
-pub sort_of_annotated-returns-in_ok-annotate-clause-open :
-    goal.sort_of_annotated-returns-in_ok-annotate-clause-open
-sort_of_annotated-returns-in_ok-annotate-clause-open t c =
-    c.in_ok-annotate.ensures.open ∙ c.in_ok-checked.ensures.open
-    ∙ sym (ap (λ ts. is_open c.args.draft.now (Items (Cons (Reserved Bang) ts))) c.in-Some.ensures)
+pub sort_of_annotated-returns-in-Some-checked_add-clause-open :
+    goal.sort_of_annotated-returns-in-Some-checked_add-clause-open
+sort_of_annotated-returns-in-Some-checked_add-clause-open t c =
+    carried_open c.sort_of.result _ _
+    (ap (λ ts. is_open c.args.draft.now (Items (Cons (Reserved Bang) ts))) c.in-Some.ensures)
+    c.sort_of.ensures.open
 
-pub sort_of_annotated-returns-in_ok-annotate-clause-node :
-    goal.sort_of_annotated-returns-in_ok-annotate-clause-node
-sort_of_annotated-returns-in_ok-annotate-clause-node t c =
-    annotated_stands c.args.self.now c.args.draft.now c.sort_of.new.draft c.annotate.new.self
-    (sexps_of c.args.args) (sexps_of c.in-Some.attributes) (sexp_of c.in-Some.term)
-    c.in_ok-checked.checked _ c.in-Some.ensures (sym c.has_label.ensures ∙ c.if-has_label.false)
-    c.sort_of.ensures.longer c.in_ok-checked.ensures.node c.annotate.ensures.longer
-    c.in_ok-annotate.ensures.added c.in_ok-annotate.ensures.open
-
-pub sort_of_annotated-returns-in_ok-annotate-clause-longer :
-    goal.sort_of_annotated-returns-in_ok-annotate-clause-longer
-sort_of_annotated-returns-in_ok-annotate-clause-longer t c =
-    grows_on c.args.draft.now c.sort_of.new.draft c.annotate.new.self c.sort_of.ensures.longer
-    c.annotate.ensures.longer
-
-pub sort_of_annotated-returns-in_err-annotate-clause-longer :
-    goal.sort_of_annotated-returns-in_err-annotate-clause-longer
-sort_of_annotated-returns-in_err-annotate-clause-longer t c =
-    grows_on c.args.draft.now c.sort_of.new.draft c.annotate.new.self c.sort_of.ensures.longer
-    c.annotate.ensures.longer
+pub sort_of_annotated-returns-in-Some-checked_add-clause-node :
+    goal.sort_of_annotated-returns-in-Some-checked_add-clause-node
+sort_of_annotated-returns-in-Some-checked_add-clause-node t c =
+    let d = c.args.draft.now in
+    let new = c.sort_of.new.draft in
+    if_answered c.sort_of.result (Stands c.args.self.now d new c.in-Some-checked_add.more (sexp_of c.in-Some.term))
+    (Stands c.args.self.now d new c.args.around (Items (Cons (Reserved Bang) (sexps_of c.args.args))))
+    (λ found stands. annotated_stands c.args.self.now d new c.args.around (sexps_of c.args.args)
+    (sexps_of c.in-Some.attributes) (sexp_of c.in-Some.term) found c.in-Some.ensures
+    (sym c.has_label.ensures ∙ c.if-has_label.false)
+    (subst (λ n. Stands c.args.self.now d new n (sexp_of c.in-Some.term) found) c.in-Some-checked_add.ensures.1 stands))
+    c.sort_of.ensures.node
 
 pub sort_of_labelled-give_labels-requires : goal.sort_of_labelled-give_labels-requires
 sort_of_labelled-give_labels-requires t c = λ closed_term.
@@ -348,8 +330,8 @@ sort_of_labelled-returns-clause-node t c =
     closed_by_labels c.args.self.now mid.labels (sorts_seen d) term
     (labels_among (sexps_of c.args.attributes)) c.requires.labelled
     (c.in_ok-give_labels.ensures.fault (sorts_seen d) (sym whole ∙ sym c.in_ok-checked.ensures.open)) in
-    labelled_stands c.args.self.now d (record d { base = c.len-draft.result }) mid given c.push.new.self term
-    (sexps_of c.args.attributes) _ c.in_ok-checked.checked _ _ refl refl c.len-draft.ensures
+    labelled_stands c.args.self.now d (record d { base = c.len-draft.result }) mid given c.push.new.self c.args.around
+    term (sexps_of c.args.attributes) _ c.in_ok-checked.checked _ _ refl refl c.len-draft.ensures
     c.sort_of.ensures.longer c.in_ok-checked.ensures.node (c.in_ok-checked.ensures.open ∙ whole ∙ unused) unused
     (omega (arith, c.len.ensures, c.len-2.ensures)) c.requires.labelled refl c.give_labels.ensures.longer.1
     c.in_ok-give_labels.ensures.labels.given c.in_ok-give_labels.ensures.nodes c.in_ok-give_labels.ensures.named
@@ -437,17 +419,17 @@ sort_of_let-returns-clause-node t c =
     let bindings = sexps_of c.in-Some.bindings in
     let bound = scope_view c.as_slice.result.now in
     let nodes = c.in_ok-bound.ensures.nodes in
-    stands_with c.args.self.now d c.push_let.new.self c.truncate.new.self
+    stands_with c.args.self.now d c.push_let.new.self c.args.around c.truncate.new.self
     (Items (Cons (Reserved Let) (sexps_of c.args.args))) c.in_ok-checked.checked
     (let_stands c.args.self.now d c.bound_by.new.draft c.bind.new.self last cut c.push_let.new.self
-    (sexps_of c.args.args) bindings (sexp_of c.in-Some.body) bound nodes.0
+    c.args.around (sexps_of c.args.args) bindings (sexp_of c.in-Some.body) bound nodes.0
     c.in_ok-bound.is_open c.in_ok-inner.inner _ c.in-Some.ensures c.in_ok-bound.ensures.kept
     c.requires.within c.in_ok-bind.ensures.bound c.bind.ensures.base c.bind.ensures.labels c.bind.ensures.nodes
     (bound-names names (sorts_seen d) [] bindings bound
     (c.in_ok-bound.ensures.bound ∙ ap (λ vs. Ok (scope_view vs)) (sym c.as_slice.ensures.value)))
     c.bound_by.ensures.longer nodes.2 c.sort_of.ensures.longer c.in_ok-inner.ensures.node
     refl refl c.push_let.ensures.longer
-    (subst (λ js. AddsNode c.args.self.now.nodes cut c.push_let.new.self (node.Let js c.in_ok-inner.inner.node)
+    (subst (λ js. AddsNode c.args.self.now.nodes cut c.push_let.new.self c.args.around (node.Let js c.in_ok-inner.inner.node)
     c.in_ok-checked.checked)
     (terms_start d last c.len-start.result nodes.0 c.len-start.ensures
     (c.in_ok-inner.ensures.waiting.terms ∙ ap argument_terms c.bind.ensures.arguments ∙ nodes.1))
@@ -558,12 +540,12 @@ sort_of_list-returns-then-is_underscore-clause-node t c =
     let f = identifier_view c.in_ok-identifier.identifier in
     let start = c.len-start.result in
     if_answered c.sort_applied.result
-    (AddsApplied c.args.self.now d new f (sorts_from start d.arguments) (terms_from start d.arguments))
-    (Stands c.args.self.now d new (Items (sexps_of c.args.parts)))
-    (λ found adds. indexed_stands c.args.self.now d new (sexp_of c.in-Some.head)
+    (AddsApplied c.args.self.now d new c.args.around f (sorts_from start d.arguments) (terms_from start d.arguments))
+    (Stands c.args.self.now d new c.args.around (Items (sexps_of c.args.parts)))
+    (λ found adds. indexed_stands c.args.self.now d new c.args.around (sexp_of c.in-Some.head)
     (sexps_of c.in-Some.args) (sexps_of c.args.parts) f found (c.in-Some.ensures)
     (sym c.if-is_underscore.ensures) c.in_ok-identifier.ensures c.sort_applied.ensures.longer
-    (applied_alone c.args.self.now d new f start c.len-start.ensures found adds))
+    (applied_alone c.args.self.now d new c.args.around f start c.len-start.ensures found adds))
     c.sort_applied.ensures.added
 
 -- what a list applies, and where its arguments are
@@ -624,8 +606,8 @@ sort_of_list-returns-clause-node t c =
     let sorts = c.in_ok-is_open.ensures.sorts in
     let is_open = c.in_ok-is_open.is_open in
     let checked = c.in_ok-checked.checked in
-    stands_with c.args.self.now d new c.truncate.new.self (Items (sexps_of c.args.parts)) checked
-    (call_stands c.args.self.now d mid new (sexp_of c.in-Some.head) args
+    stands_with c.args.self.now d new c.args.around c.truncate.new.self (Items (sexps_of c.args.parts)) checked
+    (call_stands c.args.self.now d mid new c.args.around (sexp_of c.in-Some.head) args
     (sexps_of c.args.parts) f (sorts_from start mid.arguments) (terms_from start mid.arguments) is_open checked
     (c.in-Some.ensures)
     (plain_head (sexp_of c.in-Some.head) c.if-is_underscore.ensures c.if-is_let.ensures c.if-is_bang.ensures)

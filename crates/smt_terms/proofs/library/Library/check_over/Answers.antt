@@ -31,7 +31,7 @@ returns-clause-node c =
     let new = c.sort_of.new.draft in
     let term = sexp_of c.args.term in
     let bound = scope_view c.args.variables.now in
-    if_both c.sort_of.result (λ found. found.is_open ≡ is_open inner term) (Stands c.args.self.now inner new term)
+    if_both c.sort_of.result (λ found. found.is_open ≡ is_open inner term) (Stands c.args.self.now inner new 0 term)
     (λ found. IsReady (table_in c.args.self.now d) → Denotes (table_in c.args.self.now new)
     (slots_from 0 (names_of bound)) (length c.args.variables.now) 0 found.node term)
     (λ found opened stands ready.
@@ -44,7 +44,7 @@ returns-clause-node c =
 pub returns-clause-named : goal.returns-clause-named
 returns-clause-named c =
     on_answered c.sort_of.result
-    (Stands c.args.self.now c.bind.new.self c.sort_of.new.draft (sexp_of c.args.term))
+    (Stands c.args.self.now c.bind.new.self c.sort_of.new.draft 0 (sexp_of c.args.term))
     (KeepsNamed c.args.self.now c.args.draft.now c.sort_of.new.draft)
     (λ found. whole_named c.args.self.now c.args.draft.now c.bind.new.self c.sort_of.new.draft
     (sexp_of c.args.term) found c.bind.ensures.labels c.bind.ensures.nodes) c.sort_of.ensures.node

@@ -7,8 +7,8 @@ use Rattle.smt_terms.proofs.library.Library.push_hex.Goals as goal
 pub returns-clause-node : goal.returns-clause-node
 returns-clause-node c =
     let digits = c.args.digits.now in
-    if_answered c.push_literal.result (AddsNode c.args.self.now.nodes c.args.draft.now c.push_literal.new.draft (node.Hexadecimal digits))
-    (Stands c.args.self.now c.args.draft.now c.push_literal.new.draft (Atom Hexadecimal digits))
-    (λ found adds. literal_stands c.args.self.now c.args.draft.now c.push_literal.new.draft (Atom Hexadecimal digits)
+    if_answered c.push_literal.result (AddsNode c.args.self.now.nodes c.args.draft.now c.push_literal.new.draft c.args.around (node.Hexadecimal digits))
+    (Stands c.args.self.now c.args.draft.now c.push_literal.new.draft c.args.around (Atom Hexadecimal digits))
+    (λ found adds. literal_stands c.args.self.now c.args.draft.now c.push_literal.new.draft c.args.around (Atom Hexadecimal digits)
     (node.Hexadecimal digits) found c.push_literal.ensures.longer adds tt (λ t slots next i is. is))
     c.push_literal.ensures.added

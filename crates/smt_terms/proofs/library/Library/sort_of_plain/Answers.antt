@@ -8,7 +8,7 @@ pub returns-in_ok-push_named-in-Some-clause-added : goal.returns-in_ok-push_name
 returns-in_ok-push_named-in-Some-clause-added c =
     let e = c.in-Some.entry.now in
     let arguments = c.args.draft.now.arguments in
-    some_head c.args.self.now c.args.draft.now c.push_named.new.self c.args.name.now
+    some_head c.args.self.now c.args.draft.now c.push_named.new.self c.args.around c.args.name.now
     (sorts_from c.args.start arguments) (terms_from c.args.start arguments) e
     c.in_ok-push_named-in-Some.field-0 c.in-Some.ensures.ranked c.in-Some.ensures.placed
     (ap (λ ps. are_exactly ps (sorts_from c.args.start arguments)) (sym c.as_slice.ensures.value)

@@ -28,10 +28,10 @@ returns-in_ok-push-in-Some-clause-open c =
 
 pub returns-in_ok-push-in-Some-clause-node : goal.returns-in_ok-push-in-Some-clause-node
 returns-in_ok-push-in-Some-clause-node c =
-    variable_stands c.args.self.now c.args.draft.now c.push.new.self c.args.name.now c.in-Some.variable
+    variable_stands c.args.self.now c.args.draft.now c.push.new.self c.args.around c.args.name.now c.in-Some.variable
     c.in_ok-push-in-Some.field-0 c.requires (sym c.find.ensures ∙ c.in-Some.is)
     c.in_ok-push-in-Some.ensures.open c.push.ensures.longer
-    (subst (λ n. AddsNode c.args.self.now.nodes c.args.draft.now c.push.new.self (node.Slot n) c.in_ok-push-in-Some.field-0)
+    (subst (λ n. AddsNode c.args.self.now.nodes c.args.draft.now c.push.new.self c.args.around (node.Slot n) c.in_ok-push-in-Some.field-0)
     c.saturating_sub.ensures c.in_ok-push-in-Some.ensures.added)
 
 pub returns-in-None-clause-sort : goal.returns-in-None-clause-sort
@@ -55,10 +55,10 @@ returns-in-None-clause-node c =
     let d = c.args.draft.now in
     let new = c.sort_of_plain.new.draft in
     if_answered c.sort_of_plain.result
-    (AddsApplied c.args.self.now d new (Plain c.args.name.now) (sorts_from c.len-start.result d.arguments)
+    (AddsApplied c.args.self.now d new c.args.around (Plain c.args.name.now) (sorts_from c.len-start.result d.arguments)
     (terms_from c.len-start.result d.arguments))
-    (Stands c.args.self.now d new (Atom Symbol c.args.name.now))
-    (λ found adds. symbol_stands c.args.self.now d new c.args.name.now found (sym c.find.ensures ∙ c.in-None.is)
+    (Stands c.args.self.now d new c.args.around (Atom Symbol c.args.name.now))
+    (λ found adds. symbol_stands c.args.self.now d new c.args.around c.args.name.now found (sym c.find.ensures ∙ c.in-None.is)
     c.sort_of_plain.ensures.longer
-    (applied_alone c.args.self.now d new (Plain c.args.name.now) c.len-start.result c.len-start.ensures found adds))
+    (applied_alone c.args.self.now d new c.args.around (Plain c.args.name.now) c.len-start.result c.len-start.ensures found adds))
     c.sort_of_plain.ensures.added
