@@ -1,10 +1,10 @@
 #!/usr/bin/env python3
-"""Counts how many of a solver's models are confirmed, by kind of script: shares.py [--scripts N] [--seed N] [--profile P] NAME=COMMAND..
+"""Counts how many of a solver's models are confirmed, by kind of script: shares.py [--scripts N] [--seed N] [--profile P] [--kind K] NAME=COMMAND..
 
-It invents N scripts of each kind (40), each with one assertion or more, and lets each solver answer each twice: first without models, and
-then with a `get-model` behind each check that was answered `sat`, since some print nothing for a model behind `unsat`. A solver has 10
-seconds for each run. The table has, for each kind and solver, `confirmed of sat`, and what else was found, in the profile `base` or in that which
-is named. SMTCHECK names the program.
+It invents N scripts (40) of each kind, or of the kinds whose names have the word K; declared sorts in the profile `wide` alone. Each script has
+one assertion or more. Each solver answers each script twice: first without models, and then with a `get-model` behind each check that was
+answered `sat`, since some print nothing for a model behind `unsat`. A solver has 10 seconds for each run. The table has, for each kind and
+solver, `confirmed of sat`, and what else was found, in the profile `base` or in that which is named. SMTCHECK names the program.
 """
 import argparse
 import os
@@ -17,6 +17,7 @@ import tempfile
 from typing import Callable, Dict, List, Sequence, Tuple
 
 BITS = (1, 4, 8, 32)
+DECLARED = ("U", "V")  # sorts that a script declares
 
 
 class Terms:
@@ -29,7 +30,8 @@ class Terms:
 
     def declarations(self) -> List[str]:
         """The declarations of the names."""
-        told = [f"(declare-const {name} {sort})" for sort, names in self.names.items() for name in names]
+        told = [f"(declare-sort {sort} 0)" for sort in self.sorts if sort in DECLARED]
+        told += [f"(declare-const {name} {sort})" for sort, names in self.names.items() for name in names]
         if self.functions:
             told += [f"(declare-fun f{index} ({sort} Bool) {sort})" for index, sort in enumerate(self.names)]
         return told
@@ -42,11 +44,13 @@ class Terms:
             return f"(f{list(self.names).index(sort)} {self.of(sort, depth - 1)} {self.of('Bool', 0)})"
         if self.random.random() < 0.1:
             return f"(ite {self.of('Bool', depth - 1)} {self.of(sort, depth - 1)} {self.of(sort, depth - 1)})"
+        if sort in DECLARED:
+            return self.leaf(sort)
         return self.formula(depth) if sort == "Bool" else self.integer(depth) if sort == "Int" else self.vector(sort, depth)
 
     def leaf(self, sort: str) -> str:
         """A name, or a value."""
-        if self.random.random() < 0.7 or sort == "Bool":
+        if self.random.random() < 0.7 or sort in ("Bool", *DECLARED):
             return self.random.choice(self.names[sort])
         if sort == "Int":
             return str(self.random.randrange(12))
@@ -57,7 +61,7 @@ class Terms:
         """A formula."""
         if self.sorts and self.random.random() < 0.6:
             sort = self.random.choice(self.sorts)
-            signs = ("<=", "<", "=", "distinct") if sort == "Int" else ("bvult", "bvsle", "=", "distinct")
+            signs = ("<=", "<", "=", "distinct") if sort == "Int" else ("=", "distinct") if sort in DECLARED else ("bvult", "bvsle", "=", "distinct")
             return f"({self.random.choice(signs)} {self.of(sort, depth - 1)} {self.of(sort, depth - 1)})"
         if self.random.random() < 0.2:
             return f"(not {self.of('Bool', depth - 1)})"
@@ -129,6 +133,7 @@ KINDS: Tuple[Tuple[str, str, Callable[[int], List[str]]], ...] = (
     ("functions that the script defines", "QF_BV", lambda seed: defined(Terms(seed, vectors(seed)), "(b Bool)")),
     ("constants that the script defines", "QF_BV", lambda seed: defined(Terms(seed, vectors(seed)), "")),
     ("labels on every assertion", "QF_BV", lambda seed: labelled(Terms(seed, vectors(seed)))),
+    ("declared sorts and functions", "QF_UF", lambda seed: plain(Terms(seed, DECLARED[: 1 + seed % 2], functions=True))),
 )
 
 
@@ -174,6 +179,7 @@ def main() -> int:
     parser.add_argument("--scripts", type=int, default=40)
     parser.add_argument("--seed", type=int, default=1)
     parser.add_argument("--profile", choices=("base", "wide"), default="base")
+    parser.add_argument("--kind", default="")
     parser.add_argument("solvers", nargs="+", metavar="NAME=COMMAND")
     given = parser.parse_args()
     program = [os.environ.get("SMTCHECK", "smtcheck"), "--profile", given.profile]
@@ -181,7 +187,8 @@ def main() -> int:
     print("| kind of script | " + " | ".join(name for name, _ in solvers) + " |")
     print("|---" * (len(solvers) + 1) + "|")
     refuted = 0
-    for kind, logic, body in KINDS:
+    kinds = [row for row in KINDS if given.kind in row[0] and (given.profile == "wide" or not row[0].startswith("declared"))]
+    for kind, logic, body in kinds:
         cells = []
         for _, command in solvers:
             counts: Dict[str, int] = {}

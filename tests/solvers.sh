@@ -27,6 +27,9 @@ python3 bench/shares.py --scripts 2 z3=z3 >"$work/table" 2>"$work/errors" || fai
 awk -F '|' '/and functions|`push`/ { split($3, n, " "); if (n[1] == 0 || n[1] != n[3]) exit 1 }' "$work/table" || fail "not all are confirmed: $(cat "$work/table")"
 grep -q 'constants that the script defines.*| 0 of [1-9]' "$work/table" || fail "z3 prints no defined constants: $(cat "$work/table")"
 
+python3 bench/shares.py --scripts 4 --profile wide --kind declared z3=z3 >"$work/table" 2>"$work/errors" || fail "a sort: $(cat "$work/table" "$work/errors")"
+awk -F '|' '/declared/ { split($3, n, " "); if (n[1] == 0 || n[1] != n[3]) exit 1; seen = 1 } END { exit !seen }' "$work/table" || fail "sorts: $(cat "$work/table")"
+
 # Labels, with the option and without, where this z3 knows it.
 cat >"$work/label.smt2" <<'END'
 (declare-const x Int)

@@ -11,8 +11,8 @@ from flaws import BEFORE_LOGICS, LETTERS, Flaws
 from inventor import ALL_OPERATORS, NAMES, OPERATOR_NAMES, Inventor, width_names
 from models import Structure
 from script import CHECKS, Assertion, Declaration, Definition, Force, Refused, command_of, is_define_fun
-from sorts import BASE, BITS, BOOL, INT, INTS, LOGICS, THEORIES, Faulty
-from terms import Checker, Context, Rank, check_assertion, check_definition, check_literal
+from sorts import BASE, BITS, BOOL, INT, INTS, LOGICS, THEORIES, WIDE, Faulty, Free
+from terms import Checker, Context, Rank, Use, check_assertion, check_definition, check_literal
 from text import BINARY, Atom, is_symbol
 from trees import copied, depth_of, keyword, listed, lists_in, numeral, string, symbol, word, written
 from validator import IF_FITS, NEEDED, QUESTIONS, takes
@@ -208,7 +208,7 @@ class Story:
     def model_context(self):
         """What items of the secret model are checked in."""
         ranks = {name: item[1] for name, item in self.known_items().items()}
-        return Context(self.force.theories, self.force.abbreviations, ranks)
+        return Context(self.force.theories, self.force.abbreviations, ranks, self.PROFILE == WIDE)
 
     def known_items(self):
         """The items of the secret model for what is declared, behind the helpers, by name: tree, rank and body."""
@@ -388,11 +388,18 @@ class Story:
             value = self.structure().value(node, {})
         except Faulty:
             return tree
-        if value is OPEN:
-            return listed("=", tree, copied(tree))
+        if value is OPEN or type(sort) is Free:
+            return listed("=", tree, self.same(sort, value) or copied(tree))
         if sort != BOOL and self.chance(0.05):
             value = max(0, value - 1)
         return listed("=", tree, literal_of(sort, value))
+
+    def same(self, sort, value):
+        """A constant of a declared sort that has a value in the secret model, or None."""
+        structure = self.structure()
+        names = [name for name, rank in self.force.ranks.items() if rank.result == sort and not rank.parameters]
+        equal = [name for name in names if name in structure.bodies and structure.value(Use(name, ()), {}) == value]
+        return symbol(self.rng.choice(equal)) if equal and value is not OPEN else None
 
     def assert_tree(self, tree, keep=False):
         """Asserts a term: as it is, or so that it is true in the secret model."""
@@ -861,7 +868,7 @@ class Story:
         if what == "lacks":
             self.declare()
             items = self.model([])
-            rest = [item for item in items if is_symbol(item) or item[1].text not in self.secret or rng.random() < 0.5]
+            rest = [item for item in items if not is_right_form(item) or item[1].text not in self.secret or rng.random() < 0.5]
             if not self.over:
                 self.do(listed("check-sat"), symbol("sat"))
                 self.do(listed("get-model"), rest)

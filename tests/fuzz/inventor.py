@@ -1,5 +1,5 @@
 """Invents sorts and terms that have no fault."""
-from sorts import BITS, BOOL, INT, INTS
+from sorts import BITS, BOOL, INT, INTS, Free
 from text import BINARY, HEXADECIMAL, Atom, is_word
 from trees import indexed, keyword, listed, numeral, string, symbol, word
 
@@ -54,7 +54,15 @@ class Inventor:
     def sort(self):
         """A sort of the theories."""
         choices = [BOOL] + [INT] * 2 * self.ints + [self.rng.choice(self.widths)] * 2 * self.bits
-        return self.rng.choice(choices)
+        return self.rng.choice(choices + [sort for sort in self.declared_sorts() if self.has_elements(sort)] * 2)
+
+    def declared_sorts(self):
+        """The declared sorts in force, in order."""
+        return [sort for sort in self.context.abbreviations.values() if type(sort) is Free]
+
+    def has_elements(self, sort):
+        """Whether a term may be an element of a declared sort: in a script it has to be a constant."""
+        return self.context.elements or sort in self.constants
 
     def sort_tree(self, sort):
         """A tree for a sort: an abbreviation, if there is one."""
@@ -62,6 +70,8 @@ class Inventor:
         names = [name for name, named in self.context.abbreviations.items() if named == sort]
         if names and rng.random() < 0.6:
             return symbol(rng.choice(names))
+        if type(sort) is Free:
+            return symbol(names[0] if names else "Gone")
         return symbol(sort) if sort in (BOOL, INT) else indexed("BitVec", sort)
 
     # Terms
@@ -80,8 +90,26 @@ class Inventor:
             elif rng.random() < 0.002:
                 number = 10 ** rng.choice((400, 5000))
             return numeral(number) if rng.random() < 0.7 else listed("-", number)
+        if type(sort) is Free:
+            return self.element(sort)
         number = rng.choice((0, 1, 2**sort - 1, 2 ** (sort - 1), 2 ** (sort - 1) - 1, rng.getrandbits(sort), rng.getrandbits(sort), 2, 3))
         return self.vector(number % (1 << sort), sort)
+
+    def element(self, sort):
+        """An element of a declared sort; in a script a constant, if there is one."""
+        rng = self.rng
+        if not self.context.elements:
+            constants = self.constants.get(sort)
+            return symbol(rng.choice(constants)[0] if constants else "none")
+        names = [name for name, named in self.context.abbreviations.items() if named == sort]
+        name = rng.choice(names) if names else "Gone"
+        number = rng.choice((0, 0, 1, 1, 2, 10, 10 ** rng.choice((3, 24, 40))))
+        kind = rng.random()
+        if kind < 0.4:
+            return symbol("%s!val!%d" % (name, number))
+        if kind < 0.55:
+            return symbol("@uc_%s_%d" % (name, number))
+        return [word("as"), symbol(rng.choice(("@%s_%d" % (name, number), "@a", "@%d" % number, "@", "@uc_%s_%d" % (name, number)))), symbol(name)]
 
     def vector(self, number, width):
         """A bit vector, spelled in one way or another."""
@@ -134,6 +162,8 @@ class Inventor:
             return CORE_OPERATORS + INT_RELATIONS * self.ints + BIT_RELATIONS * self.bits
         if sort == INT:
             return INT_OPERATORS
+        if type(sort) is Free:
+            return ["ite"]
         return SAME_WIDTH + OTHER_WIDTHS + ["bvcomp"] * (4 * (sort == 1))
 
     def application(self, name, sort, size, scope):

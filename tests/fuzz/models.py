@@ -1,9 +1,9 @@
 """Printed models: their items, their cost, and what they make of the assertions in force and of the assumptions of their check."""
 from script import Assertion, Declaration, Definition, is_define_fun
-from sorts import WIDE, Faulty
+from sorts import WIDE, Faulty, element_sort, sort_of
 from terms import Apply, Context, Let, Literal, Note, Use, Variable, check_definition, check_rank
 from text import begins_with, is_symbol
-from values import OPEN
+from values import OPEN, Abstract
 
 
 class Structure:
@@ -42,6 +42,8 @@ class Structure:
         if kind is Variable:
             return variables[node.number]
         if kind is Literal:
+            if self.reached is not None and type(node.value) is Abstract:
+                self.reached["wide: an element"] += 1
             return node.value
         if kind is Note:
             return self.value(node.term, variables)
@@ -92,19 +94,53 @@ def set_aside(item, context, rank, reached):
         reached["wide: repeated item whose body would have " + fault.letter] += 1
 
 
+def told_of_sorts(item, force, reached):
+    """Whether one item tells of the elements of declared sorts, and is no part of the model; or its fault."""
+    if begins_with(item, "forall") or begins_with(item, "declare-sort"):
+        if reached is not None:
+            reached["wide: item " + item[0].text] += 1
+        return True
+    if not begins_with(item, "declare-fun"):
+        return False
+    try:
+        check_element(item, force)
+    except Faulty as fault:
+        if reached is not None:
+            reached["wide: item declare-fun " + fault.letter] += 1
+        raise
+    if reached is not None:
+        reached["wide: item declare-fun"] += 1
+    return True
+
+
+def check_element(item, force):
+    """The faults of an item `(declare-fun x () S)`, by which x is an element of S."""
+    sort = element_sort(item[1].text, force.abbreviations) if len(item) == 4 and is_symbol(item[1]) and item[2] == [] else None
+    if sort is None:
+        raise Faulty("F1")
+    if sort_of(item[3], force.abbreviations, force.theories) != sort:
+        raise Faulty("F4")
+
+
 def define_item(item, force, declared, ranks, bodies, reached=None):
     """One item, which is put into the ranks and the bodies of the items before it."""
+    if force.profile == WIDE and told_of_sorts(item, force, reached):
+        return
     if begins_with(item, "define-fun-rec") or begins_with(item, "define-funs-rec"):
         raise Faulty("F2")
     if not begins_with(item, "define-fun") or not is_define_fun(item[1:]):
         raise Faulty("F1")
     name = item[1].text
-    context = Context(force.theories, force.abbreviations, ranks)
+    context = Context(force.theories, force.abbreviations, ranks, force.profile == WIDE)
     if force.profile == WIDE and name in force.ranks and name not in declared:
         set_aside(item, context, force.ranks[name], reached)
         return
     if name in ranks:
         raise Faulty("F6")
+    if element_sort(name, force.abbreviations) is not None:
+        if reached is not None:
+            reached["wide: item of an element's name"] += 1
+        raise Faulty("F7")
     if name not in declared and (name in force.ranks or name in context.operators):
         raise Faulty("F7")
     ranks[name], bodies[name] = check_definition(context, *item[2:], rank=declared.get(name))

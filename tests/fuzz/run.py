@@ -106,6 +106,9 @@ WIDE_KINDS = ["wide: " + what for what in (
 )]
 WIDE_KINDS += ["wide: define-const, fault C7 " + letter for letter in ("F1", "F3", "F4", "F7")]
 WIDE_KINDS += ["wide: repeated item " + letter for letter in LETTERS[:6]]
+WIDE_KINDS += ["wide: declare-sort" + end for end in ("", ", fault C2", ", fault C7 F7")]
+WIDE_KINDS += ["wide: item " + end for end in ("declare-fun", "declare-fun F1", "declare-fun F4", "forall", "declare-sort", "of an element's name")]
+WIDE_KINDS += ["wide: an element"]
 WIDE_KINDS += ["wide: repeated item whose body would have " + letter for letter in ("F1", "F2", "F3", "F4", "F8")]
 WIDE_KINDS += ["wide: logic like %s, %s QF_" % (names.split()[0], how) for _, names in WIDE_LOGICS for how in ("with", "without")]
 # What it hardly reaches: a label whose level is gone is set aside in it, and an operator's name is rare.
@@ -417,7 +420,7 @@ class Streams:
 class Fuzzer:
     """Runs seeds, and counts what they reach."""
 
-    def __init__(self, program, with_steps, corpus, folder, mutated, profile):
+    def __init__(self, program, with_steps, corpus, folder, mutated, profile, sorts):
         # Files in memory, where there are such, are written ten times as fast.
         memory = "/dev/shm" if os.access("/dev/shm", os.W_OK) else None
         self.work = tempfile.mkdtemp(prefix="smtcheck-fuzz-", dir=memory)
@@ -427,6 +430,7 @@ class Fuzzer:
         self.folder = folder
         self.mutated = mutated
         self.profile = profile
+        self.sorts = sorts
         self.counts = Counter()
         self.differences = 0
         self.slowest = (0.0, None)
@@ -449,12 +453,12 @@ class Fuzzer:
             self.counts["both texts with changed bytes"] += texts == 2
             self.sources.add(source)
             return dialogue
-        if self.corpus.dialogues and rng.random() < 0.2:
+        if self.corpus.dialogues and rng.random() < 0.2 and not self.sorts:
             self.counts["dialogue mutated"] += 1
             found = self.corpus.mutated(seed, self.with_steps)
             return widened(seed, found) if self.profile == WIDE else found
         self.counts["dialogue invented"] += 1
-        return (invent_wide if self.profile == WIDE else invent)(seed, self.with_steps)
+        return invent_wide(seed, self.with_steps, self.sorts) if self.profile == WIDE else invent(seed, self.with_steps)
 
     def options_of(self, dialogue, rng=None):
         """The options for a dialogue."""
@@ -661,8 +665,8 @@ corpus_of = functools.lru_cache(maxsize=1)(Corpus)
 
 def run_some(settings, seeds):
     """Runs some seeds; gives what was counted and measured."""
-    program, with_steps, rows, folder, mutated, profile = settings
-    fuzzer = Fuzzer(program, with_steps, corpus_of(rows), folder, mutated, profile)
+    program, with_steps, rows, *rest = settings
+    fuzzer = Fuzzer(program, with_steps, corpus_of(rows), *rest)
     try:
         for count, seed in enumerate(seeds):
             # A mistake in here may go round for ever: then the run ends, and shows where.
@@ -712,13 +716,14 @@ def main():
         help="nothing but dialogues of these rows with changed bytes, in one text or in both; no kind has to be reached: the status is 1 for "
         "differences alone",
     )
+    parser.add_argument("--sorts", action="store_true", help="in `wide`, invent each dialogue with a declared sort; no kind has to be reached")
     parser.add_argument("-j", dest="jobs", type=int, default=1, help="how many run side by side")
     chosen = parser.parse_args()
     if not os.access(chosen.program, os.X_OK) or not stat.S_ISREG(os.stat(chosen.program).st_mode):
         sys.exit("fuzz: no program: " + chosen.program)
     with_steps = knows_steps(chosen.program) if chosen.steps_option == "ask" else chosen.steps_option == "on"
     folder = chosen.folder or os.path.join(tempfile.gettempdir(), "smtcheck-differences")
-    settings = os.path.abspath(chosen.program), with_steps, chosen.rows, folder, chosen.mutated, chosen.profile
+    settings = os.path.abspath(chosen.program), with_steps, chosen.rows, folder, chosen.mutated, chosen.profile, chosen.sorts
     seeds = range(chosen.seed, chosen.seed + chosen.number)
     size = max(1, min(2000, -(-len(seeds) // max(1, chosen.jobs))))
     works = [(settings, seeds[begin : begin + size]) for begin in range(0, len(seeds), size)]
@@ -733,7 +738,7 @@ def main():
     if chosen.mutated:
         counts["different stored dialogues"] = len(sources)
         counts["different stored dialogues of solvers"] = sum(map(of_solver, sources))
-    required = [] if chosen.mutated else REQUIRED + WITH_STEPS * with_steps
+    required = [] if chosen.mutated or chosen.sorts else REQUIRED + WITH_STEPS * with_steps
     if required and chosen.profile == WIDE:
         required = [name for name in required if name != NOT_WIDE] + WIDE_KINDS
     table(counts, required)

@@ -1,7 +1,7 @@
 """Commands: their forms, and what is in force behind them."""
 from collections import namedtuple
 
-from sorts import BASE, BOOL, INT, LOGICS, THEORIES, WIDE, Faulty
+from sorts import BASE, BOOL, INT, LOGICS, THEORIES, WIDE, Faulty, Free
 from terms import Body, Context, Rank, check_assertion, check_definition, check_literal, is_binding
 from text import KEYWORD, NUMERAL, RESERVED, STRING, Atom, begins_with, is_kind, is_symbol
 
@@ -102,6 +102,8 @@ def wide_command_of(tree):
         return Command(tree[0].text, [Atom(NUMERAL, "1")])
     if begins_with(tree, "check-sat-assuming") and len(tree) == 2 and type(tree[1]) is list:
         return Command("check-sat-assuming", tree[1:])
+    if begins_with(tree, "declare-sort") and len(tree) == 3 and is_symbol(tree[1]) and is_kind(tree[2], NUMERAL) and int(tree[2].text) == 0:
+        return Command("declare-sort", tree[1:2])
     return None
 
 
@@ -130,8 +132,8 @@ Assertion = namedtuple("Assertion", "command level node")
 
 # Checks, commands behind which no logic is set and global declarations aren't changed, and commands that end the window of a check.
 CHECKS = frozenset(["check-sat", "check-sat-assuming"])
-SETTLING = CHECKS.union("declare-const declare-fun define-fun define-sort assert push pop reset-assertions".split())
-CHANGING = frozenset("assert declare-const declare-fun define-fun define-sort push pop reset reset-assertions".split())
+SETTLING = CHECKS.union("declare-const declare-fun declare-sort define-fun define-sort assert push pop reset-assertions".split())
+CHANGING = frozenset("assert declare-const declare-fun declare-sort define-fun define-sort push pop reset reset-assertions".split())
 
 
 class Force:
@@ -227,7 +229,7 @@ class Force:
             if value != self.global_declarations and self.settled:
                 raise Refused("C5")
             self.global_declarations = value
-        elif word in ("declare-const", "declare-fun", "define-fun", "define-sort", "assert", "check-sat-assuming"):
+        elif word in ("declare-const", "declare-fun", "declare-sort", "define-fun", "define-sort", "assert", "check-sat-assuming"):
             try:
                 if word == "check-sat-assuming":
                     assumed = [check_literal(self.context(), tree) for tree in parts[0]]
@@ -249,10 +251,10 @@ class Force:
             self.bring(Assertion(*place, node))
             return
         name = parts[0].text
-        if word == "define-sort":
+        if word in ("declare-sort", "define-sort"):
             if name in self.abbreviations or name in (BOOL, INT):
                 raise Faulty("F7")
-            self.bring(Abbreviation(*place, name, context.sort(parts[2])))
+            self.bring(Abbreviation(*place, name, Free(number) if word == "declare-sort" else context.sort(parts[2])))
             return
         if context.is_taken(name):
             raise Faulty("F7")

@@ -1,7 +1,12 @@
-"""Sorts: the truth values, the integers, and bit vectors, which stand here as their width, a number from 1 to 128."""
+"""Sorts: the truth values, the integers, bit vectors, which stand here as their width, a number from 1 to 128, and declared sorts."""
+import re
+from collections import namedtuple
+
 from text import NUMERAL, SYMBOL, is_kind, is_symbol, is_word
 
 BOOL, INT = "Bool", "Int"
+# A sort that the command of this number declared.
+Free = namedtuple("Free", "command")
 WIDEST = 128
 
 CORE, INTS, BITS, REALS, ARRAYS = "Core", "Ints", "bit vectors", "Reals", "arrays"
@@ -56,6 +61,19 @@ class Faulty(Exception):
     def __init__(self, letter):
         super().__init__(letter)
         self.letter = letter
+
+
+# The symbols that are elements of a declared sort of the profile `wide`, by the sort's name.
+ELEMENT = re.compile(r"(?:(.*)!val!|@uc_(.*)_)(?:0|[1-9][0-9]*)", re.DOTALL)
+
+
+def element_sort(name, abbreviations):
+    """The declared sort of which a symbol is an element, or None."""
+    found = ELEMENT.fullmatch(name)
+    if found is None:
+        return None
+    sort = abbreviations.get(found.group(2) if found.group(1) is None else found.group(1))
+    return sort if type(sort) is Free else None
 
 
 def is_bits(sort):

@@ -2,9 +2,9 @@
 from collections import namedtuple
 
 from operators import indexed_operator, operators_in
-from sorts import BITS, BOOL, INT, INTS, WIDEST, Faulty, sort_of
+from sorts import BITS, BOOL, INT, INTS, WIDEST, Faulty, Free, element_sort, sort_of
 from text import BINARY, DECIMAL, HEXADECIMAL, KEYWORD, NUMERAL, RESERVED, STRING, SYMBOL, begins_with, is_kind, is_symbol, is_word
-from values import HIGHEST, OPEN
+from values import HIGHEST, OPEN, element
 
 # The nodes that terms are made of. Variables and parameters have numbers, each its own within one command or item.
 Literal = namedtuple("Literal", "value")
@@ -23,12 +23,14 @@ Label = namedtuple("Label", "name sort node")
 
 
 class Context:
-    """What terms are checked in: the theories, the sorts that names abbreviate, and the ranks of the names in force."""
+    """What terms are checked in: the theories, the sorts that names abbreviate, the ranks of the names in force, and whether terms may
+    name elements of declared sorts."""
 
-    def __init__(self, theories, abbreviations, ranks):
+    def __init__(self, theories, abbreviations, ranks, elements=False):
         self.theories = theories
         self.abbreviations = abbreviations
         self.ranks = ranks
+        self.elements = elements
         self.operators = operators_in(theories)
 
     def sort(self, tree):
@@ -68,6 +70,8 @@ class Checker:
             return self.check_let(tree, scope)
         if is_word(head, "!"):
             return self.check_annotation(tree, scope)
+        if self.context.elements and is_word(head, "as"):
+            return self.check_element(tree)
         if is_kind(head, RESERVED) and head.text in ("forall", "exists", "match", "as") or begins_with(head, "as"):
             raise Faulty("F2")
         if len(tree) >= 2 and (is_symbol(head) or begins_with(head, "_")):
@@ -105,7 +109,19 @@ class Checker:
             return rank.result, Use(name, ())
         if name in self.context.operators:
             return self.constant(self.context.operators[name])
+        sort = element_sort(name, self.context.abbreviations) if self.context.elements else None
+        if sort is not None:
+            return sort, Literal(element(name))
         raise Faulty("F3")
+
+    def check_element(self, tree):
+        """An element with its sort, as `(as @x S)`."""
+        if len(tree) != 3 or not is_symbol(tree[1]) or not tree[1].text.startswith("@"):
+            raise Faulty("F2")
+        sort = self.context.sort(tree[2])
+        if type(sort) is not Free:
+            raise Faulty("F4")
+        return sort, Literal(element(tree[1].text))
 
     def constant(self, operator):
         """An operator without arguments."""

@@ -104,7 +104,7 @@ def form_of(tree):
         return "define-const"
     if type(tree) is list and len(tree) == 1 and (begins_with(tree, "push") or begins_with(tree, "pop")):
         return "bare " + tree[0].text
-    return ""
+    return "declare-sort" if begins_with(tree, "declare-sort") else ""
 
 
 class Window:
@@ -189,7 +189,7 @@ class Dialogue:
             self.count("global: fault C5" if begins_with(tree, "set-option") else "global: a logic that is late")
         if kind == "fault C7 F7" and is_symbol(tree[1]) and self.force.outlived:
             for thing in self.outlived():
-                if thing.name == tree[1].text and (type(thing) is Abbreviation) == begins_with(tree, "define-sort"):
+                if thing.name == tree[1].text and (type(thing) is Abbreviation) == tree[0].text.endswith("-sort"):
                     self.count("global: fault C7 F7, %s whose level is gone" % self.words_of(thing))
 
     def take_commands(self):

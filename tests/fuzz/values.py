@@ -3,6 +3,7 @@
 A truth value is a bool, an integer an int, a bit vector the number that it is. What is not known is OPEN. Each function takes the list of
 the values of its arguments, all of them known but where it is said, and what else it needs by name.
 """
+from collections import namedtuple
 
 
 class Open:
@@ -13,7 +14,15 @@ class Open:
 
 
 OPEN = Open()
+# An element of a declared sort, by its name.
+Abstract = namedtuple("Abstract", "name")
+LONGEST = 31
 LOWEST, HIGHEST = -(2**127), 2**127 - 1
+
+
+def element(name):
+    """The element of this name; not known where the name is too long."""
+    return Abstract(name) if len(name) <= LONGEST and "\0" not in name else OPEN
 
 
 def known(number):

@@ -5,16 +5,16 @@ from dialogues import AIMS, Dialogue, Story, aims, is_right_form, soup_of
 from flaws import LETTERS, SORT_LETTERS, templates
 from inventor import NAMES
 from script import Definition
-from sorts import BOOL, INT, INTS, LOGICS, WIDE, WIDE_LOGICS, Faulty
+from sorts import BOOL, INT, INTS, LOGICS, WIDE, WIDE_LOGICS, Faulty, Free, element_sort
 from text import NUMERAL, begins_with, is_kind, is_symbol, is_word, read
-from trees import copied, keyword, listed, lists_in, symbol, word, written
+from trees import copied, keyword, listed, lists_in, numeral, symbol, word, written
 from values import OPEN
 
 WIDE_AIMS = AIMS + aims(
     "wide",
     {
         "repeated": 8, "rank": 16, "gone": 4, "inner": 4, "logic": 14, "assumed": 12, "const": 14, "bare": 10, "declared": 3, "twice": 2,
-        "body": 3,
+        "body": 3, "sort": 8, "element": 24, "universe": 16, "two meanings": 6, "gone sort": 3,
     },
 )
 
@@ -41,6 +41,39 @@ CONSTANTS = templates(
     (define-const NAME Bool (let ((x true)) x)) (define-const NAME Bool (let ((x true) (x true)) x)) (define-fun NAME Bool true)
     """
 )
+# What a body may have in the place of an element. SORT stands for the name of a declared sort, OTHER for that of another.
+ELEMENTS = templates(
+    """
+    (as @x SORT) (as @x OTHER) (as @x Int) (as x SORT) (as @x) (as @x SORT SORT) (as (_ @x 1) SORT) (as @x Foo) (as 1 SORT) (as |@x| SORT)
+    (as @x (_ BitVec 8)) (as @x ()) (as) ((as @x SORT)) ((as @x SORT) 1) (as || SORT) (as "@x" SORT) (as @x (SORT)) (as let SORT) (as :x SORT)
+    (= (as @x SORT) (as @y SORT)) (= (as @x SORT) (as @x SORT)) (= (as @x SORT) (as @x OTHER)) (ite true (as @x SORT) (as @y SORT))
+    """
+)
+# Symbols that are elements of the sort that % stands for, or nearly.
+SYMBOLS = (
+    "%!val!0", "%!val!12", "%!val!00", "%!val!", "%!val!0x", "%!val!-1", "!val!0", "%val!0", "%!val0", "%!val!0!val!1", "%!Val!0",
+    "@uc_%_0", "@uc_%_7", "@uc_%_", "@uc_%_01", "@uc_%0", "@uc__0", "uc_%_0", "@Uc_%_0", "@uc_%_0_1", "%_0", "@%_0", "@uc_%!val!0",
+    "%!val!123456789012345678901234567890",
+)
+# Items that tell of the elements of declared sorts, or nearly.
+UNIVERSES = templates(
+    """
+    (declare-fun ELEMENT () SORT) (declare-fun ELEMENT () OTHER) (declare-fun ELEMENT () Int) (declare-fun ELEMENT (SORT) SORT)
+    (declare-fun other () SORT) (declare-fun ELEMENT () Foo) (declare-fun ELEMENT ()) (declare-fun 1 () SORT) (declare-fun) (forall)
+    (forall ((x SORT)) (or (= x ELEMENT))) (forall let "a" 1.5) (declare-sort SORT 0) (declare-sort) (declare-sort (x) let)
+    (declare-const ELEMENT SORT) (exists ((x SORT)) true) (declare-fun |ELEMENT| () |SORT|) (declare-fun ELEMENT () SORT SORT) (forall ())
+    """
+)
+SORT_NAMES = ("U", "V", "S", "my sort", "U!val", "x", "uc_U", "Elem", "", "let", "!val!0", "_")
+
+
+def filled(tree, names):
+    """A tree in which these symbols stand for others."""
+    if type(tree) is list:
+        return [filled(part, names) for part in tree]
+    return symbol(names[tree.text]) if is_symbol(tree) and tree.text in names else tree
+
+
 # Lists of levels, for scripts that have some levels or none.
 LEVELS = templates(
     "((push) (pop)) ((push) (push) (pop 2)) ((push 2) (pop) (pop)) ((pop)) ((push) (pop) (pop)) ((push 0) (pop)) ((push) (pop 1)) "
@@ -65,11 +98,13 @@ class WideStory(Story):
     PROFILE = WIDE
     LOGIC_NAMES = sorted(LOGICS[WIDE]) + ["ALL", "QF_BV", "QF_LIA", "QF_UFBV", "ALL_SUPPORTED"] * 8 + ["AX", "QF_AX"] * 3
 
-    def __init__(self, rng, aim, turn, with_steps):
+    def __init__(self, rng, aim, turn, with_steps, sorts):
         super().__init__(rng, aim, turn, with_steps)
         # How many definitions a model repeats, and which names were defined or were labels.
         self.repeats = rng.choice((0, 0.3, 0.7, 1, 1))
         self.defined = set()
+        self.sorted = 0.2 if sorts else rng.choice((0, 0, 0.05, 0.2))
+        self.begins_with_sort = sorts
 
     # Commands and answers
 
@@ -84,6 +119,44 @@ class WideStory(Story):
         if command.word == "set-logic" and self.rng.random() < 0.25:
             return symbol("unsupported") if not self.force.print_success else self.no_effect()
         return super().answer_to(command, need)
+
+    # Declared sorts
+
+    def step(self):
+        """A command more; now and then it declares a sort."""
+        if self.begins_with_sort or self.rng.random() < self.sorted:
+            self.begins_with_sort = False
+            self.declare_sort()
+        else:
+            super().step()
+
+    def declare_sort(self):
+        """A sort, whose name is free mostly, and perhaps a constant of it."""
+        rng = self.rng
+        name = rng.choice(SORT_NAMES)
+        if name in self.force.abbreviations and not self.chance(0.2):
+            name += str(rng.randrange(10))
+        if self.chance(0.05):
+            name = rng.choice(("Int", "Bool", "Real", "Array"))
+        arity = numeral(0) if not self.chance(0.05) else rng.choice((numeral(1), numeral(10**20), symbol("x"), []))
+        self.do([word("declare-sort"), symbol(name), arity])
+        if not self.over and rng.random() < 0.8 and name in self.force.abbreviations:
+            for _ in range(rng.choice((1, 2, 2, 3))):
+                if not self.over:
+                    self.do(listed("declare-const", symbol(self.free_name()), symbol(name)))
+
+    def sort_names(self):
+        """The names of declared sorts in force; two of them, the second perhaps the first."""
+        names = [name for name, sort in self.force.abbreviations.items() if type(sort) is Free]
+        if not names:
+            return None
+        return self.rng.choice(names), self.rng.choice(names)
+
+    def universe(self, sort, other):
+        """Items that a solver prints for the elements of a sort."""
+        rng = self.rng
+        names = {"SORT": sort, "OTHER": other, "ELEMENT": rng.choice(SYMBOLS[:2] + SYMBOLS[11:13]).replace("%", sort)}
+        return [filled(copied(tree), names) for tree in (UNIVERSES[0], UNIVERSES[10], UNIVERSES[12]) if rng.random() < 0.5]
 
     # Terms that are assumed
 
@@ -120,6 +193,10 @@ class WideStory(Story):
         self.repeat_in(items, self.repeats)
         if self.chance(0.1):
             self.add_gone(items)
+        names = self.sort_names()
+        if names and self.rng.random() < 0.5:
+            for item in self.universe(*names):
+                self.put(items, item)
         return items
 
     def repeat_in(self, items, part):
@@ -204,7 +281,7 @@ class WideStory(Story):
     def aim_now(self):
         """What the seed aims at."""
         if self.aim == "wide":
-            getattr(self, "aim_at_" + self.what)()
+            getattr(self, "aim_at_" + self.what.replace(" ", "_"))()
         else:
             super().aim_now()
 
@@ -322,6 +399,88 @@ class WideStory(Story):
 
         self.sat_with(change)
 
+    def aim_at_sort(self):
+        """A sort, with constants and functions of it, and equalities between them."""
+        self.declare_sort()
+        for _ in range(3):
+            if not self.over:
+                self.declare()
+        for _ in range(2):
+            if not self.over:
+                self.assertion()
+        self.sat_with(lambda items: None)
+
+    def body_with(self, body):
+        """A model with one more item, of this body and of a sort that fits, or of another."""
+        rng = self.rng
+        names = self.sort_names()
+        sort = rng.choice([symbol(names[0])] * 4 + [symbol(names[1]), symbol("Bool")]) if names else symbol("Bool")
+        item = [word("define-fun"), symbol("extra.item"), [], sort, body]
+        if rng.random() < 0.3:
+            item[2:5] = [[[symbol("y"), sort]], symbol("Bool"), listed("=", "y", body)]
+        self.sat_with(lambda items: self.put(items, item))
+
+    def with_sorts(self):
+        """Two sorts, if the script goes on; their names, or None."""
+        for _ in range(2):
+            if not self.over:
+                self.declare_sort()
+        return None if self.over else self.sort_names()
+
+    def aim_at_element(self):
+        """An element, or what is none, in the body of an item."""
+        names = self.with_sorts()
+        if names is None:
+            return
+        turn = self.turn % (len(ELEMENTS) + len(SYMBOLS))
+        if turn < len(ELEMENTS):
+            self.body_with(filled(copied(ELEMENTS[turn]), {"SORT": names[0], "OTHER": names[1]}))
+        else:
+            name = symbol(SYMBOLS[turn - len(ELEMENTS)].replace("%", names[0]))
+            if self.rng.random() < 0.15 and not self.over:
+                # No term of a script names an element.
+                self.do(listed("assert", listed("=", name, copied(name))))
+            self.body_with(name if self.rng.random() < 0.9 else [name, symbol("true")])
+
+    def aim_at_universe(self):
+        """An item that tells of a sort's elements, or nearly."""
+        names = self.with_sorts()
+        if names is None:
+            return
+        element = self.rng.choice(SYMBOLS).replace("%", names[0])
+        item = filled(copied(UNIVERSES[self.turn % len(UNIVERSES)]), {"SORT": names[0], "OTHER": names[1], "ELEMENT": element})
+        self.sat_with(lambda items: self.put(items, item))
+
+    def aim_at_two_meanings(self):
+        """A name of the script or of an item that is an element's too."""
+        rng = self.rng
+        names = self.with_sorts()
+        if names is None:
+            return
+        name = symbol(rng.choice(SYMBOLS[:2] + SYMBOLS[11:13]).replace("%", names[0]))
+        kind = rng.random()
+        if kind < 0.4:
+            self.do(listed("declare-const", name, symbol(names[0])))
+        elif kind < 0.6:
+            self.do([word("define-fun"), name, [], symbol("Bool"), symbol("true")])
+        if kind > 0.5 and not self.over:
+            item = [word("define-fun"), name, [], symbol(names[0]), copied(name)]
+            self.sat_with(lambda items: self.put(items, item))
+        elif not self.over:
+            self.sat_with(lambda items: None)
+
+    def aim_at_gone_sort(self):
+        """A sort whose level is gone, or another of its name; and an element of it."""
+        rng = self.rng
+        self.do(listed("push", 1))
+        names = self.with_sorts()
+        if names is None:
+            return
+        self.do(rng.choice((listed("pop", 1), listed("reset-assertions"))))
+        if not self.over and rng.random() < 0.5:
+            self.do([word("declare-sort"), symbol(names[0]), numeral(0)])
+        self.body_with(symbol(rng.choice(SYMBOLS[:2]).replace("%", names[0])))
+
     def aim_at_logic(self):
         """A logic, that the solver knows or not."""
         rng = self.rng
@@ -419,8 +578,8 @@ def widened(seed, dialogue):
     return Dialogue(written(commands), written(answers), dialogue.print_success, dialogue.steps)
 
 
-def invent_wide(seed, with_steps=False):
-    """The dialogue of a seed in the profile `wide`; with limits on steps, if it is said."""
-    if seed % 29 == 11:
+def invent_wide(seed, with_steps=False, sorts=False):
+    """The dialogue of a seed in the profile `wide`; with limits on steps, and beginning with a declared sort, if it is said."""
+    if seed % 29 == 11 and not sorts:
         return soup_of(random.Random(seed))
-    return WideStory(random.Random(seed), WIDE_AIMS[seed % len(WIDE_AIMS)], seed // len(WIDE_AIMS), with_steps).tell()
+    return WideStory(random.Random(seed), WIDE_AIMS[seed % len(WIDE_AIMS)], seed // len(WIDE_AIMS), with_steps, sorts).tell()

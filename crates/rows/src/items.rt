@@ -1,6 +1,6 @@
 //! Rows of items: each item of a model, accepted by a library or with its fault. This file evaluates nothing.
 
-ghost use Rattle.smt_terms.specs.Library.{HasTheoriesOf};
+ghost use Rattle.smt_terms.specs.Library.{ReadsModelsOf};
 
 use crate::names::{print_counts, write_found};
 use crate::trees::{assert, declare, define, print_answer, tree_of};
@@ -17,7 +17,7 @@ use std::io::Write;
 pub(crate) fn print<W: Write>(
     alloc: Global,
     out: &mut W,
-    script: &mut Library,
+    script: &mut Library<'_>,
     fields: &[Field],
 ) -> Result<()> {
     let items = declare_all(alloc, out, script, fields)?;
@@ -28,7 +28,7 @@ pub(crate) fn print<W: Write>(
 fn declare_all<'a, 'b, W: Write>(
     alloc: Global,
     out: &mut W,
-    script: &mut Library,
+    script: &mut Library<'_>,
     fields: &'b [Field<'a>],
 ) -> Result<&'b [Field<'a>]> {
     for (place, field) in fields.iter().enumerate() {
@@ -45,7 +45,7 @@ fn declare_all<'a, 'b, W: Write>(
 fn print_items<W: Write>(
     alloc: Global,
     out: &mut W,
-    script: &Library,
+    script: &Library<'_>,
     fields: &[Field],
 ) -> Result<()> {
     let Ok(mut model) = script.for_model() else {
@@ -57,11 +57,11 @@ fn print_items<W: Write>(
 fn print_fields<W: Write>(
     alloc: Global,
     out: &mut W,
-    script: &Library,
-    model: &mut Library,
+    script: &Library<'_>,
+    model: &mut Library<'_>,
     fields: &[Field],
 ) -> Result<()>
-    requires { HasTheoriesOf model.old script.now }
+    requires { ReadsModelsOf model.old script.now }
 {
     for field in fields {
         print_field(alloc, out, script, model, field)?;
@@ -72,12 +72,12 @@ fn print_fields<W: Write>(
 fn print_field<W: Write>(
     alloc: Global,
     out: &mut W,
-    script: &Library,
-    model: &mut Library,
+    script: &Library<'_>,
+    model: &mut Library<'_>,
     field: &Field,
 ) -> Result<()>
-    requires { HasTheoriesOf model.old script.now }
-    ensures { HasTheoriesOf model.new script.now }
+    requires { ReadsModelsOf model.old script.now }
+    ensures { ReadsModelsOf model.new script.now }
 {
     match field.key {
         "item" => define_item(alloc, out, script, model, field),
@@ -95,12 +95,12 @@ fn print_field<W: Write>(
 fn define_item<W: Write>(
     alloc: Global,
     out: &mut W,
-    script: &Library,
-    model: &mut Library,
+    script: &Library<'_>,
+    model: &mut Library<'_>,
     field: &Field,
 ) -> Result<()>
-    requires { HasTheoriesOf model.old script.now }
-    ensures { HasTheoriesOf model.new script.now }
+    requires { ReadsModelsOf model.old script.now }
+    ensures { ReadsModelsOf model.new script.now }
 {
     let item = tree_of(alloc, field)?;
     let before = model.definitions().len();
@@ -117,8 +117,8 @@ fn define_item<W: Write>(
 fn find<W: Write>(
     alloc: Global,
     out: &mut W,
-    script: &Library,
-    model: &Library,
+    script: &Library<'_>,
+    model: &Library<'_>,
     field: &Field,
 ) -> Result<()> {
     let name = field.bytes(alloc)?;
@@ -128,8 +128,8 @@ fn find<W: Write>(
 
 fn write_places<W: Write>(
     out: &mut W,
-    script: &Library,
-    model: &Library,
+    script: &Library<'_>,
+    model: &Library<'_>,
     field: &Field,
     name: &[u8],
 ) -> io::Result<()> {

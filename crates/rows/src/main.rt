@@ -19,8 +19,7 @@ mod texts;
 mod trees;
 mod values;
 
-ghost use Rattle.smt_terms.specs.Library.{StandsFor};
-ghost use Rattle.smt_terms.specs.Signature.{Signature};
+ghost use Rattle.smt_eval.specs.Interpretation.{HoldsScript};
 
 use crate::trees::split_logic;
 use anyhow::{Result, bail};
@@ -67,11 +66,11 @@ fn print_over_library<W: Write>(
 fn print_by_kind<W: Write>(
     alloc: Global,
     out: &mut W,
-    library: &mut Library,
+    library: &mut Library<'_>,
     title: &Field,
     fields: &[Field],
 ) -> Result<()>
-    requires { (s : Signature) × StandsFor library.old s }
+    requires { HoldsScript library.old }
 {
     match title.key {
         "terms" => terms::print(alloc, out, library, fields),

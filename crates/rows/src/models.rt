@@ -1,9 +1,8 @@
 //! Rows of models: each model with the names that it defines, or its first fault. This file evaluates nothing.
 
 ghost use Rattle.std.specs.Prelude.{IfOk, MatchOption};
-ghost use Rattle.smt_eval.specs.Interpretation.{Fits};
-ghost use Rattle.smt_terms.specs.Library.{HasTheoriesOf, StandsFor};
-ghost use Rattle.smt_terms.specs.Signature.{Signature};
+ghost use Rattle.smt_eval.specs.Interpretation.{Fits, HoldsScript};
+ghost use Rattle.smt_terms.specs.Library.{ReadsModelsOf};
 
 use crate::trees::{assert, declare, define, parts_of, tree_of};
 use anyhow::{Result, bail};
@@ -21,10 +20,10 @@ use std::io::Write;
 pub(crate) fn print<W: Write>(
     alloc: Global,
     out: &mut W,
-    library: &mut Library,
+    library: &mut Library<'_>,
     fields: &[Field],
 ) -> Result<()>
-    requires { (s : Signature) × StandsFor library.old s }
+    requires { HoldsScript library.old }
 {
     for (command, field) in (1..u64::MAX).zip(fields) {
         match field.key {
@@ -41,23 +40,23 @@ pub(crate) fn print<W: Write>(
 fn print_if_defined<W: Write>(
     alloc: Global,
     out: &mut W,
-    declared: &Library,
+    declared: &Library<'_>,
     field: &Field,
 ) -> Result<()>
-    requires { (s : Signature) × StandsFor declared.now s }
+    requires { HoldsScript declared.now }
 {
     let _ = print_model(alloc, out, declared, field)?;
     Ok(())
 }
 
 /// Prints the result of a model of the declared names, and returns its interpretation if it has no fault.
-pub(crate) fn print_model<W: Write>(
+pub(crate) fn print_model<'l, W: Write>(
     alloc: Global,
     out: &mut W,
-    declared: &Library,
+    declared: &'l Library<'_>,
     field: &Field,
-) -> Result<Option<Interpretation>>
-    requires { (s : Signature) × StandsFor declared.now s }
+) -> Result<Option<Interpretation<'l>>>
+    requires { HoldsScript declared.now }
     ensures { IfOk result (λ found. MatchOption found (Unit {0}) (λ model. Fits model declared.now)) }
 {
     let tree = tree_of(alloc, field)?;
@@ -69,10 +68,10 @@ pub(crate) fn print_model<W: Write>(
 
 fn print_read<W: Write>(
     out: &mut W,
-    declared: &Library,
+    declared: &Library<'_>,
     field: &Field,
     parts: Trees<'_>,
-    read: &Result<Interpretation, ModelFault>,
+    read: &Result<Interpretation<'_>, ModelFault>,
 ) -> Result<()> {
     let text = &field.text;
     match read {
@@ -96,14 +95,17 @@ fn print_read<W: Write>(
 }
 
 // Prints the names that a model without a fault defines, in order, each after a space, and ends the line.
-fn print_names<W: Write>(out: &mut W, declared: &Library, model: Trees<'_>) -> Result<()> {
+fn print_names<W: Write>(out: &mut W, declared: &Library<'_>, model: Trees<'_>) -> Result<()> {
     let definitions = definitions_of(declared, model)?;
     write_names(out, &definitions)?;
     Ok(())
 }
 
 /// A library of what the items of a model without a fault define.
-pub(crate) fn definitions_of(declared: &Library, model: Trees<'_>) -> Result<Library> {
+pub(crate) fn definitions_of<'l>(
+    declared: &'l Library<'_>,
+    model: Trees<'_>,
+) -> Result<Library<'l>> {
     let Ok(mut definitions) = declared.for_model() else {
         bail!("out of memory");
     };
@@ -116,8 +118,12 @@ pub(crate) fn definitions_of(declared: &Library, model: Trees<'_>) -> Result<Lib
     }
 }
 
-fn define_items(declared: &Library, definitions: &mut Library, model: Trees<'_>) -> Result<()>
-    requires { HasTheoriesOf definitions.old declared.now }
+fn define_items(
+    declared: &Library<'_>,
+    definitions: &mut Library<'_>,
+    model: Trees<'_>,
+) -> Result<()>
+    requires { ReadsModelsOf definitions.old declared.now }
 {
     let mut left = model;
     while let Some((item, rest)) = left.split_first() {
@@ -134,7 +140,7 @@ fn define_items(declared: &Library, definitions: &mut Library, model: Trees<'_>)
     Ok(())
 }
 
-fn write_names<W: Write>(out: &mut W, library: &Library) -> io::Result<()> {
+fn write_names<W: Write>(out: &mut W, library: &Library<'_>) -> io::Result<()> {
     for definition in library.definitions() {
         write!(out, " ")?;
         out.write_all(definition.name.as_slice())?;

@@ -12,7 +12,7 @@ use std::io::Write;
 pub(crate) fn print_name<W: Write>(
     alloc: Global,
     out: &mut W,
-    library: &Library,
+    library: &Library<'_>,
     field: &Field,
 ) -> Result<()> {
     write!(out, "{} => ", field.text)?;
@@ -25,7 +25,7 @@ pub(crate) fn print_name<W: Write>(
 pub(crate) fn print_counts<W: Write>(
     out: &mut W,
     title: &str,
-    library: &Library,
+    library: &Library<'_>,
 ) -> io::Result<()> {
     let declared = library.declared().len();
     let definitions = library.definitions().len();
@@ -33,7 +33,11 @@ pub(crate) fn print_counts<W: Write>(
 }
 
 /// Writes the place of a name in a library, from 0 among the declared names or among the definitions, and its rank.
-pub(crate) fn write_found<W: Write>(out: &mut W, library: &Library, name: &[u8]) -> io::Result<()> {
+pub(crate) fn write_found<W: Write>(
+    out: &mut W,
+    library: &Library<'_>,
+    name: &[u8],
+) -> io::Result<()> {
     match library.find(name) {
         Some(Found::Declared(place)) => {
             write!(out, "declared {place}")?;
@@ -52,6 +56,7 @@ pub(crate) fn write_sort<W: Write>(out: &mut W, sort: &Sort) -> io::Result<()> {
     match sort {
         Sort::Bool => write!(out, "Bool"),
         Sort::Int => write!(out, "Int"),
+        Sort::Free(command) => write!(out, "the sort of command {command}"),
         Sort::Bits(width) => write!(out, "(_ BitVec {})", width.bits()),
     }
 }

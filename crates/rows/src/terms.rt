@@ -14,7 +14,7 @@ use std::io::Write;
 pub(crate) fn print<W: Write>(
     alloc: Global,
     out: &mut W,
-    library: &mut Library,
+    library: &mut Library<'_>,
     fields: &[Field],
 ) -> Result<()> {
     for (command, field) in (1..u64::MAX).zip(fields) {
@@ -26,7 +26,7 @@ pub(crate) fn print<W: Write>(
 fn print_field<W: Write>(
     alloc: Global,
     out: &mut W,
-    library: &mut Library,
+    library: &mut Library<'_>,
     command: u64,
     field: &Field,
 ) -> Result<()> {
@@ -44,7 +44,7 @@ fn print_field<W: Write>(
 fn print_term<W: Write>(
     alloc: Global,
     out: &mut W,
-    library: &mut Library,
+    library: &mut Library<'_>,
     field: &Field,
 ) -> Result<()> {
     let term = tree_of(alloc, field)?;
@@ -53,7 +53,7 @@ fn print_term<W: Write>(
 
 fn write_checked<W: Write>(
     out: &mut W,
-    library: &mut Library,
+    library: &mut Library<'_>,
     field: &Field,
     term: Tree<'_>,
 ) -> Result<()> {

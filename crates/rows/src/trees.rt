@@ -1,8 +1,7 @@
 //! The trees in fields; profiles and logics; and the results of declarations, definitions and assertions. This file
 //! knows no kind of row.
 
-ghost use Rattle.smt_terms.specs.Library.{StandsFor};
-ghost use Rattle.smt_terms.specs.Signature.{Signature};
+ghost use Rattle.smt_eval.specs.Interpretation.{HoldsScript};
 
 use anyhow::{Result, bail};
 use row_texts::Field;
@@ -105,11 +104,11 @@ pub(crate) fn split_profile<'a, 'b>(
 pub(crate) fn declare<W: Write>(
     alloc: Global,
     out: &mut W,
-    library: &mut Library,
+    library: &mut Library<'_>,
     command: u64,
     field: &Field,
 ) -> Result<()>
-    ensures { (s : Signature) → StandsFor library.old s → (later : Signature) × StandsFor library.new later }
+    ensures { HoldsScript library.old → HoldsScript library.new }
 {
     let list = list_of(alloc, field)?;
     let Some((name, params, sort)) = declaration(parts(&list)) else {
@@ -144,10 +143,10 @@ fn declaration(trees: Trees<'_>) -> Option<(&[u8], Trees<'_>, Tree<'_>)> {
 pub(crate) fn define<W: Write>(
     alloc: Global,
     out: &mut W,
-    library: &mut Library,
+    library: &mut Library<'_>,
     field: &Field,
 ) -> Result<()>
-    ensures { (s : Signature) → StandsFor library.old s → (later : Signature) × StandsFor library.new later }
+    ensures { HoldsScript library.old → HoldsScript library.new }
 {
     let list = list_of(alloc, field)?;
     let Some((name, params, sort, body)) = definition(parts(&list)) else {
@@ -190,10 +189,10 @@ fn definition(trees: Trees<'_>) -> Option<(&[u8], Trees<'_>, Tree<'_>, Tree<'_>)
 pub(crate) fn assert<W: Write>(
     alloc: Global,
     out: &mut W,
-    library: &mut Library,
+    library: &mut Library<'_>,
     field: &Field,
 ) -> Result<()>
-    ensures { (s : Signature) → StandsFor library.old s → (later : Signature) × StandsFor library.new later }
+    ensures { HoldsScript library.old → HoldsScript library.new }
 {
     let term = tree_of(alloc, field)?;
     print_answer(out, field, "asserted", library.assert(term.view()).err())

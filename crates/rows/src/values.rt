@@ -2,6 +2,7 @@
 //! the term's tree, and by its node. This file computes no value itself.
 
 ghost use Rattle.std.specs.Prelude.{◌<◌, ◌-◌, ◌^◌, IfOk};
+ghost use Rattle.smt_eval.specs.Interpretation.{HoldsScript};
 ghost use Rattle.smt_terms.specs.Library.{StandsFor};
 ghost use Rattle.smt_terms.specs.Signature.{Signature};
 
@@ -28,11 +29,11 @@ use std::io::Write;
 pub(crate) fn print<W: Write>(
     alloc: Global,
     out: &mut W,
-    script: &mut Library,
+    script: &mut Library<'_>,
     title: &Field,
     fields: &[Field],
 ) -> Result<()>
-    requires { (s : Signature) × StandsFor script.old s }
+    requires { HoldsScript script.old }
 {
     let Some((first, terms)) = fields.split_first() else {
         bail!("line {}: a row of values has a model", title.line);
@@ -47,12 +48,12 @@ pub(crate) fn print<W: Write>(
 fn print_values<W: Write>(
     alloc: Global,
     out: &mut W,
-    script: &mut Library,
+    script: &mut Library<'_>,
     first: &Field,
     model: Trees<'_>,
     terms: &[Field],
 ) -> Result<()>
-    requires { (s : Signature) × StandsFor script.old s }
+    requires { HoldsScript script.old }
 {
     let Some(_) = print_model(alloc, out, script, first)? else {
         bail!("line {}: the model has a fault", first.line);
@@ -63,13 +64,16 @@ fn print_values<W: Write>(
 fn print_over<W: Write>(
     alloc: Global,
     out: &mut W,
-    script: &mut Library,
+    script: &mut Library<'_>,
     model: Trees<'_>,
     terms: &[Field],
 ) -> Result<()>
-    requires { (s : Signature) × StandsFor script.old s }
+    requires { HoldsScript script.old }
 {
-    let library = definitions_of(script, model)?;
+    // (a library of its own: the definitions borrow from it while terms are added to the script's)
+    let mut twin = Library::new(alloc, script.theories());
+    declare_items(alloc, &mut twin, model)?;
+    let library = definitions_of(&twin, model)?;
     let Ok(definitions) = plain_definitions(alloc, &library, model) else {
         bail!("memory was refused");
     };
@@ -79,12 +83,12 @@ fn print_over<W: Write>(
 fn print_terms<W: Write>(
     alloc: Global,
     out: &mut W,
-    script: &mut Library,
+    script: &mut Library<'_>,
     model: Trees<'_>,
     definitions: &[Definition<'_>],
     fields: &[Field],
 ) -> Result<()>
-    requires { (s : Signature) × StandsFor script.old s }
+    requires { HoldsScript script.old }
 {
     for field in fields {
         if field.key == "steps" {
@@ -101,11 +105,11 @@ fn print_terms<W: Write>(
 fn print_left<W: Write>(
     alloc: Global,
     out: &mut W,
-    script: &mut Library,
+    script: &mut Library<'_>,
     model: Trees<'_>,
     field: &Field,
 ) -> Result<()>
-    requires { (s : Signature) × StandsFor script.old s }
+    requires { HoldsScript script.old }
     ensures { (s : Signature) → StandsFor script.old s → StandsFor script.new s }
 {
     let (steps, tree) = steps_of(alloc, field)?;
@@ -135,12 +139,12 @@ fn steps_of(alloc: Global, field: &Field) -> Result<(u64, OwnedTree)>
 fn print_value<W: Write>(
     alloc: Global,
     out: &mut W,
-    script: &mut Library,
+    script: &mut Library<'_>,
     model: Trees<'_>,
     definitions: &[Definition<'_>],
     field: &Field,
 ) -> Result<()>
-    requires { (s : Signature) × StandsFor script.old s }
+    requires { HoldsScript script.old }
     ensures { (s : Signature) → StandsFor script.old s → StandsFor script.new s }
 {
     let tree = tree_of(alloc, field)?;
@@ -153,7 +157,7 @@ fn print_value<W: Write>(
 // The known value of a term, found by its tree.
 fn known_by_tree(
     alloc: Global,
-    script: &Library,
+    script: &Library<'_>,
     definitions: &[Definition<'_>],
     tree: Tree<'_>,
 ) -> Result<Option<Value>> {
@@ -205,7 +209,13 @@ fn write_known<W: Write>(out: &mut W, known: &Option<Value>) -> io::Result<()> {
             let bits = value.width().bits();
             write!(out, "(_ bv{} {bits})", value.number())
         }
+        Some(Value::Abstract(name)) => write_name(out, name.as_bytes()),
         Some(value) => write!(out, "{}", value.integer().unwrap_or(0)),
         None => write!(out, "open"),
     }
+}
+
+fn write_name<W: Write>(out: &mut W, name: &[u8]) -> io::Result<()> {
+    out.write_all(b"the element ")?;
+    out.write_all(name)
 }

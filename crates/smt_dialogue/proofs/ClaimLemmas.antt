@@ -9,7 +9,7 @@ use Rattle.smt_trees.specs.Sexp.{Sexp, Sexps, Nil, Cons, Atom}
 use Rattle.smt_theory.specs.Sort.{is_same_sort}
 use Rattle.smt_theory.specs.Words.{result_and_then}
 use Rattle.smt_theory.specs.declared.sort.Sort.{Sort}
-use Rattle.smt_theory.specs.declared.sort.Sort.TheVariants.{Bool as BooleanSort, Int as IntSort, Bits}
+use Rattle.smt_theory.specs.declared.sort.Sort.TheVariants.{Bool as BooleanSort, Int as IntSort, Bits, Free}
 use Rattle.smt_forms.specs.Labels.{labels_in}
 use Rattle.smt_terms.specs.Assertions.{label_entries}
 use Rattle.smt_terms.specs.Checking.{sort_in}
@@ -50,6 +50,7 @@ formula_sort : (r : Result Sort TermFlaw) (labels : List Entry)
 formula_sort (Ok BooleanSort) labels h = refl
 formula_sort (Ok IntSort) labels h = absurd (cc)
 formula_sort (Ok (Bits w)) labels h = absurd (cc)
+formula_sort (Ok (Free command)) labels h = absurd (cc)
 formula_sort (Err f) labels h = absurd (cc)
 
 -- an assertion that took effect, without a fault, is a formula
@@ -71,6 +72,7 @@ literal_sort : (r : Result Sort TermFlaw) → flaw_of_formula r ≡ None → r �
 literal_sort (Ok BooleanSort) h = refl
 literal_sort (Ok IntSort) h = absurd (cc)
 literal_sort (Ok (Bits w)) h = absurd (cc)
+literal_sort (Ok (Free command)) h = absurd (cc)
 literal_sort (Err f) h = absurd (cc)
 
 literal_at : (names : Names) (ls : Sexps) (k : ℕ) (t : Sexp) → flaw_of_literals names ls ≡ None

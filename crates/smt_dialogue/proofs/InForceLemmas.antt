@@ -1,5 +1,5 @@
 -- What is in force behind a command that brings nothing.
-use Rattle.std.proofs.Common.{◌≡◌, ◌≤◌, ℕ, Bool, true, false, cond, not, ◌&&◌, List, [], ◌∷◌, ◌++◌}
+use Rattle.std.proofs.Common.{◌≡◌, ◌≤◌, ℕ, Bool, true, false, cond, not, ◌&&◌, List, [], ◌∷◌, ◌++◌, None}
 use Rattle.std.proofs.Common.{refl, ap, sym, ◌∙◌, subst, arith, append_assoc, inl, inr, ◌⊎◌, ⊎_elim}
 use Rattle.std.specs.Prelude.{nat_le}
 use Rattle.std.specs.List.{flat_map, list_all}
@@ -15,7 +15,7 @@ use Rattle.smt_trees.specs.Sexp.{Sexp, Sexps}
 use Rattle.smt_script.specs.Command.{Command, Effect, AllButOptions, Assumes, Everything, Nothing, Removes, Removing}
 use Rattle.smt_script.specs.Command.{SetsGlobal, closes_window, effect_of, is_check}
 use Rattle.smt_script.specs.Command.{SetLogic, SetPrintSuccess, SetGlobalDeclarations, SetOption, SetInfo}
-use Rattle.smt_script.specs.Command.{DeclareConst, DeclareFun, DefineFun, DefineSort, Assert, Push, Pop, Reset}
+use Rattle.smt_script.specs.Command.{DeclareConst, DeclareFun, DefineFun, DeclareSort, DefineSort, Assert, Push, Pop, Reset}
 use Rattle.smt_script.specs.Command.{ResetAssertions, Exit, CheckSat, CheckSatAssuming, GetModel, Echo, Get}
 use Rattle.smt_script.specs.Stack.{assumptions_after, assumptions_in_force, literals_of}
 use Rattle.smt_script.specs.Stack.{Brought, Numbered, abbreviations_by, abbreviations_of}
@@ -34,7 +34,7 @@ pub record IsQuiet (c : Command) : Type 0 where
   pub resets : is_reset c ≡ false
   pub theories : (profile : Profile) (t : Theories) → theories_after profile t c ≡ t
   pub entries : (s : Signature) (n : ℕ) → entries_by s n c ≡ []
-  pub abbreviations : (s : Signature) → abbreviations_by s c ≡ []
+  pub abbreviations : (s : Signature) (n : ℕ) → abbreviations_by s n c ≡ []
   pub assertions : (n : ℕ) → assertions_by n c ≡ []
 
 -- a command that changes nothing that is in force has one of these effects
@@ -49,6 +49,7 @@ leaves_force (SetInfo keyword value) h = inl refl
 leaves_force (DeclareConst x sort) h = cc
 leaves_force (DeclareFun x parameters sort) h = cc
 leaves_force (DefineFun x parameters sort body) h = cc
+leaves_force (DeclareSort x) h = cc
 leaves_force (DefineSort x sort) h = cc
 leaves_force (Assert term) h = cc
 leaves_force (Push levels) h = cc
@@ -69,7 +70,7 @@ quiet_by c is = record {
   resets = ap (λ (e : Effect). resets (removed_of_effect e)) is;
   theories = λ profile t. ap (theories_by profile t) is;
   entries = λ s n. ap (entries_of_effect s n) is;
-  abbreviations = λ s. ap (abbreviations_of_effect s) is;
+  abbreviations = λ s n. ap (abbreviations_of_effect s n) is;
   assertions = λ n. ap (assertions_of_effect n) is;
 }
 
@@ -79,7 +80,7 @@ assumes_quiet c literals is = record {
   resets = ap (λ (e : Effect). resets (removed_of_effect e)) is;
   theories = λ profile t. ap (theories_by profile t) is;
   entries = λ s n. ap (entries_of_effect s n) is;
-  abbreviations = λ s. ap (abbreviations_of_effect s) is;
+  abbreviations = λ s n. ap (abbreviations_of_effect s n) is;
   assertions = λ n. ap (assertions_of_effect n) is;
 }
 
@@ -89,7 +90,7 @@ sets_global_quiet c on is = record {
   resets = ap (λ (e : Effect). resets (removed_of_effect e)) is;
   theories = λ profile t. ap (theories_by profile t) is;
   entries = λ s n. ap (entries_of_effect s n) is;
-  abbreviations = λ s. ap (abbreviations_of_effect s) is;
+  abbreviations = λ s n. ap (abbreviations_of_effect s n) is;
   assertions = λ n. ap (assertions_of_effect n) is;
 }
 
@@ -294,17 +295,18 @@ signature-quiet profile cs c quiet =
     let entries : entries_of (old ++ b ∷ []) ≡ entries_of old =
     brings_none (λ (x : Brought). x.entries) old b (quiet.entries s c.number) in
     let abbreviations : abbreviations_of (old ++ b ∷ []) ≡ abbreviations_of old =
-    brings_none (λ (x : Brought). x.abbreviations) old b (quiet.abbreviations s) in
+    brings_none (λ (x : Brought). x.abbreviations) old b (quiet.abbreviations s c.number) in
     ap (λ (t : Theories). signature_of t ((in_force names_stand) (history profile (cs ++ c ∷ [])))) theories
     ∙ ap (λ (l : List Brought). signature_of (theories_in_force profile cs) l)
     (in_force-push profile name_stands_after names_level names_rule cs c quiet)
     ∙ ap (λ (es : List Entry).
     record {
       theories = theories_in_force profile cs;
+      elements = None;
       abbreviations = abbreviations_of (old ++ b ∷ []);
       entries =
           es;
     }) entries
     ∙ ap (λ (as' : List (List ℕ × Sort)).
-    record { theories = theories_in_force profile cs; abbreviations = as'; entries = entries_of old })
+    record { theories = theories_in_force profile cs; elements = None; abbreviations = as'; entries = entries_of old })
     abbreviations

@@ -59,11 +59,12 @@ no_faults profile before (p ∷ pairs) h = by (is_effective p) refl h.1 (no_faul
 -- the laws of names in force, and of models of such names
 abbrev pub NamesAreIntroduced : Type 0
 NamesAreIntroduced = (profile : Profile) (commands : List Numbered) → HaveNoFlaw profile [] commands
-    → AreIntroduced (signature_in_force profile commands).theories [] (signature_in_force profile commands).entries
+    → AreIntroduced (signature_in_force profile commands).theories None []
+    (signature_in_force profile commands).entries
 
 abbrev pub ModelsGiveStructures : Type 0
 ModelsGiveStructures = (script : Signature) (parts : Sexps) (definitions : Signature)
-    → model_in script parts ≡ Ok definitions → AreIntroduced script.theories [] script.entries
+    → model_in script parts ≡ Ok definitions → AreIntroduced script.theories None [] script.entries
     → IsStructure (structure_of script definitions)
 
 pub structure_behind : (profile : Profile) → NamesAreIntroduced → ModelsGiveStructures

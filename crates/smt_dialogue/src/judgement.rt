@@ -102,8 +102,8 @@ fn judgement_of_flaw(flaw: ModelFlaw) -> Judgement
 // the script. Otherwise a pass counts all nodes, if that takes no longer than the limit lets a walk take.
 fn judge_read(
     machine: &mut Machine,
-    library: &Library,
-    interpretation: &mut Interpretation,
+    library: &Library<'_>,
+    interpretation: &mut Interpretation<'_>,
     claims: Claims<'_>,
     limit: Limit,
 ) -> Result<Judgement, Memory>
@@ -152,8 +152,8 @@ fn is_decided(judgement: &Judgement) -> bool
 // the limit is enough for all.
 fn judge_within(
     machine: &mut Machine,
-    library: &Library,
-    interpretation: &Interpretation,
+    library: &Library<'_>,
+    interpretation: &Interpretation<'_>,
     claims: Claims<'_>,
     limit: Limit,
 ) -> Result<Judgement, Memory>
@@ -176,8 +176,8 @@ fn judge_within(
 // in registers. The steps are enough for all claims.
 fn judge_counted(
     machine: &mut Machine,
-    library: &Library,
-    interpretation: &Interpretation,
+    library: &Library<'_>,
+    interpretation: &Interpretation<'_>,
     claims: Claims<'_>,
     steps: u64,
 ) -> Result<Judgement, Memory>
@@ -202,8 +202,8 @@ fn judge_counted(
 
 // The cost of evaluating all claims; `None` where it is more than the limit.
 fn cost_of_all(
-    library: &Library,
-    interpretation: &Interpretation,
+    library: &Library<'_>,
+    interpretation: &Interpretation<'_>,
     claims: Claims<'_>,
     limit: Limit,
 ) -> Result<Option<u64>, Memory>
@@ -231,8 +231,8 @@ fn cost_of_all(
 // is open. The steps are enough for all claims.
 fn judge_claims(
     machine: &mut Machine,
-    library: &Library,
-    interpretation: &Interpretation,
+    library: &Library<'_>,
+    interpretation: &Interpretation<'_>,
     claims: Claims<'_>,
     steps: &mut u64,
 ) -> Result<Judgement, Memory>

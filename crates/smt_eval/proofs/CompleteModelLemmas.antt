@@ -10,7 +10,8 @@ use Rattle.smt_theory.specs.declared.theories.Theories.{Theories}
 use Rattle.smt_terms.specs.Items.{item_in, items_before, list_of}
 use Rattle.smt_terms.specs.Signature.{AreDistinct, Entry, Origin, Declared, Defined, IsDeclared, KeepsRank}
 use Rattle.smt_terms.specs.Signature.{Signature, declared_named, entry_named, if_declared, names_of}
-use Rattle.smt_terms.specs.Freshness.{is_taken}
+use Rattle.smt_terms.specs.Freshness.{is_taken, item_elements}
+use Rattle.smt_terms.specs.SortTrees.{SortNames}
 use Rattle.smt_terms.specs.WellSorted.{AreWellSorted, IsWellSorted}
 use Rattle.smt_faults.specs.declared.term_flaw.TermFlaw.{TermFlaw}
 use Rattle.smt_eval.proofs.EntryLemmas.{entry_named-skip}
@@ -31,7 +32,7 @@ IsFree script e = declared_named script.entries e.name ≡ None → is_taken (na
 -- what an item that is taken defines
 pub record IsItem (script : Signature) (earlier : List Entry) (e : Entry) : Type 0 where
   pub fresh : entry_named earlier e.name ≡ None
-  pub sorted : IsWellSorted script.theories earlier e
+  pub sorted : IsWellSorted script.theories (item_elements script) earlier e
   pub ranked : IsRanked script e
   pub free : IsFree script e
 
@@ -41,15 +42,15 @@ TakenAreItems = (script : Signature) (earlier : List Entry) (tree : Sexp) (e : E
     → item_in script earlier tree ≡ Ok (Some e) → IsItem script earlier e
 
 -- one more at the end
-AreWellSorted-more : (theories : Theories) (before xs : List Entry) (e : Entry)
-    → AreWellSorted theories before xs → IsWellSorted theories (before ++ xs) e
-    → AreWellSorted theories before (xs ++ e ∷ [])
-AreWellSorted-more theories before [] e h i =
-    (subst (λ es. IsWellSorted theories es e) (append-nil before) i, tt)
-AreWellSorted-more theories before (x ∷ xs) e h i = (
+AreWellSorted-more : (theories : Theories) (elements : Option SortNames) (before xs : List Entry) (e : Entry)
+    → AreWellSorted theories elements before xs → IsWellSorted theories elements (before ++ xs) e
+    → AreWellSorted theories elements before (xs ++ e ∷ [])
+AreWellSorted-more theories elements before [] e h i =
+    (subst (λ es. IsWellSorted theories elements es e) (append-nil before) i, tt)
+AreWellSorted-more theories elements before (x ∷ xs) e h i = (
   h.0,
-  AreWellSorted-more theories (before ++ x ∷ []) xs e h.1
-      (subst (λ es. IsWellSorted theories es e) (sym (append_assoc before (x ∷ []) xs)) i),
+  AreWellSorted-more theories elements (before ++ x ∷ []) xs e h.1
+      (subst (λ es. IsWellSorted theories elements es e) (sym (append_assoc before (x ∷ []) xs)) i),
 )
 
 -- another name at the end is not found
@@ -92,7 +93,7 @@ AreFree-more script (d ∷ es) e h i = (h.0, AreFree-more script es e h.1 i)
 
 -- what holds of the items that were read
 pub record AreSound (script : Signature) (items : List Entry) : Type 0 where
-  pub sorted : AreWellSorted script.theories [] items
+  pub sorted : AreWellSorted script.theories (item_elements script) [] items
   pub distinct : AreDistinct items
   pub ranked : AreRanked script items
   pub free : AreFree script items
@@ -116,7 +117,7 @@ AreSound-from law script earlier number (Cons x xs) items so_far h = by (item_in
     by (Ok (Some e)) is h next =
         let i = law script earlier x e is in
         next (Some e) (record {
-          sorted = AreWellSorted-more script.theories [] earlier e so_far.sorted i.sorted;
+          sorted = AreWellSorted-more script.theories (item_elements script) [] earlier e so_far.sorted i.sorted;
           distinct = AreDistinct-more earlier e so_far.distinct i.fresh;
           ranked = AreRanked-more script earlier e so_far.ranked i.ranked;
           free =
@@ -235,6 +236,7 @@ complete law script parts definitions whole = by (items_from script [] 1 (items_
         subst (IsModelOf script parts) is (record {
           read = whole ∙ ap (λ (d : Signature). Ok d) (sym is);
           theories = refl;
+          elements = refl;
           well_sorted = all.sorted;
           distinct = all.distinct;
           complete = λ x e at is_declared.

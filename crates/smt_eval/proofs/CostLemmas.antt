@@ -6,7 +6,7 @@ use Rattle.std.specs.Prelude.{bytes_eq}
 use Rattle.smt_trees.specs.Sexp as sexp
 use Rattle.smt_trees.specs.Sexp.{Sexp, Sexps, Atom, Reserved, Items, Nil, Cons, Symbol, Keyword, Numeral}
 use Rattle.smt_trees.specs.Sexp.{Hexadecimal, Binary}
-use Rattle.smt_trees.specs.declared.reserved.Word.TheVariants.{Bang, Let, Underscore}
+use Rattle.smt_trees.specs.declared.reserved.Word.TheVariants.{As, Bang, Let, Underscore}
 use Rattle.smt_theory.specs.Words.{look_up}
 use Rattle.smt_theory.specs.declared.sort.Sort.{Sort}
 use Rattle.smt_theory.specs.declared.sort.Sort.TheVariants.{Bool as Boolean}
@@ -65,6 +65,7 @@ cost_some b variables (Atom Keyword x) = omega arith
 cost_some b variables (Reserved word) = omega arith
 cost_some b variables (Items Nil) = omega arith
 cost_some b variables (Items (Cons (Reserved Underscore) parts)) = omega arith
+cost_some b variables (Items (Cons (Reserved As) parts)) = omega arith
 cost_some b variables (Items (Cons (Reserved Let) (Cons (Items bindings) (Cons body Nil)))) = omega arith
 cost_some b variables (Items (Cons (Reserved Bang) (Cons term attributes))) = omega arith
 cost_some b variables (Items (Cons head args)) = omega arith
@@ -142,6 +143,7 @@ module _ (b : BodyCosts) where
     cost_same inner outer vs ws same (Reserved word) unused = refl
     cost_same inner outer vs ws same (Items Nil) unused = refl
     cost_same inner outer vs ws same (Items (Cons (Reserved Underscore) parts)) unused = refl
+    cost_same inner outer vs ws same (Items (Cons (Reserved As) parts)) unused = refl
     cost_same inner outer vs ws same
         (Items (Cons (Reserved Let) (Cons (Items bindings) (Cons body Nil)))) unused =
         let names = map (λ binding. binding.0) (named_trees bindings) in

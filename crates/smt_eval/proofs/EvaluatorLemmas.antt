@@ -119,18 +119,19 @@ let_known k r args bindings body all vs ws split bound whole scope =
 
 pub indexed_known : (d : Signature) (n : ℕ) (x : List ℕ) (indexes : List IndexView)
     (args : List (Option Element))
-    → known_in (first n d) (Indexed x indexes) args ≡ known_of_op (op_by d.theories x indexes) args
+    → known_in (first n d) (Indexed x indexes) args
+    ≡ known_of_op (op_by d.theories x indexes) (Indexed x indexes) args
 indexed_known d n x indexes args =
     known_with_indexes (known_operators d.theories) (take n d.entries) x indexes args
 
 pub not_defined : (d : Signature) (n : ℕ) (x : List ℕ) (args : List (Option Element))
     → entry_named (take n d.entries) x ≡ None
-    → known_in (first n d) (Plain x) args ≡ known_of_op (op_by d.theories x []) args
+    → known_in (first n d) (Plain x) args ≡ known_of_op (op_by d.theories x []) (Plain x) args
 not_defined d n x args none = known_absent (known_operators d.theories) (take n d.entries) x args none
 
 -- an identifier with indexes is an operator
 pub indexed_means : (d : Signature) (f : Identifier) (parts : Sexps) (n : ℕ) → indexed parts ≡ Ok f
-    → known_in (first n d) f [] ≡ known_of_op (operator_of d.theories f) []
+    → known_in (first n d) f [] ≡ known_of_op (operator_of d.theories f) f []
 indexed_means d (Indexed x indexes) parts n is =
     known_with_indexes (known_operators d.theories) (take n d.entries) x indexes []
 indexed_means d (Plain x) parts n is = absurd (never parts is)

@@ -3,7 +3,7 @@ use Rattle.std.proofs.Common.{◌≤◌, ℕ, ◌+◌, Bool, true, false, cond, 
 use Rattle.smt_trees.specs.Sexp as sexp
 use Rattle.smt_trees.specs.Sexp.{Sexp, Sexps, Atom, Reserved, Items, Nil, Cons, Symbol, Keyword, Numeral}
 use Rattle.smt_trees.specs.Sexp.{Hexadecimal, Binary}
-use Rattle.smt_trees.specs.declared.reserved.Word.TheVariants.{Bang, Let, Underscore}
+use Rattle.smt_trees.specs.declared.reserved.Word.TheVariants.{As, Bang, Let, Underscore}
 use Rattle.smt_theory.specs.declared.theories.Theories.{Theories}
 use Rattle.smt_forms.specs.Bindings.{named_trees}
 use Rattle.smt_forms.specs.Identifier.{applied}
@@ -32,6 +32,7 @@ module _ (theories : Theories) (b : BodyCosts) where
     least_within variables (Reserved word) = omega arith
     least_within variables (Items Nil) = omega arith
     least_within variables (Items (Cons (Reserved Underscore) parts)) = omega arith
+    least_within variables (Items (Cons (Reserved As) parts)) = omega arith
     least_within variables (Items (Cons (Reserved Let) (Cons (Items bindings) (Cons body Nil)))) =
         let bound = bound_within variables bindings in
         let inner = least_within (map (λ binding. binding.0) (named_trees bindings) ++ variables) body in

@@ -144,6 +144,7 @@ module _ (m : Meaning) where
     value_same r s same (Reserved word) = refl
     value_same r s same (Items Nil) = refl
     value_same r s same (Items (Cons (Reserved Underscore) parts)) = refl
+    value_same r s same (Items (Cons (Reserved As) parts)) = refl
     value_same r s same (Items (Cons (Reserved Let) (Cons (Items bindings) (Cons body Nil)))) =
         value_same (values_bound m r bindings ++ r) (values_bound m s bindings ++ s)
         (bound_same r s same bindings) body

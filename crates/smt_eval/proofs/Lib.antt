@@ -12,6 +12,7 @@ pub mod GivenBodyLemmas
 pub mod ClosedLemmas
 pub mod FoundLemmas
 pub mod ReadLemmas
+pub mod RenamingLemmas
 pub mod SetAsideLemmas
 pub mod PlainLemmas
 pub mod ModelFaultLemmas

@@ -2,30 +2,33 @@
 use Rattle.std.proofs.Common.{◌≡◌, ℕ, Bool, true, false, cond, List, [], ◌∷◌, ◌++◌, Option, Some, None}
 use Rattle.std.proofs.Common.{Result, Ok, Err, refl, sym, subst}
 use Rattle.std.specs.List.{zip}
-use Rattle.std.specs.Prelude.{unwrap_or, bytes_eq, is_some, length, option_map, pos, nat_lt, ◌*◌, ◌^◌}
+use Rattle.std.specs.Prelude.{unwrap_or, bytes_eq, is_some, length, option_and_then, option_map, pos, nat_lt, ◌*◌, ◌^◌}
 use Rattle.std.specs.Str.Parse.{digits_value}
 use Rattle.smt_trees.specs.Sexp.{Sexp, Sexps, Atom, Reserved, Items, Nil, Cons, Symbol, Numeral, Decimal}
 use Rattle.smt_trees.specs.Sexp.{Hexadecimal, Binary, Text, Keyword}
-use Rattle.smt_trees.specs.declared.reserved.Word.TheVariants.{Bang, Let, Underscore}
+use Rattle.smt_trees.specs.declared.reserved.Word.TheVariants.{As, Bang, Let, Underscore}
 use Rattle.smt_bits.specs.Literals.{constant, known_constant}
 use Rattle.smt_theory.specs.Width.{width_of}
 use Rattle.smt_theory.specs.Words.{look_up}
 use Rattle.smt_theory.specs.declared.op.Op.{Op}
 use Rattle.smt_theory.specs.declared.op.OpFault.{OpFault}
 use Rattle.smt_theory.specs.declared.theories.Theories.{Theories}
-use Rattle.smt_values.specs.Element.{Element, Integer, Vector, Agrees, AllAgree}
+use Rattle.smt_values.specs.Element.{Element, Abstract, Integer, Vector, Agrees, AllAgree}
 use Rattle.smt_values.specs.KnownOperations.{known_step}
-use Rattle.smt_values.specs.Literals.{numeral_element}
+use Rattle.smt_values.specs.Literals.{name_element, numeral_element}
+use Rattle.smt_values.specs.Names.{fits}
 use Rattle.smt_values.specs.Operations.{DivisionByZero, operate}
+use Rattle.smt_forms.specs.ElementNames.{qualified_symbol}
 use Rattle.smt_forms.specs.Heads.{begins_indexed}
 use Rattle.smt_forms.specs.Identifier.{Identifier, Plain, Indexed, applied, indexed, operator_of}
 use Rattle.smt_terms.specs.Signature.{Entry, Origin, Declared, Defined, Signature}
 use Rattle.smt_faults.specs.declared.term_flaw.TermFlaw.{TermFlaw}
 use Rattle.smt_eval.specs.Agreement.{AgreeBoth, AgreesWith}
 use Rattle.smt_eval.specs.Known.{KnownMeaning, known_by, known_of, knowns_bound, knowns_of, known_of_op}
-use Rattle.smt_eval.specs.Known.{known_operators, known_defined, with_known, known_after, known_in}
+use Rattle.smt_eval.specs.Known.{known_operators, known_defined, other_known, with_known, known_after, known_in}
 use Rattle.smt_eval.specs.Meaning.{Meaning, element_by, value_of, values_bound, values_of, meaning_of_op}
-use Rattle.smt_eval.specs.Meaning.{operators, defined_value, with_definition, meaning_after, meaning_in}
+use Rattle.smt_eval.specs.Meaning.{element_of_symbol, operators, other_meaning, defined_value, with_definition}
+use Rattle.smt_eval.specs.Meaning.{meaning_after, meaning_in}
 
 -- a variable in front agrees
 by_name : (b : Bool) (k : Option Element) (e : Element) (o : Option (Option Element)) (p : Option Element)
@@ -43,17 +46,39 @@ abbrev pub StepsAreTrue : Type 0
 StepsAreTrue = (z : DivisionByZero) (op : Op) (ks : List (Option Element)) (es : List Element)
     → AllAgree ks es → Agrees (known_step op ks) (operate z op es)
 
+-- an element whose name is known is that of the name
+name_true : (x : List ℕ) → Agrees (name_element x) (Abstract x)
+name_true x = by (fits x)
+  where
+    by : (b : Bool) → Agrees (cond b (Some (Abstract x)) None) (Abstract x)
+    by true = refl
+    by false = tt
+
+-- also behind an `as`
+symbol_true : (o : Option (List ℕ)) → Agrees (option_and_then name_element o) (element_of_symbol o)
+symbol_true None = tt
+symbol_true (Some x) = name_true x
+
+-- and so is what is no operator
+other_true : (f : Identifier) (ks : List (Option Element)) (es : List Element) → AllAgree ks es
+    → Agrees (other_known f ks) (other_meaning f es)
+other_true (Plain x) [] [] h = name_true x
+other_true (Plain x) [] (e ∷ es) h = absurd h
+other_true (Plain x) (k ∷ ks) es h = tt
+other_true (Indexed x indexes) ks es h = tt
+
 -- what operators are known to mean is true
 Means-operators : StepsAreTrue → (z : DivisionByZero) (theories : Theories)
     → Means (known_operators theories) (operators z theories)
 Means-operators law z theories f ks es h = by (operator_of theories f)
   where
-    by : (o : Result Op OpFault) → Agrees (known_of_op o ks) (meaning_of_op z o es)
-    by (Err fault) = tt
+    by : (o : Result Op OpFault) → Agrees (known_of_op o f ks) (meaning_of_op z o f es)
+    by (Err fault) = other_true f ks es h
     by (Ok op) = law z op ks es h
 
--- whether a list is no `let` and no annotated term
+-- whether a list is no `let`, no annotated term and no identifier with its sort
 abbrev pub is_plain_list : Sexp → Sexps → Bool
+is_plain_list (Reserved As) parts = false
 is_plain_list (Reserved Let) (Cons (Items bindings) (Cons body Nil)) = false
 is_plain_list (Reserved Bang) (Cons term attributes) = false
 is_plain_list _ _ = true
@@ -63,6 +88,7 @@ pub known-other : (k : KnownMeaning) (r : List (List ℕ × Option Element)) (he
     → is_plain_list head args ≡ true → begins_indexed head ≡ false
     → known_of k r (Items (Cons head args)) ≡ known_by (applied head args) (λ f. k f (knowns_of k r args))
 known-other k r (Reserved Underscore) args p h = cc
+known-other k r (Reserved As) args p h = cc
 known-other k r (Reserved Let) (Cons (Items bindings) (Cons body Nil)) p h = cc
 known-other k r (Reserved Bang) (Cons term attributes) p h = cc
 known-other k r _ _ p h = refl
@@ -71,6 +97,7 @@ pub value-other : (m : Meaning) (r : List (List ℕ × Element)) (head : Sexp) (
     → is_plain_list head args ≡ true → begins_indexed head ≡ false
     → value_of m r (Items (Cons head args)) ≡ element_by (applied head args) (λ f. m f (values_of m r args))
 value-other m r (Reserved Underscore) args p h = cc
+value-other m r (Reserved As) args p h = cc
 value-other m r (Reserved Let) (Cons (Items bindings) (Cons body Nil)) p h = cc
 value-other m r (Reserved Bang) (Cons term attributes) p h = cc
 value-other m r _ _ p h = refl
@@ -138,6 +165,7 @@ module _ (k : KnownMeaning) (m : Meaning) (means : Means k m) where
     term_true known r agrees (Atom Keyword x) = tt
     term_true known r agrees (Reserved word) = tt
     term_true known r agrees (Items Nil) = tt
+    term_true known r agrees (Items (Cons (Reserved As) parts)) = symbol_true (qualified_symbol parts)
     term_true known r agrees (Items (Cons (Reserved Let) (Cons (Items bindings) (Cons body Nil)))) =
         term_true (knowns_bound k known bindings ++ known) (values_bound m r bindings ++ r)
         (bound_true known r agrees bindings) body

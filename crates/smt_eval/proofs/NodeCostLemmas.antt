@@ -1,16 +1,21 @@
 -- The cost of a node is that of the term that it stands for, where the bodies that the identifiers of the term
 -- name cost what their nodes do.
 use Rattle.std.proofs.Common.{◌≡◌, ◌≤◌, ◌<◌, ℕ, ◌+◌, cond, List, [], ◌∷◌, ◌++◌, length, map}
-use Rattle.std.proofs.Common.{slice_get, Option, Some, None, is_some, option_map, refl, ap, sym, ◌∙◌, arith}
-use Rattle.std.proofs.Common.{Result, Ok}
+use Rattle.std.proofs.Common.{slice_get, Option, Some, None, is_some, option_map, refl, ap, sym, ◌∙◌, subst, arith}
+use Rattle.std.proofs.Common.{Result, Ok, Err}
 use Rattle.std.proofs.lemmas.Bool.{lt-ltb}
 use Rattle.std.proofs.lemmas.List.{map-append}
 use Rattle.smt_trees.specs.Sexp.{Sexp, Sexps, Atom, Reserved, Items, Nil, Cons, Numeral, Hexadecimal, Binary}
 use Rattle.smt_trees.specs.Sexp.{Symbol}
-use Rattle.smt_trees.specs.declared.reserved.Word.TheVariants.{Bang, Let, Underscore}
+use Rattle.smt_trees.specs.declared.reserved.Word.TheVariants.{As, Bang, Let, Underscore}
+use Rattle.smt_theory.specs.Operators.{op_by}
 use Rattle.smt_theory.specs.Words.{look_up}
+use Rattle.smt_theory.specs.declared.op.Op.{Op}
+use Rattle.smt_theory.specs.declared.op.OpFault.{OpFault}
+use Rattle.smt_theory.specs.declared.sort.Sort.{Sort}
 use Rattle.smt_faults.specs.declared.term_flaw.TermFlaw.{TermFlaw}
 use Rattle.smt_forms.specs.Bindings.{named_trees}
+use Rattle.smt_forms.specs.ElementNames.{qualified_symbol}
 use Rattle.smt_forms.specs.Identifier.{Identifier, Plain, applied, indexed}
 use Rattle.smt_forms.specs.Labels.{labels_among}
 use Rattle.smt_forms.specs.Variables.{is_among}
@@ -20,8 +25,9 @@ use Rattle.smt_machine.specs.Costs.{first_cost, last_cost, node_cost, part_cost,
 use Rattle.smt_machine.specs.Nodes as machine
 use Rattle.smt_machine.specs.Tables.{call, resolved, shifted}
 use Rattle.smt_terms.specs.Denotes.{AreBound, AreDenoted, Denotes, HasBodyBelow, IsNameOf, IsNode, IsRow}
-use Rattle.smt_terms.specs.Denotes.{Slots, Table, UsesNone, node_of, slots_bound, symbol_node}
-use Rattle.smt_terms.specs.Denotes.{unless_labelled}
+use Rattle.smt_terms.specs.Denotes.{Head, Slots, Table, UsesNone, applied_node, element_node, node_alone, node_of}
+use Rattle.smt_terms.specs.Denotes.{slots_bound, symbol_node, unless_labelled}
+use Rattle.smt_terms.specs.Elements.{element_among}
 use Rattle.smt_eval.proofs.CostLemmas.{among_names, cost_closed, names_from, names_in}
 use Rattle.smt_eval.specs.Cost.{BodyCosts, cost_of, costs_bound, costs_of, head_cost}
 
@@ -70,8 +76,14 @@ CostsItsNodes c off declared t b last = (i : ℕ) (f : Identifier) (js : List �
     → inner_cost (off + i) c (resolved off t.bodies declared n)
     ≡ head_cost b (Ok f) + parts_cost (off + i) c (shifted off js)
 
+-- a symbol that is no operator and not in force, but an element, names no body
+abbrev pub FreesElements : Table → BodyCosts → Type 0
+FreesElements t b = (x : List ℕ) (sort : Sort) → look_up t.heads x ≡ None
+    → element_among t.elements x ≡ Some sort → b x ≡ 0
+
 module _ (c : ℕ → ℕ) (off : ℕ) (declared : List ℕ) (t : Table) (b : BodyCosts) (last : ℕ)
-    (rows : HasRowCosts c off declared t) (means : CostsItsNodes c off declared t b last) where
+    (rows : HasRowCosts c off declared t) (means : CostsItsNodes c off declared t b last)
+    (elements : FreesElements t b) where
   node_costs : (i around : ℕ) (n : Node) → IsRow (slice_get t.rows i) around (Some n)
       → c (off + i) ≡ around + (1 + inner_cost (off + i) c (resolved off t.bodies declared n))
   node_costs i around n h =
@@ -94,13 +106,46 @@ module _ (c : ℕ → ℕ) (off : ℕ) (declared : List ℕ) (t : Table) (b : Bo
           let inner = means i f js n h at d.1 in
           omega (arith, here, inner)
 
+  -- a symbol alone that is no variable
+  element_costs : (i around : ℕ) (x : List ℕ) (o : Option Sort) → look_up t.heads x ≡ None
+      → element_among t.elements x ≡ o → IsNode t around i (element_node x o)
+      → c (off + i) ≡ around + (1 + b x)
+  element_costs i around x None at among d = absurd (no_row (slice_get t.rows i) around d.0)
+  element_costs i around x (Some sort) at among d =
+      let here = node_costs i around (node.Element x) d.0 in
+      let free = elements x sort at among in
+      omega (arith, here, free)
+
+  alone_costs : (i around : ℕ) (x : List ℕ) → i ≤ last → IsNode t around i (symbol_node t x None)
+      → c (off + i) ≡ around + (1 + b x)
+  alone_costs i around x h d = by (op_by t.theories x []) refl (look_up t.heads x) refl d
+    where
+      by_identifier : IsNode t around i (node_of t (Plain x) []) → c (off + i) ≡ around + (1 + b x)
+      by_identifier d = let here = applied_costs i around (Plain x) [] h d in omega (arith, here)
+
+      by : (o : Result Op OpFault) → op_by t.theories x [] ≡ o → (head : Option Head)
+          → look_up t.heads x ≡ head → IsNode t around i (node_alone t x o head)
+          → c (off + i) ≡ around + (1 + b x)
+      by (Ok op) is head at d =
+          by_identifier (subst (λ o. IsNode t around i (applied_node o (look_up t.heads x) [])) (sym is) d)
+      by (Err fault) is (Some head) at d =
+          by_identifier (subst (λ o. IsNode t around i (applied_node o (look_up t.heads x) [])) (sym is)
+          (subst (λ a. IsNode t around i (applied_node (Err fault) a [])) (sym at) d))
+      by (Err fault) is None at d = element_costs i around x (element_among t.elements x) at refl d
+
+  -- the element behind an `as`
+  qualified_costs : (i around : ℕ) (o : Option (List ℕ)) → IsNode t around i (option_map node.Element o)
+      → c (off + i) ≡ around + 1
+  qualified_costs i around None d = absurd (no_row (slice_get t.rows i) around d.0)
+  qualified_costs i around (Some x) d =
+      let here = node_costs i around (node.Element x) d.0 in omega (arith, here)
+
   -- a variable, or a name without arguments
   symbol_costs : (i around : ℕ) (x : List ℕ) (o : Option ℕ) → i ≤ last
       → IsNode t around i (symbol_node t x o)
       → c (off + i) ≡ around + (1 + cond (is_some o) 0 (b x))
   symbol_costs i around x (Some slot) h d = node_costs i around (node.Slot slot) d.0
-  symbol_costs i around x None h d =
-      let here = applied_costs i around (Plain x) [] h d in omega (arith, here)
+  symbol_costs i around x None h d = alone_costs i around x h d
 
   -- an identifier that a tree is, with arguments that cost this
   list_costs : (i around : ℕ) (o : Result Identifier TermFlaw) (f : Identifier) (js : List ℕ) (n : ℕ)
@@ -150,6 +195,8 @@ module _ (c : ℕ → ℕ) (off : ℕ) (declared : List ℕ) (t : Table) (b : Bo
         node_costs i around (node.Binary digits) d.0
     term_costs slots next around i (Items (Cons (Reserved Underscore) trees)) d h variables named =
         let here = list_costs i around (indexed trees) d.0 [] 0 h d.1 d.2 refl in omega (arith, here)
+    term_costs slots next around i (Items (Cons (Reserved As) trees)) d h variables named =
+        qualified_costs i around (qualified_symbol trees) d
     term_costs slots next around i
         (Items (Cons (Reserved Let) (Cons (Items bindings) (Cons body Nil)))) d h variables named =
         let names = map (λ binding. binding.0) (named_trees bindings) in

@@ -1,27 +1,32 @@
 -- The evaluation of a node takes at least as many steps as that of the term that it stands for.
 use Rattle.std.proofs.Common.{◌≡◌, ◌≤◌, ◌<◌, ℕ, ◌+◌, Bool, true, false, cond, List, [], ◌∷◌, ◌++◌, length}
-use Rattle.std.proofs.Common.{slice_get, Option, Some, None, refl, ap, sym, ◌∙◌, subst, arith, nat_lt}
+use Rattle.std.proofs.Common.{slice_get, Option, Some, None, option_map, refl, ap, sym, ◌∙◌, subst, arith}
+use Rattle.std.proofs.Common.{nat_lt}
 use Rattle.std.proofs.Common.{Result, Ok, Err}
 use Rattle.std.proofs.lemmas.Bool.{lt-ltb}
 use Rattle.smt_trees.specs.Sexp.{Sexp, Sexps, Atom, Reserved, Items, Nil, Cons, Numeral, Hexadecimal, Binary}
 use Rattle.smt_trees.specs.Sexp.{Symbol}
-use Rattle.smt_trees.specs.declared.reserved.Word.TheVariants.{Bang, Let, Underscore}
+use Rattle.smt_trees.specs.declared.reserved.Word.TheVariants.{As, Bang, Let, Underscore}
 use Rattle.smt_theory.specs.Operators.{op_by}
 use Rattle.smt_theory.specs.Words.{look_up}
 use Rattle.smt_theory.specs.declared.op.Op.{Op}
 use Rattle.smt_theory.specs.declared.op.OpFault.{OpFault}
+use Rattle.smt_theory.specs.declared.sort.Sort.{Sort}
+use Rattle.smt_theory.specs.declared.sort.Sort.TheVariants.{Bool as Boolean}
 use Rattle.smt_faults.specs.declared.term_flaw.TermFlaw.{TermFlaw}
+use Rattle.smt_forms.specs.ElementNames.{qualified_symbol}
 use Rattle.smt_forms.specs.Identifier.{Identifier, Plain, Indexed, applied, operator_of}
 use Rattle.smt_forms.specs.Labels.{labels_among}
 use Rattle.smt_nodes.specs.Node as node
 use Rattle.smt_nodes.specs.Node.{Node, Row}
 use Rattle.smt_machine.specs.Costs.{part_cost, parts_cost}
 use Rattle.smt_machine.specs.Least as machine
-use Rattle.smt_machine.specs.Least.{arguments_least, inner_least, is_choice, node_least, part_least, parts_least}
+use Rattle.smt_machine.specs.Least.{arguments_least, inner_least, node_least, part_least, parts_least}
 use Rattle.smt_machine.specs.Tables.{call, resolved, shifted}
 use Rattle.smt_terms.specs.Denotes.{AreBound, AreDenoted, Denotes, HasBodyBelow, Head, IsNameOf, IsNode, IsRow}
-use Rattle.smt_terms.specs.Denotes.{Slots, Table, UsesNone, applied_node, named_node, node_at, node_of}
-use Rattle.smt_terms.specs.Denotes.{slots_bound, symbol_node, unless_labelled}
+use Rattle.smt_terms.specs.Denotes.{Slots, Table, UsesNone, applied_node, element_node, named_node, node_alone, node_at}
+use Rattle.smt_terms.specs.Denotes.{node_of, slots_bound, symbol_node, unless_labelled}
+use Rattle.smt_terms.specs.Elements.{element_among}
 use Rattle.smt_terms.specs.declared.library.Found.{Found}
 use Rattle.smt_terms.specs.declared.library.Found.TheVariants as place
 use Rattle.smt_eval.proofs.NodeCostLemmas.{CostsItsNodes, inner_cost, no_row, row_of}
@@ -138,13 +143,41 @@ module _ (c k : ℕ → ℕ) (off : ℕ) (declared : List ℕ) (t : Table) (b : 
           let inner = identifier_counts i f js n h at d.1 in
           omega (arith, here, inner)
 
+  -- a symbol alone that is no variable
+  element_counts : (i around : ℕ) (x : List ℕ) (o : Option Sort) → IsNode t around i (element_node x o)
+      → around + 1 ≤ k (off + i)
+  element_counts i around x None d = absurd (no_row (slice_get t.rows i) around d.0)
+  element_counts i around x (Some sort) d =
+      let here = node_counts i around (node.Element x) d.0 in omega (arith, here)
+
+  alone_counts : (i around : ℕ) (x : List ℕ) → i ≤ last → IsNode t around i (symbol_node t x None)
+      → around + 1 ≤ k (off + i)
+  alone_counts i around x h d = by (op_by t.theories x []) refl (look_up t.heads x) refl d
+    where
+      by_identifier : IsNode t around i (node_of t (Plain x) []) → around + 1 ≤ k (off + i)
+      by_identifier d = let here = applied_counts i around (Plain x) [] h d in omega (arith, here)
+
+      by : (o : Result Op OpFault) → op_by t.theories x [] ≡ o → (head : Option Head)
+          → look_up t.heads x ≡ head → IsNode t around i (node_alone t x o head) → around + 1 ≤ k (off + i)
+      by (Ok op) is head at d =
+          by_identifier (subst (λ o. IsNode t around i (applied_node o (look_up t.heads x) [])) (sym is) d)
+      by (Err fault) is (Some head) at d =
+          by_identifier (subst (λ o. IsNode t around i (applied_node o (look_up t.heads x) [])) (sym is)
+          (subst (λ a. IsNode t around i (applied_node (Err fault) a [])) (sym at) d))
+      by (Err fault) is None at d = element_counts i around x (element_among t.elements x) d
+
+  -- the element behind an `as`
+  qualified_counts : (i around : ℕ) (o : Option (List ℕ)) → IsNode t around i (option_map node.Element o)
+      → around + 1 ≤ k (off + i)
+  qualified_counts i around None d = absurd (no_row (slice_get t.rows i) around d.0)
+  qualified_counts i around (Some x) d = element_counts i around x (Some Boolean) d
+
   -- a variable, or a name without arguments
   symbol_counts : (i around : ℕ) (x : List ℕ) (o : Option ℕ) → i ≤ last
       → IsNode t around i (symbol_node t x o) → around + 1 ≤ k (off + i)
   symbol_counts i around x (Some slot) h d =
       let here = node_counts i around (node.Slot slot) d.0 in omega (arith, here)
-  symbol_counts i around x None h d =
-      let here = applied_counts i around (Plain x) [] h d in omega (arith, here)
+  symbol_counts i around x None h d = alone_counts i around x h d
 
   -- an identifier that a tree is, with arguments that count these
   list_counts : (i around : ℕ) (o : Result Identifier TermFlaw) (f : Identifier) (js : List ℕ) (first all : ℕ)
@@ -179,6 +212,8 @@ module _ (c k : ℕ → ℕ) (off : ℕ) (declared : List ℕ) (t : Table) (b : 
         let here = node_counts i around (node.Binary digits) d.0 in omega (arith, here)
     term_counts slots next around i (Items (Cons (Reserved Underscore) trees)) d h =
         let here = applied_counts i around d.0 [] h d.2 in omega (arith, here)
+    term_counts slots next around i (Items (Cons (Reserved As) trees)) d h =
+        qualified_counts i around (qualified_symbol trees) d
     term_counts slots next around i (Items (Cons (Reserved Let) (Cons (Items bindings) (Cons body Nil)))) d h =
         let here = node_counts i around (node.Let d.0 d.1) d.2.0 in
         let below = least_below off i d.1 k d.4 in

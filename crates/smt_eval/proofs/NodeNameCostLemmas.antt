@@ -24,8 +24,10 @@ use Rattle.smt_terms.specs.declared.library.Found.TheVariants as place
 use Rattle.smt_eval.proofs.CostLemmas.{cost_absent, defined_costs, names_from}
 use Rattle.smt_eval.proofs.EntryLemmas.{entry_named-take}
 use Rattle.smt_eval.proofs.HeadLemmas.{IsBodyOf, IsHeadAt}
-use Rattle.smt_eval.proofs.NodeCostLemmas.{CostsItsNodes, HasRowCosts, cost_below, inner_cost, term_costs}
+use Rattle.smt_eval.proofs.NodeCostLemmas.{CostsItsNodes, FreesElements, HasRowCosts, cost_below, inner_cost}
+use Rattle.smt_eval.proofs.NodeCostLemmas.{term_costs}
 use Rattle.smt_eval.proofs.NodeNameLemmas.{HasNames, named_at, node_of_head, some_op}
+use Rattle.smt_eval.proofs.PlaceLemmas.{within as within_list}
 use Rattle.smt_eval.specs.Cost.{BodyCosts, body_cost, cost_of, costs_in, head_cost, no_costs}
 use Rattle.smt_eval.specs.Internal.DefinitionValues.{IsDefined, first}
 
@@ -60,6 +62,11 @@ module _ (g : Giving) (off : ℕ) (declared : List ℕ) (t : Table) (es : List E
       ∙ some_op (plain_op t.theories x) op is in
       cost_absent no_costs (take (seen n) d.entries) x
       (entry_named-take d.entries x (seen n) (names.free x plain))
+
+  -- an element has none either
+  frees_elements : (n : ℕ) → n ≤ length es → FreesElements (first_heads n t) (costing n)
+  frees_elements n within x sort at among =
+      cost_absent no_costs (take (seen n) d.entries) x (names.apart n x sort within at among)
 
   -- ---- names
 
@@ -142,10 +149,11 @@ module _ (g : Giving) (off : ℕ) (declared : List ℕ) (t : Table) (es : List E
 
   -- the body of a definition costs what it does over the names before it
   pub body_costs : (last : ℕ) → CallsCost last → (q j : ℕ) (e : Entry) (ps : List (List ℕ)) (body : Sexp)
-      → IsBody t q (length e.parameters) ps body j → j ≤ last
+      → q ≤ length es → IsBody t q (length e.parameters) ps body j → j ≤ last
       → c (off + j) ≡ cost_of (costing q) ps body
-  body_costs last calls q j e ps body is below =
+  body_costs last calls q j e ps body seen_first is below =
       let here = term_costs c off declared (first_heads q t) (costing q) last rows (costs_its_nodes last calls q)
+      (frees_elements q seen_first)
       (slots_from 0 ps) (length ps) 0 j body is.denotes below ps (sym (names_from 0 ps)) in
       omega (arith, here)
 
@@ -155,7 +163,8 @@ module _ (g : Giving) (off : ℕ) (declared : List ℕ) (t : Table) (es : List E
       → c (off + j) ≡ costing n x
   called_costs last calls n q j e x at within name b below =
       let defined : IsDefined e.origin = subst IsDefined (sym b.2) tt in
-      body_costs last calls q j e b.0 b.1 b.3 below
+      let place = within_list es q e at in
+      body_costs last calls q j e b.0 b.1 (omega (arith, place)) b.3 below
       ∙ sym (ap (λ (o : Origin). body_cost (costing q) o) b.2)
       ∙ sym (defined_costs d (seen n) (seen q) e x names.distinct (names.placed q e at defined)
       (names.grows q n e at defined within) name)
@@ -173,8 +182,8 @@ module _ (g : Giving) (off : ℕ) (declared : List ℕ) (t : Table) (es : List E
       (omega (arith, below))
 
   -- where all names are in force, a node costs what its term does
-  pub closed_costs : (n around i : ℕ) (term : Sexp) → Denotes (first_heads n t) [] 0 around i term
-      → c (off + i) ≡ around + cost_of (costing n) [] term
-  closed_costs n around i term denotes =
+  pub closed_costs : (n around i : ℕ) (term : Sexp) → n ≤ length es
+      → Denotes (first_heads n t) [] 0 around i term → c (off + i) ≡ around + cost_of (costing n) [] term
+  closed_costs n around i term within denotes =
       term_costs c off declared (first_heads n t) (costing n) i rows (costs_its_nodes i (calls_cost i) n)
-      [] 0 around i term denotes (omega arith) [] refl
+      (frees_elements n within) [] 0 around i term denotes (omega arith) [] refl

@@ -12,6 +12,7 @@ use Rattle.smt_theory.specs.Words.{look_up}
 use Rattle.smt_theory.specs.declared.op.Op.{Op}
 use Rattle.smt_theory.specs.declared.op.OpFault.{OpFault}
 use Rattle.smt_theory.specs.declared.op.OpFault.TheVariants.{Unknown}
+use Rattle.smt_theory.specs.declared.sort.Sort.{Sort}
 use Rattle.smt_values.specs.KnownOperations.{known_step}
 use Rattle.smt_forms.specs.Identifier.{Identifier, Plain, Indexed, operator_of}
 use Rattle.smt_nodes.specs.Node as node
@@ -20,6 +21,7 @@ use Rattle.smt_machine.specs.Nodes.{Frame, Giving, node_value, parts}
 use Rattle.smt_machine.specs.Tables.{call, resolved, shifted}
 use Rattle.smt_terms.specs.Denotes.{Denotes, HasBodyBelow, Head, Table, applied_node, named_node, node_at}
 use Rattle.smt_terms.specs.Denotes.{slots_from}
+use Rattle.smt_terms.specs.Elements.{element_among}
 use Rattle.smt_terms.specs.Library.{declared_among}
 use Rattle.smt_terms.specs.Signature.{AreDistinct, Entry, Origin, Signature, entry_named}
 use Rattle.smt_terms.specs.TermsOf.{AreBodies, IsBody, first_heads, heads_of}
@@ -29,7 +31,9 @@ use Rattle.smt_eval.proofs.EntryLemmas.{entry_named-take}
 use Rattle.smt_eval.proofs.EvaluatorLemmas.{defined_means, indexed_known, not_defined}
 use Rattle.smt_eval.proofs.FrameLemmas.{stands_behind}
 use Rattle.smt_eval.proofs.HeadLemmas.{IsBodyOf, IsHeadAt, IsNamed, found}
-use Rattle.smt_eval.proofs.NodeValueLemmas.{HasRows, MeansItsNodes, part_below, parts_counted, term_given}
+use Rattle.smt_eval.proofs.PlaceLemmas.{within as within_list}
+use Rattle.smt_eval.proofs.NodeValueLemmas.{HasRows, MeansElements, MeansItsNodes, part_below, parts_counted}
+use Rattle.smt_eval.proofs.NodeValueLemmas.{term_given}
 use Rattle.smt_eval.specs.Internal.DefinitionValues.{IsDefined, first}
 use Rattle.smt_eval.specs.Known.{KnownMeaning, known_defined, known_in, known_of, known_of_op}
 
@@ -41,7 +45,8 @@ IsGivenAt g off declared d seen k e = (j : ℕ) × (slice_get declared k ≡ Som
 
 -- A table of terms over definitions: behind so many other nodes, each of its rows gives the value of its
 -- node. Where the first n names are in force, so many of the definitions are seen: the definitions among
--- the names stand in order among them, and what is declared is given from the start.
+-- the names stand in order among them, and what is declared is given from the start. An element's name that is not
+-- in force names none of them.
 pub record HasNames (g : Giving) (off : ℕ) (declared : List ℕ) (t : Table) (es : List Entry) (d : Signature)
     (seen : ℕ → ℕ) : Type 0 where
   pub rows : HasRows g off declared t
@@ -50,6 +55,8 @@ pub record HasNames (g : Giving) (off : ℕ) (declared : List ℕ) (t : Table) (
   pub bodies : AreBodies t 0 t.bodies es
   pub distinct : AreDistinct d.entries
   pub free : (x : List ℕ) → is_plain_operator d.theories x ≡ true → entry_named d.entries x ≡ None
+  pub apart : (n : ℕ) (x : List ℕ) (sort : Sort) → n ≤ length es → look_up (take n t.heads) x ≡ None
+      → element_among t.elements x ≡ Some sort → entry_named (take (seen n) d.entries) x ≡ None
   pub placed : (q : ℕ) (e : Entry) → slice_get es q ≡ Some e → IsDefined e.origin
       → slice_get d.entries (seen q) ≡ Some e
   pub grows : (q n : ℕ) (e : Entry) → slice_get es q ≡ Some e → IsDefined e.origin → q < n
@@ -106,12 +113,22 @@ module _ (g : Giving) (off : ℕ) (declared : List ℕ) (t : Table) (es : List E
       → known_step op vs ≡ meaning n f vs
   operator_means n (Indexed x indexes) op vs is =
       sym (indexed_known d (seen n) x indexes vs
-      ∙ ap (λ ts. known_of_op (op_by ts x indexes) vs) (sym names.theories) ∙ ap (λ o. known_of_op o vs) is)
+      ∙ ap (λ ts. known_of_op (op_by ts x indexes) (Indexed x indexes) vs) (sym names.theories)
+      ∙ ap (λ o. known_of_op o (Indexed x indexes) vs) is)
   operator_means n (Plain x) op vs is =
       let plain = ap (λ ts. is_plain_operator ts x) (sym names.theories)
       ∙ some_op (plain_op t.theories x) op is in
       sym (not_defined d (seen n) x vs (entry_named-take d.entries x (seen n) (names.free x plain))
-      ∙ ap (λ ts. known_of_op (op_by ts x []) vs) (sym names.theories) ∙ ap (λ o. known_of_op o vs) is)
+      ∙ ap (λ ts. known_of_op (op_by ts x []) (Plain x) vs) (sym names.theories)
+      ∙ ap (λ o. known_of_op o (Plain x) vs) is)
+
+  -- ---- elements
+
+  pub means_elements : (n : ℕ) → n ≤ length es → MeansElements (first_heads n t) (meaning n)
+  means_elements n within x sort fault is at among =
+      not_defined d (seen n) x [] (names.apart n x sort within at among)
+      ∙ ap (λ ts. known_of_op (op_by ts x []) (Plain x) []) (sym names.theories)
+      ∙ ap (λ o. known_of_op o (Plain x) []) is
 
   -- ---- names
 
@@ -199,11 +216,12 @@ module _ (g : Giving) (off : ℕ) (declared : List ℕ) (t : Table) (es : List E
 
   -- the body of a definition gives what it is over the names before it
   pub body_given : (last : ℕ) → CallsAreGiven last → (q j : ℕ) (e : Entry) (ps : List (List ℕ)) (body : Sexp)
-      (vs : Frame) → IsBody t q (length e.parameters) ps body j → j ≤ last → length vs ≡ length e.parameters
-      → g (off + j) vs ≡ known_of (meaning q) (zip ps vs) body
-  body_given last calls q j e ps body vs is below counted =
+      (vs : Frame) → q ≤ length es → IsBody t q (length e.parameters) ps body j → j ≤ last
+      → length vs ≡ length e.parameters → g (off + j) vs ≡ known_of (meaning q) (zip ps vs) body
+  body_given last calls q j e ps body vs seen_first is below counted =
       let same : length ps ≡ length vs = is.counted ∙ sym counted in
       term_given g off declared (first_heads q t) (meaning q) last names.rows (means_its_nodes last calls q)
+      (means_elements q seen_first)
       (slots_from 0 ps) (length ps) 0 j body is.denotes below vs (zip ps vs) same
       (stands_behind [] vs ps 0 refl same)
 
@@ -213,7 +231,8 @@ module _ (g : Giving) (off : ℕ) (declared : List ℕ) (t : Table) (es : List E
       → length vs ≡ length e.parameters → g (off + j) vs ≡ meaning n (Plain x) vs
   called last calls n q j e x vs at within name b below counted =
       let defined : IsDefined e.origin = subst IsDefined (sym b.2) tt in
-      body_given last calls q j e b.0 b.1 vs b.3 below counted
+      let place = within_list es q e at in
+      body_given last calls q j e b.0 b.1 vs (omega (arith, place)) b.3 below counted
       ∙ sym (ap (λ (o : Origin). known_defined (meaning q) o vs) b.2)
       ∙ sym (defined_means d (seen n) (seen q) e x vs names.distinct (names.placed q e at defined)
       (names.grows q n e at defined within) name)
@@ -231,8 +250,9 @@ module _ (g : Giving) (off : ℕ) (declared : List ℕ) (t : Table) (es : List E
       (omega (arith, below)) (counted ∙ f.counted)
 
   -- where all names are in force, a node gives what is known of its term
-  pub closed_given : (n around i : ℕ) (term : Sexp) → Denotes (first_heads n t) [] 0 around i term
-      → g (off + i) [] ≡ known_of (meaning n) [] term
-  closed_given n around i term denotes =
+  pub closed_given : (n around i : ℕ) (term : Sexp) → n ≤ length es
+      → Denotes (first_heads n t) [] 0 around i term → g (off + i) [] ≡ known_of (meaning n) [] term
+  closed_given n around i term within denotes =
       term_given g off declared (first_heads n t) (meaning n) i names.rows
-      (means_its_nodes i (calls_are_given i) n) [] 0 around i term denotes (omega arith) [] [] refl tt
+      (means_its_nodes i (calls_are_given i) n) (means_elements n within) [] 0 around i term
+      denotes (omega arith) [] [] refl tt

@@ -2,18 +2,24 @@
 -- what their nodes give.
 use Rattle.std.proofs.Common.{◌≡◌, ◌≤◌, ◌<◌, ℕ, ◌+◌, cond, List, [], ◌∷◌, ◌++◌, length, map}
 use Rattle.std.proofs.Common.{slice_get, Option, Some, None, option_map, refl, ap, sym, ◌∙◌, subst, arith}
-use Rattle.std.proofs.Common.{Result, Ok, suc, length-append}
+use Rattle.std.proofs.Common.{Result, Ok, Err, suc, length-append}
 use Rattle.std.proofs.lemmas.Bool.{lt-ltb}
 use Rattle.std.proofs.lemmas.List.{length-map}
 use Rattle.std.specs.List.{zip}
-use Rattle.std.specs.Prelude.{unwrap_or}
+use Rattle.std.specs.Prelude.{option_and_then, unwrap_or}
 use Rattle.smt_trees.specs.Sexp.{Sexp, Sexps, Atom, Reserved, Items, Nil, Cons, Numeral, Hexadecimal, Binary}
 use Rattle.smt_trees.specs.Sexp.{Symbol}
-use Rattle.smt_trees.specs.declared.reserved.Word.TheVariants.{Bang, Let, Underscore}
+use Rattle.smt_trees.specs.declared.reserved.Word.TheVariants.{As, Bang, Let, Underscore}
 use Rattle.smt_theory.specs.Words.{look_up}
+use Rattle.smt_theory.specs.Operators.{op_by}
+use Rattle.smt_theory.specs.declared.op.Op.{Op}
+use Rattle.smt_theory.specs.declared.op.OpFault.{OpFault}
+use Rattle.smt_theory.specs.declared.sort.Sort.{Sort}
 use Rattle.smt_theory.specs.declared.sort.Sort.TheVariants.{Bool as Boolean}
 use Rattle.smt_faults.specs.declared.term_flaw.TermFlaw.{TermFlaw}
 use Rattle.smt_values.specs.Element.{Element}
+use Rattle.smt_values.specs.Literals.{name_element}
+use Rattle.smt_forms.specs.ElementNames.{qualified_symbol}
 use Rattle.smt_forms.specs.Bindings.{named_trees}
 use Rattle.smt_forms.specs.Identifier.{Identifier, Plain, applied, indexed}
 use Rattle.smt_forms.specs.Labels.{labels_among}
@@ -22,8 +28,9 @@ use Rattle.smt_nodes.specs.Node.{Node, Row}
 use Rattle.smt_machine.specs.Nodes.{Frame, Giving, at_place, node_value, part, parts}
 use Rattle.smt_machine.specs.Tables.{call, resolved, shifted}
 use Rattle.smt_terms.specs.Denotes.{AreBound, AreDenoted, Denotes, HasBodyBelow, IsNameOf, IsNode, IsRow}
-use Rattle.smt_terms.specs.Denotes.{Slots, Table, UsesNone, node_of, slots_bound, symbol_node}
-use Rattle.smt_terms.specs.Denotes.{unless_labelled}
+use Rattle.smt_terms.specs.Denotes.{Head, Slots, Table, UsesNone, applied_node, element_node, node_alone, node_of}
+use Rattle.smt_terms.specs.Denotes.{slots_bound, symbol_node, unless_labelled}
+use Rattle.smt_terms.specs.Elements.{element_among}
 use Rattle.smt_eval.proofs.FrameLemmas.{StandIn, stands_behind, stands_both, stands_found, stands_hidden}
 use Rattle.smt_eval.proofs.FrameLemmas.{stands_more}
 use Rattle.smt_eval.proofs.UnusedVariableLemmas.{Knowns, known_same}
@@ -95,8 +102,14 @@ MeansItsNodes g off declared t m last = (i : ℕ) (frame : Frame) (f : Identifie
     → node_value (off + i) g frame (Some (resolved off t.bodies declared n))
     ≡ m f (parts (off + i) g frame (shifted off js))
 
+-- a symbol that is no operator and not in force, but an element, means this element
+abbrev pub MeansElements : Table → KnownMeaning → Type 0
+MeansElements t m = (x : List ℕ) (sort : Sort) (fault : OpFault) → op_by t.theories x [] ≡ Err fault
+    → look_up t.heads x ≡ None → element_among t.elements x ≡ Some sort → m (Plain x) [] ≡ name_element x
+
 module _ (g : Giving) (off : ℕ) (declared : List ℕ) (t : Table) (m : KnownMeaning) (last : ℕ)
-    (rows : HasRows g off declared t) (means : MeansItsNodes g off declared t m last) where
+    (rows : HasRows g off declared t) (means : MeansItsNodes g off declared t m last)
+    (elements : MeansElements t m) where
   node_given : (i around : ℕ) (n : Node) (frame : Frame) → IsRow (slice_get t.rows i) around (Some n)
       → g (off + i) frame ≡ node_value (off + i) g frame (Some (resolved off t.bodies declared n))
   node_given i around n frame h =
@@ -114,12 +127,41 @@ module _ (g : Giving) (off : ℕ) (declared : List ℕ) (t : Table) (m : KnownMe
       by None at d = absurd (no_row (slice_get t.rows i) around d.0)
       by (Some n) at d = node_given i around n frame d.0 ∙ means i frame f js n h at d.1
 
+  -- a symbol alone that is no variable
+  element_given : (i around : ℕ) (frame : Frame) (x : List ℕ) (fault : OpFault) (o : Option Sort)
+      → op_by t.theories x [] ≡ Err fault → look_up t.heads x ≡ None → element_among t.elements x ≡ o
+      → IsNode t around i (element_node x o) → g (off + i) frame ≡ m (Plain x) []
+  element_given i around frame x fault None is at among d = absurd (no_row (slice_get t.rows i) around d.0)
+  element_given i around frame x fault (Some sort) is at among d =
+      node_given i around (node.Element x) frame d.0 ∙ sym (elements x sort fault is at among)
+
+  alone_given : (i around : ℕ) (frame : Frame) (x : List ℕ) → i ≤ last
+      → IsNode t around i (symbol_node t x None) → g (off + i) frame ≡ m (Plain x) []
+  alone_given i around frame x h d = by (op_by t.theories x []) refl (look_up t.heads x) refl d
+    where
+      by : (o : Result Op OpFault) → op_by t.theories x [] ≡ o → (head : Option Head)
+          → look_up t.heads x ≡ head → IsNode t around i (node_alone t x o head)
+          → g (off + i) frame ≡ m (Plain x) []
+      by (Ok op) is head at d = applied_given i around frame (Plain x) [] h
+          (subst (λ o. IsNode t around i (applied_node o (look_up t.heads x) [])) (sym is) d)
+      by (Err fault) is (Some head) at d = applied_given i around frame (Plain x) [] h
+          (subst (λ o. IsNode t around i (applied_node o (look_up t.heads x) [])) (sym is)
+          (subst (λ a. IsNode t around i (applied_node (Err fault) a [])) (sym at) d))
+      by (Err fault) is None at d =
+          element_given i around frame x fault (element_among t.elements x) is at refl d
+
+  -- the element behind an `as`
+  qualified_given : (i around : ℕ) (frame : Frame) (o : Option (List ℕ))
+      → IsNode t around i (option_map node.Element o) → g (off + i) frame ≡ option_and_then name_element o
+  qualified_given i around frame None d = absurd (no_row (slice_get t.rows i) around d.0)
+  qualified_given i around frame (Some x) d = node_given i around (node.Element x) frame d.0
+
   -- a variable, or a name without arguments
   symbol_given : (i around : ℕ) (frame : Frame) (x : List ℕ) (o : Option ℕ) → i ≤ last
       → IsNode t around i (symbol_node t x o)
       → g (off + i) frame ≡ unwrap_or (option_map (at_place frame) o) (m (Plain x) [])
   symbol_given i around frame x (Some slot) h d = node_given i around (node.Slot slot) frame d.0
-  symbol_given i around frame x None h d = applied_given i around frame (Plain x) [] h d
+  symbol_given i around frame x None h d = alone_given i around frame x h d
 
   -- an identifier that a tree is, with arguments of which this is known
   list_given : (i around : ℕ) (frame : Frame) (o : Result Identifier TermFlaw) (f : Identifier) (js : List ℕ)
@@ -166,6 +208,8 @@ module _ (g : Giving) (off : ℕ) (declared : List ℕ) (t : Table) (m : KnownMe
         node_given i around (node.Binary digits) frame d.0
     term_given slots next around i (Items (Cons (Reserved Underscore) trees)) d h frame r counted stand =
         list_given i around frame (indexed trees) d.0 [] [] h d.1 d.2 refl
+    term_given slots next around i (Items (Cons (Reserved As) trees)) d h frame r counted stand =
+        qualified_given i around frame (qualified_symbol trees) d
     term_given slots next around i
         (Items (Cons (Reserved Let) (Cons (Items bindings) (Cons body Nil)))) d h frame r counted stand =
         let values = parts (off + i) g frame (shifted off d.0) in

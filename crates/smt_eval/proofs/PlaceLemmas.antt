@@ -1,5 +1,5 @@
 -- Where the definitions of a structure stand, and in which library.
-use Rattle.std.proofs.Common.{◌≡◌, ◌≤◌, ℕ, zero, suc, ◌+◌, true, false, cond, not, Bool, List, [], ◌∷◌, ◌++◌}
+use Rattle.std.proofs.Common.{◌≡◌, ◌≤◌, ◌<◌, ℕ, zero, suc, ◌+◌, true, false, cond, not, Bool, List, [], ◌∷◌, ◌++◌}
 use Rattle.std.proofs.Common.{length, take, slice_get, Some, None, refl, ap, sym, ◌∙◌, subst, arith}
 use Rattle.std.specs.Prelude.{bytes_eq}
 use Rattle.smt_terms.specs.Library.{declared_among, defined_among}
@@ -81,6 +81,14 @@ declared_is (d ∷ es) n e at = by d.origin refl n at (λ k h. declared_is es k 
         let here : d ≡ e = cc in subst IsDeclared (sym from ∙ ap (λ (f : Entry). f.origin) here) tt
     by (Declared command) from (suc k) at next = next k at
     by (Defined ps body) from n at next = next n at
+
+-- ---- places
+
+-- what stands at a place stands within the list
+pub within : {A : Type 0} (xs : List A) (k : ℕ) (x : A) → slice_get xs k ≡ Some x → k < length xs
+within [] k x h = cc
+within (y ∷ xs) zero x h = omega arith
+within (y ∷ xs) (suc k) x h = let w = within xs k x h in omega (arith, w)
 
 -- ---- two lists
 

@@ -1,14 +1,17 @@
 -- What names are known to mean over definitions that are kept as their trees.
 use Rattle.std.proofs.Common.{◌≡◌, ◌≤◌, ℕ, suc, ◌+◌, Bool, true, false, cond, List, [], ◌∷◌}
-use Rattle.std.proofs.Common.{◌++◌, length, slice_index_or, take, Option, Some, None, Ok, refl, ap, sym}
+use Rattle.std.proofs.Common.{◌++◌, length, slice_index_or, take, Option, Some, None, Result, Ok, refl, ap, sym}
 use Rattle.std.proofs.Common.{◌∙◌, arith}
 use Rattle.std.proofs.Math.Seq.{take-suc}
 use Rattle.std.proofs.lemmas.List.{map-append}
 use Rattle.std.specs.Prelude.{bytes_eq, ok_or, option_map}
 use Rattle.smt_trees.specs.Sexp.{Sexps, Atom, Cons, Symbol, weight}
 use Rattle.smt_trees.specs.View.{sexp_of}
-use Rattle.smt_values.specs.Element.{Element}
+use Rattle.smt_values.specs.Element.{Element, known_element}
+use Rattle.smt_values.specs.declared.value.Value.{Value}
 use Rattle.smt_theory.specs.Index.{IndexView}
+use Rattle.smt_theory.specs.declared.op.Op.{Op}
+use Rattle.smt_theory.specs.declared.op.OpFault.{OpFault}
 use Rattle.smt_theory.specs.declared.theories.Theories.{Theories}
 use Rattle.smt_forms.specs.Identifier.{Identifier, Plain, Indexed, all_indexes, indexed, operator_of}
 use Rattle.smt_faults.specs.declared.term_flaw.TermFlaw.TheVariants.{Form}
@@ -88,11 +91,13 @@ weight-last before all d is = ap bodies_weight is ∙ by before
 
 -- what has indexes is an operator
 pub indexed_is_operator : (theories : Theories) (es : List Entry) (f : Identifier) (parts : Sexps)
-    → indexed parts ≡ Ok f
-    → known_after (known_operators theories) es f [] ≡ known_of_op (operator_of theories f) []
-indexed_is_operator theories es (Indexed x indexes) parts is =
-    known_with_indexes (known_operators theories) es x indexes []
-indexed_is_operator theories es (Plain x) parts is = absurd (never parts is)
+    (v : Option Value) (op : Result Op OpFault) → indexed parts ≡ Ok f → op ≡ operator_of theories f
+    → ((x : List ℕ) (indexes : List IndexView) → known_element v ≡ known_of_op op (Indexed x indexes) [])
+    → known_element v ≡ known_after (known_operators theories) es f []
+indexed_is_operator theories es (Indexed x indexes) parts v op is found given =
+    given x indexes ∙ ap (λ o. known_of_op o (Indexed x indexes) []) found
+    ∙ sym (known_with_indexes (known_operators theories) es x indexes [])
+indexed_is_operator theories es (Plain x) parts v op is found given = absurd (never parts is)
   where
     by : (y : List ℕ) (o : Option (List IndexView))
         → ok_or (option_map (λ is. Indexed y is) o) Form ≡ Ok (Plain x) → ⊥

@@ -6,12 +6,12 @@ use Rattle.std.proofs.Math.Nat.{mod-lt}
 use Rattle.std.proofs.Math.Pow.{pow_pos}
 use Rattle.std.specs.List.{zip}
 use Rattle.std.specs.Option.{option_or}
-use Rattle.std.specs.Prelude.{unwrap_or, bytes_eq, is_some, ok_or, option_map}
+use Rattle.std.specs.Prelude.{unwrap_or, bytes_eq, is_some, ok_or, option_and_then, option_map}
 use Rattle.std.specs.Str.Parse.{digits_value}
 use Rattle.smt_bits.specs.Literals.{constant}
 use Rattle.smt_trees.specs.Sexp.{Sexp, Sexps, Atom, Reserved, Items, Nil, Cons, Symbol, Numeral, Decimal}
 use Rattle.smt_trees.specs.Sexp.{Hexadecimal, Binary, Text, Keyword}
-use Rattle.smt_trees.specs.declared.reserved.Word.TheVariants.{Bang, Let, Underscore}
+use Rattle.smt_trees.specs.declared.reserved.Word.TheVariants.{As, Bang, Let, Underscore}
 use Rattle.smt_theory.specs.Ranks.{are_exactly, rank_of}
 use Rattle.smt_theory.specs.Sort.{is_same_sort}
 use Rattle.smt_theory.specs.Width.{width_of}
@@ -20,15 +20,19 @@ use Rattle.smt_theory.specs.declared.op.Op.{Op}
 use Rattle.smt_theory.specs.declared.op.OpFault.{OpFault}
 use Rattle.smt_theory.specs.declared.op.OpFault.TheVariants as ops
 use Rattle.smt_theory.specs.declared.sort.Sort.{Sort}
-use Rattle.smt_theory.specs.declared.sort.Sort.TheVariants.{Int, Bits}
+use Rattle.smt_theory.specs.declared.sort.Sort.TheVariants.{Int, Bits, Free}
 use Rattle.smt_theory.specs.declared.theories.Theories.{Theories}
-use Rattle.smt_values.specs.Element.{Element, Vector, IsOfSort, AreOfSorts}
+use Rattle.smt_values.specs.Element.{Element, Abstract, Vector, IsOfSort, AreOfSorts}
 use Rattle.smt_values.specs.Operations.{DivisionByZero, operate}
 use Rattle.smt_forms.specs.Bindings.{are_attributes, are_bindings}
 use Rattle.smt_forms.specs.Labels.{labels_among}
 use Rattle.smt_terms.specs.Checking.{bound_in, flaw_of_labels, sort_applied, sort_in, sorts_in, sort_of_call}
 use Rattle.smt_terms.specs.Checking.{sort_of_name, sort_of_operator, sort_of_plain, sort_of_rank}
-use Rattle.smt_terms.specs.Checking.{sort_of_symbol, sort_unless_variable, unless}
+use Rattle.smt_terms.specs.Checking.{sort_alone, sort_of_symbol, sort_unless_element, sort_unless_variable}
+use Rattle.smt_terms.specs.Checking.{unless}
+use Rattle.smt_terms.specs.Elements.{element_among, if_free, or_ill_sorted, qualified_sort}
+use Rattle.smt_terms.specs.SortTrees.{SortNames, sort_named}
+use Rattle.smt_forms.specs.ElementNames.{begins_at, qualified_symbol, sort_of_element}
 use Rattle.smt_forms.specs.Heads.{begins_indexed}
 use Rattle.smt_forms.specs.Identifier.{Identifier, Plain, Indexed, applied, indexed, operator_of}
 use Rattle.smt_terms.specs.Signature.{AreDistinct, Entry, Origin, Declared, Defined, Names, Rank, Signature}
@@ -37,18 +41,28 @@ use Rattle.smt_terms.specs.Signature.{unlabelled_over}
 use Rattle.smt_terms.specs.WellSorted.{AreWellSorted, IsWellSorted, IsWellSortedFrom}
 use Rattle.smt_faults.specs.declared.term_flaw.TermFlaw.{TermFlaw}
 use Rattle.smt_faults.specs.declared.term_flaw.TermFlaw.TheVariants.{BoundTwice, Form, IllSorted, Unknown}
-use Rattle.smt_faults.specs.declared.term_flaw.TermFlaw.TheVariants.{Index}
+use Rattle.smt_faults.specs.declared.term_flaw.TermFlaw.TheVariants.{Index, Unsupported}
 use Rattle.smt_eval.proofs.NameLemmas.{same_name, same_self, none_step}
 use Rattle.smt_eval.specs.Agreement.{FitsScope, IsOfSorts}
 use Rattle.smt_eval.specs.Meaning.{Meaning, element_by, value_of, values_bound, values_of, meaning_of_op}
-use Rattle.smt_eval.specs.Meaning.{operators, defined_value, with_definition, meaning_after, meaning_in}
+use Rattle.smt_eval.specs.Meaning.{element_of_symbol, operators, defined_value, with_definition, meaning_after}
+use Rattle.smt_eval.specs.Meaning.{meaning_in}
 use Rattle.smt_eval.proofs.MeaningLemmas.{is_plain_list, value-other}
 
 -- where an identifier has a sort for arguments of some sorts, it gives an element of that sort for elements
 -- of those
-abbrev pub Fits : Names → Meaning → Type 0
-Fits names m = (f : Identifier) (sorts : List Sort) (sort : Sort) (es : List Element)
+abbrev pub FitsApplied : Names → Meaning → Type 0
+FitsApplied names m = (f : Identifier) (sorts : List Sort) (sort : Sort) (es : List Element)
     → sort_applied names f sorts ≡ Ok sort → AreOfSorts sorts es → IsOfSort sort (m f es)
+
+-- and so does a symbol alone, which may be an element
+abbrev pub FitsAlone : Names → Meaning → Type 0
+FitsAlone names m = (x : List ℕ) (sort : Sort)
+    → sort_alone names x (look_up names.ranks x) ≡ Ok sort → IsOfSort sort (m (Plain x) [])
+
+pub record Fits (names : Names) (m : Meaning) : Type 0 where
+  pub called : FitsApplied names m
+  pub alone : FitsAlone names m
 
 -- the law of the operators
 abbrev pub ResultsAreOfTheirSorts : Type 0
@@ -57,23 +71,82 @@ ResultsAreOfTheirSorts = (z : DivisionByZero) (op : Op) (sorts : List Sort) (sor
 
 -- operators give what their ranks say
 operator-fits : ResultsAreOfTheirSorts
-    → (z : DivisionByZero) (o : Result Op OpFault) (sorts : List Sort) (sort : Sort) (es : List Element)
-    → sort_of_operator o sorts ≡ Ok sort → AreOfSorts sorts es → IsOfSort sort (meaning_of_op z o es)
-operator-fits law z (Err ops.Unknown) sorts sort es is h = cc
-operator-fits law z (Err ops.Index) sorts sort es is h = cc
-operator-fits law z (Ok op) sorts sort es is h = by (rank_of op sorts) refl is
+    → (z : DivisionByZero) (o : Result Op OpFault) (f : Identifier) (sorts : List Sort) (sort : Sort)
+    (es : List Element)
+    → sort_of_operator o sorts ≡ Ok sort → AreOfSorts sorts es → IsOfSort sort (meaning_of_op z o f es)
+operator-fits law z (Err ops.Unknown) f sorts sort es is h = cc
+operator-fits law z (Err ops.Index) f sorts sort es is h = cc
+operator-fits law z (Ok op) f sorts sort es is h = by (rank_of op sorts) refl is
   where
     by : (o : Option Sort) → rank_of op sorts ≡ o → sort_of_rank o ≡ Ok sort → IsOfSort sort (operate z op es)
     by None ranked is = cc
     by (Some found) ranked is =
         let same : found ≡ sort = cc in law z op sorts sort es (ranked ∙ ap (λ (s : Sort). Some s) same) h
 
-Fits-operators : ResultsAreOfTheirSorts → (z : DivisionByZero) (theories : Theories)
-    → Fits (unlabelled_over theories []) (operators z theories)
-Fits-operators law z theories (Plain f) sorts sort es is h =
-    operator-fits law z (operator_of theories (Plain f)) sorts sort es is h
-Fits-operators law z theories (Indexed f indexes) sorts sort es is h =
-    operator-fits law z (operator_of theories (Indexed f indexes)) sorts sort es is h
+applied-operators : ResultsAreOfTheirSorts
+    → (z : DivisionByZero) (theories : Theories) (elements : Option SortNames)
+    → FitsApplied (unlabelled_over theories elements []) (operators z theories)
+applied-operators law z theories elements (Plain f) sorts sort es is h =
+    operator-fits law z (operator_of theories (Plain f)) (Plain f) sorts sort es is h
+applied-operators law z theories elements (Indexed f indexes) sorts sort es is h =
+    operator-fits law z (operator_of theories (Indexed f indexes)) (Indexed f indexes) sorts sort es is h
+
+-- ---- elements
+
+-- a declared sort has the elements of all names
+free-fits : (s sort : Sort) (x : List ℕ) → if_free s ≡ Some sort → IsOfSort sort (Abstract x)
+free-fits (Free n) sort x is = let same : Free n ≡ sort = cc in subst (λ t. IsOfSort t (Abstract x)) same tt
+free-fits _ sort x is = cc
+
+element-fits : (elements : Option SortNames) (y x : List ℕ) (sort : Sort)
+    → element_among elements y ≡ Some sort → IsOfSort sort (Abstract x)
+element-fits None y x sort is = cc
+element-fits (Some sorts) y x sort is =
+    by (option_and_then (look_up sorts.abbreviations) (sort_of_element y)) is
+  where
+    by : (o : Option Sort) → option_and_then if_free o ≡ Some sort → IsOfSort sort (Abstract x)
+    by None h = cc
+    by (Some s) h = free-fits s sort x h
+
+-- the element behind an `as`
+qualified-fits : (elements : Option SortNames) (parts : Sexps) (sort : Sort)
+    → qualified_sort elements parts ≡ Ok sort → IsOfSort sort (element_of_symbol (qualified_symbol parts))
+qualified-fits None parts sort is = cc
+qualified-fits (Some sorts) (Cons (Atom Symbol x) (Cons tree Nil)) sort is =
+    by (begins_at x) (sort_named sorts tree) is
+  where
+    named : (o s : Option Sort) → o ≡ s → or_ill_sorted s ≡ Ok sort → o ≡ Some sort
+    named o None e h = cc
+    named o (Some t) e h = let same : t ≡ sort = cc in e ∙ ap (λ (s : Sort). Some s) same
+
+    by : (b : Bool) (r : Result Sort TermFlaw)
+        → cond b (result_and_then r (λ s. or_ill_sorted (if_free s))) (Err Unsupported) ≡ Ok sort
+        → IsOfSort sort (Abstract x)
+    by false r h = cc
+    by true (Err fault) h = cc
+    by true (Ok s) h = free-fits s sort x (named (if_free s) (if_free s) refl h)
+qualified-fits (Some sorts) _ sort is = cc
+
+-- an operator without arguments, or else an element
+unless-element-fits : ResultsAreOfTheirSorts → (z : DivisionByZero) (elements : Option SortNames) (x : List ℕ)
+    (o : Option Sort) (op : Result Op OpFault) (sort : Sort) → element_among elements x ≡ o
+    → sort_unless_element o op ≡ Ok sort → IsOfSort sort (meaning_of_op z op (Plain x) [])
+unless-element-fits law z elements x None op sort among is =
+    operator-fits law z op (Plain x) [] sort [] is tt
+unless-element-fits law z elements x (Some s) (Err ops.Unknown) sort among is =
+    let same : s ≡ sort = cc in subst (λ t. IsOfSort t (Abstract x)) same (element-fits elements x x s among)
+unless-element-fits law z elements x (Some s) (Err ops.Index) sort among is = cc
+unless-element-fits law z elements x (Some s) (Ok op) sort among is =
+    operator-fits law z (Ok op) (Plain x) [] sort [] is tt
+
+Fits-operators : ResultsAreOfTheirSorts
+    → (z : DivisionByZero) (theories : Theories) (elements : Option SortNames)
+    → Fits (unlabelled_over theories elements []) (operators z theories)
+Fits-operators law z theories elements = record {
+  called = applied-operators law z theories elements;
+  alone = λ x sort is. unless-element-fits law z elements x (element_among elements x)
+      (operator_of theories (Plain x)) sort refl is;
+}
 
 -- a first answer, where the whole is one
 first_ok : {A B : Type 0} (r : Result A TermFlaw) (next : A → Result B TermFlaw) (b : B)
@@ -85,7 +158,7 @@ first_ok (Err f) next b h = cc
 variable-fits : (names : Names) (m : Meaning) (x : List ℕ) (s : Option Sort) (e : Option Element)
     (sort : Sort) → Fits names m → IsOfSorts s e → sort_of_symbol names x s ≡ Ok sort
     → IsOfSort sort (unwrap_or e (m (Plain x) []))
-variable-fits names m x None None sort fits h is = fits (Plain x) [] sort [] is tt
+variable-fits names m x None None sort fits h is = fits.alone x sort is
 variable-fits names m x None (Some e) sort fits h is = absurd h
 variable-fits names m x (Some s) None sort fits h is = absurd h
 variable-fits names m x (Some s) (Some e) sort fits h is =
@@ -137,6 +210,7 @@ sort-other : (names : Names) (scope : List (List ℕ × Sort)) (head : Sexp) (ar
     ≡ result_and_then (applied head args)
     (λ f. result_and_then (sorts_in names scope args) (λ ss. sort_of_call names scope f ss))
 sort-other names scope (Reserved Underscore) args p h = cc
+sort-other names scope (Reserved As) args p h = cc
 sort-other names scope (Reserved Let) (Cons (Items bindings) (Cons body Nil)) p h = cc
 sort-other names scope (Reserved Bang) (Cons term attributes) p h = cc
 sort-other names scope _ _ p h = refl
@@ -187,7 +261,7 @@ module _ (N : Names) (m : Meaning) (fits : Fits (unlabelled N) m) where
       first_ok (sorts_in (unlabelled N) scope args)
       (λ ss. sort_of_call (unlabelled N) scope p.0 ss) sort p.2 in
       subst (λ o. IsOfSort sort (element_by o (λ f. m f (values_of m r args)))) (sym p.1)
-      (fits p.0 q.0 sort (values_of m r args) (call_applied (unlabelled N) scope p.0 q.0 sort q.2)
+      (fits.called p.0 q.0 sort (values_of m r args) (call_applied (unlabelled N) scope p.0 q.0 sort q.2)
       (all q.0 q.1))
 
   list-fits : (scope : List (List ℕ × Sort)) (r : List (List ℕ × Element)) (head : Sexp) (args : Sexps)
@@ -202,7 +276,8 @@ module _ (N : Names) (m : Meaning) (fits : Fits (unlabelled N) m) where
       (sym (sort-other (unlabelled N) scope head args plain other) ∙ is))
   list-fits scope r (Reserved Underscore) args sort all plain true other is =
       let p = first_ok (indexed args) (λ f. sort_applied (unlabelled N) f []) sort is in
-      subst (λ o. IsOfSort sort (element_by o (λ f. m f []))) (sym p.1) (fits p.0 [] sort [] p.2 tt)
+      subst (λ o. IsOfSort sort (element_by o (λ f. m f []))) (sym p.1)
+      (fits.called p.0 [] sort [] p.2 tt)
   list-fits scope r _ args sort all plain true other is = cc
 
   mutual
@@ -221,6 +296,7 @@ module _ (N : Names) (m : Meaning) (fits : Fits (unlabelled N) m) where
     term-fits scope r fit (Atom Keyword x) sort is = cc
     term-fits scope r fit (Reserved word) sort is = cc
     term-fits scope r fit (Items Nil) sort is = cc
+    term-fits scope r fit (Items (Cons (Reserved As) parts)) sort is = qualified-fits N.elements parts sort is
     term-fits scope r fit (Items (Cons (Reserved Let) (Cons (Items bindings) (Cons body Nil)))) sort is =
         let p = first_ok (bound_in (unlabelled N) scope [] bindings)
         (λ bound. sort_in (unlabelled N) (bound ++ scope) body) sort
@@ -289,8 +365,8 @@ FitsScope-zip (p ∷ ps) (s ∷ sorts) (e ∷ es) h x = by_name (bytes_eq x p) s
 -- ---- definitions
 
 -- the names of entries
-abbrev pub names_over : Theories → List Entry → Names
-names_over theories es = unlabelled_over theories es
+abbrev pub names_over : Theories → Option SortNames → List Entry → Names
+names_over theories elements es = unlabelled_over theories elements es
 
 option_or_none : {A : Type 0} (o : Option A) → option_or o None ≡ o
 option_or_none None = refl
@@ -368,67 +444,93 @@ name-fits same rank sorts sort is = by (are_exactly rank.parameters sorts) refl 
     by false all is = cc
 
 -- what a definition gives
-definition-fits : (theories : Theories) (earlier : List Entry) (m : Meaning) (sorts : List Sort) (sort : Sort)
-    (origin : Origin) (es : List Element) → Fits (names_over theories earlier) m
-    → IsWellSortedFrom (names_over theories earlier) sorts sort origin → AreOfSorts sorts es
+definition-fits : (theories : Theories) (elements : Option SortNames) (earlier : List Entry) (m : Meaning)
+    (sorts : List Sort) (sort : Sort) (origin : Origin) (es : List Element)
+    → Fits (names_over theories elements earlier) m
+    → IsWellSortedFrom (names_over theories elements earlier) sorts sort origin → AreOfSorts sorts es
     → IsOfSort sort (defined_value m origin es)
-definition-fits theories earlier m sorts sort (Declared command) es fits sorted h = absurd sorted
-definition-fits theories earlier m sorts sort (Defined ps body) es fits sorted h =
-    term-fits (names_over theories earlier) m fits (zip ps sorts) (zip ps es)
+definition-fits theories elements earlier m sorts sort (Declared command) es fits sorted h = absurd sorted
+definition-fits theories elements earlier m sorts sort (Defined ps body) es fits sorted h =
+    term-fits (names_over theories elements earlier) m fits (zip ps sorts) (zip ps es)
     (FitsScope-zip ps sorts es h) body sort sorted.sorted
 
 -- one more definition
-Fits-with : SameSorts → (theories : Theories) (earlier : List Entry) (m : Meaning) (e : Entry)
-    → Fits (names_over theories earlier) m → IsWellSorted theories earlier e
-    → entry_named earlier e.name ≡ None
-    → Fits (names_over theories (earlier ++ e ∷ [])) (with_definition m e)
-Fits-with same theories earlier m e fits sorted fresh (Indexed f indexes) sorts sort es is h =
-    fits (Indexed f indexes) sorts sort es is h
-Fits-with same theories earlier m e fits sorted fresh (Plain f) sorts sort es is h =
-    by (bytes_eq f e.name) refl
-  where
-    sort_by : Option Rank → Result Sort TermFlaw
-    sort_by o = sort_of_plain (names_over theories (earlier ++ e ∷ [])) f o sorts
+module _ (same : SameSorts) (theories : Theories) (elements : Option SortNames) (earlier : List Entry) (m : Meaning)
+    (e : Entry) (fits : Fits (names_over theories elements earlier) m)
+    (sorted : IsWellSorted theories elements earlier e) (fresh : entry_named earlier e.name ≡ None) where
+  abbrev more : Names
+  more = names_over theories elements (earlier ++ e ∷ [])
 
-    by : (b : Bool) → bytes_eq f e.name ≡ b
-        → IsOfSort sort (cond b (defined_value m e.origin es) (m (Plain f) es))
-    by true is_name =
-        let none = no_rank earlier f (ap (λ n. entry_named earlier n) (same_name f e.name is_name) ∙ fresh) in
-        let ranked : look_up (ranks_of (earlier ++ e ∷ [])) f ≡ Some (rank_of_entry e) =
-        look_up-more earlier e f ∙ ap
-        (λ o. option_or o (cond (bytes_eq f e.name) (Some (rank_of_entry e)) None)) none ∙ ap
-        (λ b. cond b (Some (rank_of_entry e)) None) is_name in
-        let p = name-fits same (rank_of_entry e) sorts sort (sym (ap sort_by ranked) ∙ is) in
-        subst (λ s. IsOfSort s (defined_value m e.origin es)) p.1
-        (definition-fits theories earlier m e.parameters e.sort e.origin es fits sorted
-        (subst (λ ss. AreOfSorts ss es) p.0 h))
-    by false other =
-        fits (Plain f) sorts sort es
-        (sym (ap sort_by (look_up-more earlier e f ∙ ap
-        (λ b. option_or (look_up (ranks_of earlier) f) (cond b (Some (rank_of_entry e)) None)) other ∙
-        option_or_none (look_up (ranks_of earlier) f))) ∙ is) h
+  -- its own name has its rank
+  rank-here : (x : List ℕ) → bytes_eq x e.name ≡ true → look_up more.ranks x ≡ Some (rank_of_entry e)
+  rank-here x is_name =
+      look_up-more earlier e x
+      ∙ ap (λ o. option_or o (cond (bytes_eq x e.name) (Some (rank_of_entry e)) None))
+      (no_rank earlier x (ap (λ n. entry_named earlier n) (same_name x e.name is_name) ∙ fresh))
+      ∙ ap (λ b. cond b (Some (rank_of_entry e)) None) is_name
+
+  -- another name the rank of before
+  rank-there : (x : List ℕ) → bytes_eq x e.name ≡ false → look_up more.ranks x ≡ look_up (ranks_of earlier) x
+  rank-there x other =
+      look_up-more earlier e x
+      ∙ ap (λ b. option_or (look_up (ranks_of earlier) x) (cond b (Some (rank_of_entry e)) None)) other
+      ∙ option_or_none (look_up (ranks_of earlier) x)
+
+  defined-fits : (sorts : List Sort) (sort : Sort) (es : List Element)
+      → sort_of_name (rank_of_entry e) sorts ≡ Ok sort → AreOfSorts sorts es
+      → IsOfSort sort (defined_value m e.origin es)
+  defined-fits sorts sort es is h =
+      let p = name-fits same (rank_of_entry e) sorts sort is in
+      subst (λ s. IsOfSort s (defined_value m e.origin es)) p.1
+      (definition-fits theories elements earlier m e.parameters e.sort e.origin es fits sorted
+      (subst (λ ss. AreOfSorts ss es) p.0 h))
+
+  applied-with : FitsApplied more (with_definition m e)
+  applied-with (Indexed f indexes) sorts sort es is h = fits.called (Indexed f indexes) sorts sort es is h
+  applied-with (Plain f) sorts sort es is h = by (bytes_eq f e.name) refl
+    where
+      by : (b : Bool) → bytes_eq f e.name ≡ b
+          → IsOfSort sort (cond b (defined_value m e.origin es) (m (Plain f) es))
+      by true here =
+          defined-fits sorts sort es (sym (ap (λ o. sort_of_plain more f o sorts) (rank-here f here)) ∙ is) h
+      by false other = fits.called (Plain f) sorts sort es
+          (sym (ap (λ o. sort_of_plain more f o sorts) (rank-there f other)) ∙ is) h
+
+  alone-with : FitsAlone more (with_definition m e)
+  alone-with x sort is = by (bytes_eq x e.name) refl
+    where
+      by : (b : Bool) → bytes_eq x e.name ≡ b
+          → IsOfSort sort (cond b (defined_value m e.origin []) (m (Plain x) []))
+      by true here =
+          defined-fits [] sort [] (sym (ap (λ o. sort_alone more x o) (rank-here x here)) ∙ is) tt
+      by false other = fits.alone x sort (sym (ap (λ o. sort_alone more x o) (rank-there x other)) ∙ is)
+
+  Fits-with : Fits more (with_definition m e)
+  Fits-with = record { called = applied-with; alone = alone-with }
 
 -- and any
-Fits-after : SameSorts → (theories : Theories) (earlier es : List Entry) (m : Meaning)
-    → Fits (names_over theories earlier) m → AreWellSorted theories earlier es → AreDistinct (earlier ++ es)
-    → Fits (names_over theories (earlier ++ es)) (meaning_after m es)
-Fits-after same theories earlier [] m fits sorted distinct =
-    subst (λ ds. Fits (names_over theories ds) m) (sym (append-nil earlier)) fits
-Fits-after same theories earlier (e ∷ es) m fits sorted distinct =
+Fits-after : SameSorts → (theories : Theories) (elements : Option SortNames) (earlier es : List Entry)
+    (m : Meaning) → Fits (names_over theories elements earlier) m → AreWellSorted theories elements earlier es
+    → AreDistinct (earlier ++ es) → Fits (names_over theories elements (earlier ++ es)) (meaning_after m es)
+Fits-after same theories elements earlier [] m fits sorted distinct =
+    subst (λ ds. Fits (names_over theories elements ds) m) (sym (append-nil earlier)) fits
+Fits-after same theories elements earlier (e ∷ es) m fits sorted distinct =
     let together = append_assoc earlier (e ∷ []) es in
-    subst (λ ds. Fits (names_over theories ds) (meaning_after (with_definition m e) es)) together
-    (Fits-after same theories (earlier ++ e ∷ []) es (with_definition m e)
-    (Fits-with same theories earlier m e fits sorted.0 (none_before earlier e es distinct)) sorted.1
+    subst (λ ds. Fits (names_over theories elements ds) (meaning_after (with_definition m e) es)) together
+    (Fits-after same theories elements (earlier ++ e ∷ []) es (with_definition m e)
+    (Fits-with same theories elements earlier m e fits sorted.0 (none_before earlier e es distinct)) sorted.1
     (subst AreDistinct (sym together) distinct))
 
 -- the value of a well-sorted term is of its sort
 pub sorted-value : ResultsAreOfTheirSorts → SameSorts
     → (z : DivisionByZero) (definitions : Signature) (scope : List (List ℕ × Sort))
     (r : List (List ℕ × Element)) (term : Sexp) (sort : Sort)
-    → AreWellSorted definitions.theories [] definitions.entries → AreDistinct definitions.entries
+    → AreWellSorted definitions.theories definitions.elements [] definitions.entries
+    → AreDistinct definitions.entries
     → FitsScope scope r → sort_in (unlabelled (names_of definitions)) scope term ≡ Ok sort
     → IsOfSort sort (value_of (meaning_in z definitions) r term)
 sorted-value law same z definitions scope r term sort sorted distinct fit is =
     term-fits (names_of definitions) (meaning_in z definitions)
-    (Fits-after same definitions.theories [] definitions.entries (operators z definitions.theories)
-    (Fits-operators law z definitions.theories) sorted distinct) scope r fit term sort is
+    (Fits-after same definitions.theories definitions.elements [] definitions.entries
+    (operators z definitions.theories)
+    (Fits-operators law z definitions.theories definitions.elements) sorted distinct) scope r fit term sort is

@@ -1,5 +1,5 @@
 -- A node of a script costs what its term does over the structure that a model gives to the script.
-use Rattle.std.proofs.Common.{◌≡◌, ◌≤◌, ℕ, ◌+◌, List, [], length, map, slice_get, Some, ap, sym}
+use Rattle.std.proofs.Common.{◌≡◌, ◌≤◌, ℕ, ◌+◌, List, [], length, map, slice_get, Some, None, ap, sym}
 use Rattle.std.proofs.Common.{◌∙◌, subst, arith}
 use Rattle.std.proofs.Math.Seq.{take-length}
 use Rattle.std.proofs.lemmas.List.{length-map}
@@ -21,9 +21,9 @@ use Rattle.smt_eval.proofs.NodeCostLemmas.{HasRowCosts}
 use Rattle.smt_eval.proofs.NodeLeastLemmas.{HasRowLeasts, term_counts}
 use Rattle.smt_eval.proofs.NodeNameCostLemmas.{IsCostAt, called_costs, calls_cost, closed_costs, costs_its_nodes}
 use Rattle.smt_eval.proofs.NodeNameLemmas.{HasNames}
-use Rattle.smt_eval.proofs.PlaceLemmas.{at_left, at_right}
-use Rattle.smt_eval.proofs.StructureNodeLemmas.{all_seen, at_map, denotes_within, model_names, script_names}
-use Rattle.smt_eval.proofs.StructureNodeLemmas.{seen, within}
+use Rattle.smt_eval.proofs.PlaceLemmas.{at_left, at_right, within}
+use Rattle.smt_eval.proofs.StructureNodeLemmas.{all_seen, at_map, denotes_within, model_names, names_counted}
+use Rattle.smt_eval.proofs.StructureNodeLemmas.{script_names, seen}
 use Rattle.smt_eval.specs.Cost.{cost_of, cost_over, costs_in}
 use Rattle.smt_eval.specs.Internal.DefinitionValues.{AllDefined}
 use Rattle.smt_eval.specs.Least.{least_of}
@@ -37,7 +37,7 @@ module _ (has : (nodes : List machine.Node) (i : ℕ) (frame : Frame)
     (model script : Table) (declared : List ℕ) (names definitions : Signature)
     (terms : AreTermsOf script names) (bodies : AreTermsOf model definitions)
     (all : AllDefined definitions.entries) (theories : definitions.theories ≡ names.theories)
-    (distinct : AreDistinct (structure_of names definitions).entries)
+    (elements : names.elements ≡ None) (distinct : AreDistinct (structure_of names definitions).entries)
     (gives : GivesBodies declared names definitions model.bodies) where
   abbrev nodes : List machine.Node
   nodes = nodes_over model script declared
@@ -64,14 +64,15 @@ module _ (has : (nodes : List machine.Node) (i : ℕ) (frame : Frame)
   around_of row = row.around
 
   abbrev names_of_model : HasNames (given nodes) 0 [] model definitions.entries whole (λ n. n)
-  names_of_model = model_names has model script declared names definitions terms bodies all theories distinct gives
+  names_of_model =
+      model_names has model script declared names definitions terms bodies all theories elements distinct gives
 
   abbrev seen_of : ℕ → ℕ
-  seen_of = seen has model script declared names definitions terms bodies all theories distinct gives
+  seen_of = seen has model script declared names definitions terms bodies all theories elements distinct gives
 
   abbrev names_of_script : HasNames (given nodes) count declared script names.entries whole seen_of
   names_of_script =
-      script_names has model script declared names definitions terms bodies all theories distinct gives
+      script_names has model script declared names definitions terms bodies all theories elements distinct gives
 
   -- the node of a row of the script, and the annotations round it
   script_at : (k : ℕ) (row : Row) → slice_get script.rows k ≡ Some row
@@ -135,15 +136,19 @@ module _ (has : (nodes : List machine.Node) (i : ℕ) (frame : Frame)
   abbrev all_names : ℕ
   all_names = length script.heads
 
+  counted_names : all_names ≡ length names.entries
+  counted_names =
+      names_counted has model script declared names definitions terms bodies all theories elements distinct gives
+
   pub node_has_cost : (around i : ℕ) (term : Sexp) → Denotes script [] 0 around i term
       → c (count + i) ≡ around + cost_over whole term
   node_has_cost around i term denotes =
       closed_costs (given nodes) count declared script names.entries whole seen_of names_of_script c
-      script_rows given_costs all_names around i term
+      script_rows given_costs all_names around i term (omega (arith, counted_names))
       (subst (λ hs. Denotes (record script { heads = hs }) [] 0 around i term) (sym (take-length script.heads))
       denotes)
       ∙ ap (λ d. around + cost_of (costs_in d) [] term)
-      (all_seen has model script declared names definitions terms bodies all theories distinct gives)
+      (all_seen has model script declared names definitions terms bodies all theories elements distinct gives)
 
   -- ---- what the node takes at least
 

@@ -10,7 +10,8 @@ use Rattle.smt_terms.specs.Library.{defined_among, is_declared}
 use Rattle.smt_terms.specs.Signature.{AreDistinct, Entry, Origin, Declared, Defined, IsDeclared, Signature}
 use Rattle.smt_terms.specs.Signature.{declared_named, entry_named, if_declared, names_of, rank_of_entry}
 use Rattle.smt_terms.specs.Signature.{ranks_of, unlabelled_over}
-use Rattle.smt_terms.specs.Freshness.{is_taken}
+use Rattle.smt_terms.specs.Freshness.{is_element, is_taken, item_elements}
+use Rattle.smt_terms.specs.SortTrees.{SortNames}
 use Rattle.smt_terms.specs.WellSorted.{AreWellSorted, IsWellSortedFrom}
 use Rattle.smt_eval.specs.Internal.DefinitionValues.{AllDefined, IsDefined}
 use Rattle.smt_eval.specs.Structure.{structure_of}
@@ -19,22 +20,22 @@ use Rattle.smt_eval.proofs.CompleteModelLemmas.{AreFree, AreSound, AreSound-from
 use Rattle.smt_eval.proofs.PlaceLemmas.{declared_alone, none_among, none_in_both}
 
 -- definitions that are well sorted are definitions
-pub sorted_defined : (theories : Theories) (before es : List Entry) → AreWellSorted theories before es
-    → AllDefined es
-sorted_defined theories before [] h = tt
-sorted_defined theories before (e ∷ es) h =
-    (by e.origin refl, sorted_defined theories (before ++ e ∷ []) es h.1)
+pub sorted_defined : (theories : Theories) (elements : Option SortNames) (before es : List Entry)
+    → AreWellSorted theories elements before es → AllDefined es
+sorted_defined theories elements before [] h = tt
+sorted_defined theories elements before (e ∷ es) h =
+    (by e.origin refl, sorted_defined theories elements (before ++ e ∷ []) es h.1)
   where
     by : (o : Origin) → e.origin ≡ o → IsDefined e.origin
     by (Defined ps body) is = subst IsDefined (sym is) tt
     by (Declared command) is = absurd
-        (subst (λ (o : Origin). IsWellSortedFrom (unlabelled_over theories before) e.parameters e.sort o) is
-        h.0)
+        (subst (λ (o : Origin). IsWellSortedFrom (unlabelled_over theories elements before) e.parameters e.sort o)
+        is h.0)
 
 -- items are definitions
 pub items_defined : TakenAreItems → (script : Signature) (items : Sexps) (found : List Entry)
     → items_from script [] 1 items ≡ Ok found → AllDefined found
-items_defined law script items found read = sorted_defined script.theories [] found
+items_defined law script items found read = sorted_defined script.theories (item_elements script) [] found
     (AreSound-from law script [] 1 items found
     (record { sorted = tt; distinct = tt; ranked = tt; free = tt }) read).sorted
 
@@ -71,6 +72,18 @@ rank_named (e ∷ es) x = by (bytes_eq x e.name) (rank_named es x)
     by true rest = refl
     by false rest = rest
 
+-- a name that has a rank is taken
+pub taken_named : (s : Signature) (x : List ℕ) → is_some (look_up (ranks_of s.entries) x) ≡ true
+    → is_taken (names_of s) x ≡ true
+taken_named s x some =
+    by (is_element (names_of s) x) (is_some (look_up (ranks_of s.entries) x)) (is_plain_operator s.theories x)
+    some
+  where
+    by : (a b c : Bool) → b ≡ true → a || b || c ≡ true
+    by true b c h = refl
+    by false true c h = refl
+    by false false c h = cc
+
 -- a name that is free, unless it was declared, is no definition's
 apart_of_free : (script : Signature) (e : Entry) → AreDistinct script.entries → IsFree script e
     → entry_named (defined_among script.entries) e.name ≡ None
@@ -78,8 +91,8 @@ apart_of_free script e distinct free = by (entry_named script.entries e.name) re
   where
     taken : (c : Entry) → entry_named script.entries e.name ≡ Some c
         → is_taken (names_of script) e.name ≡ true
-    taken c at = ap (λ o. is_some o || is_plain_operator script.theories e.name)
-        (rank_named script.entries e.name ∙ ap (option_map rank_of_entry) at)
+    taken c at = taken_named script e.name
+        (ap is_some (rank_named script.entries e.name ∙ ap (option_map rank_of_entry) at))
 
     found : (c : Entry) → entry_named script.entries e.name ≡ Some c → (o : Origin) → c.origin ≡ o
         → entry_named (defined_among script.entries) e.name ≡ None

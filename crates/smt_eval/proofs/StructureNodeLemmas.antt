@@ -1,5 +1,5 @@
 -- A node of a script gives what is known of its term over the structure that a model gives to the script.
-use Rattle.std.proofs.Common.{◌≡◌, ◌<◌, ℕ, zero, suc, ◌+◌, Bool, true, false, cond, not, List, [], ◌∷◌}
+use Rattle.std.proofs.Common.{◌≡◌, ◌<◌, ◌≤◌, ◌++◌, ℕ, zero, suc, ◌+◌, Bool, true, false, cond, not, List, [], ◌∷◌}
 use Rattle.std.proofs.Common.{length, map, take, slice_get, Option, Some, None, refl, ap, sym, ◌∙◌, subst, arith}
 use Rattle.std.proofs.Common.{length-append}
 use Rattle.std.proofs.Math.Seq.{take-length}
@@ -8,8 +8,10 @@ use Rattle.std.specs.List.{All}
 use Rattle.std.specs.Prelude.{bytes_eq}
 use Rattle.smt_trees.specs.Sexp.{Sexp, Atom, Reserved, Items, Nil, Cons, Numeral, Hexadecimal, Binary}
 use Rattle.smt_trees.specs.Sexp.{Symbol}
-use Rattle.smt_trees.specs.declared.reserved.Word.TheVariants.{Bang, Let, Underscore}
+use Rattle.smt_trees.specs.declared.reserved.Word.TheVariants.{As, Bang, Let, Underscore}
 use Rattle.smt_theory.specs.Operators.{is_plain_operator}
+use Rattle.smt_theory.specs.Words.{look_up}
+use Rattle.smt_theory.specs.declared.sort.Sort.{Sort}
 use Rattle.smt_theory.specs.declared.theories.Theories.{Theories}
 use Rattle.smt_forms.specs.Labels.{labels_among}
 use Rattle.smt_nodes.specs.Node.{Node, Row}
@@ -18,15 +20,18 @@ use Rattle.smt_machine.specs.Nodes as machine
 use Rattle.smt_machine.specs.Nodes.{Frame, node_value}
 use Rattle.smt_machine.specs.Tables.{resolved}
 use Rattle.smt_terms.specs.Denotes.{Denotes, Head, IsNameOf, IsRow, Slots, Table, UsesNone, unless_labelled}
+use Rattle.smt_terms.specs.Elements.{element_among}
 use Rattle.smt_terms.specs.Library.{declared_among, defined_among, is_declared}
 use Rattle.smt_terms.specs.Signature.{AreDistinct, Entry, Origin, Declared, Defined, Signature, entry_named}
-use Rattle.smt_terms.specs.TermsOf.{AreTermsOf, first_heads, heads_from, with_declared, with_defined}
+use Rattle.smt_terms.specs.TermsOf.{AreTermsOf, first_heads, heads_from, place_behind, with_declared}
+use Rattle.smt_terms.specs.TermsOf.{with_defined}
+use Rattle.smt_terms.specs.SortTrees.{SortNames}
 use Rattle.smt_eval.proofs.EvaluatorLemmas.{all_first}
 use Rattle.smt_eval.proofs.HeadLemmas.{IsBodyOf, body_at, none_declared}
 use Rattle.smt_eval.proofs.NameLemmas.{same_name}
 use Rattle.smt_eval.proofs.NodeNameLemmas.{HasNames, IsGivenAt, calls_are_given, closed_given}
 use Rattle.smt_eval.proofs.NodeNameLemmas.{called}
-use Rattle.smt_eval.proofs.PlaceLemmas.{at_left, at_right, none_among, none_in_both}
+use Rattle.smt_eval.proofs.PlaceLemmas.{at_left, at_right, none_among, none_in_both, within}
 use Rattle.smt_eval.specs.Internal.DefinitionValues.{AllDefined, IsDefined, first}
 use Rattle.smt_eval.specs.Known.{known_in, known_of, known_over}
 use Rattle.smt_eval.specs.NodeValues.{GivesBodies, nodes_over}
@@ -39,11 +44,6 @@ pub at_map : {A B : Type 0} (f : A → B) (xs : List A) (k : ℕ) (x : A) → sl
 at_map f [] k x h = cc
 at_map f (y ∷ xs) zero x h = let is : y ≡ x = cc in ap (λ z. Some (f z)) is
 at_map f (y ∷ xs) (suc k) x h = at_map f xs k x h
-
-pub within : {A : Type 0} (xs : List A) (k : ℕ) (x : A) → slice_get xs k ≡ Some x → k < length xs
-within [] k x h = cc
-within (y ∷ xs) zero x h = omega arith
-within (y ∷ xs) (suc k) x h = let w = within xs k x h in omega (arith, w)
 
 heads_counted : (declared defined : ℕ) (es : List Entry) → length (heads_from declared defined es) ≡ length es
 heads_counted declared defined [] = refl
@@ -114,6 +114,34 @@ not_named theories (e ∷ es) x free plain =
         cc
     by false same rest = rest
 
+-- ---- names that have no head
+
+not_headed : (declared defined n : ℕ) (es more : List Entry) (x : List ℕ) → n ≤ length es
+    → look_up (take n (heads_from declared defined es)) x ≡ None → entry_named (take n (es ++ more)) x ≡ None
+not_headed declared defined zero [] [] x h none = refl
+not_headed declared defined zero [] (d ∷ more) x h none = refl
+not_headed declared defined (suc n) [] more x h none = absurd (omega (arith, h))
+not_headed declared defined zero (e ∷ es) more x h none = refl
+not_headed declared defined (suc n) (e ∷ es) more x h none = by (bytes_eq x e.name) none
+    (not_headed (with_declared declared e.origin) (with_defined defined e.origin) n es more x
+    (omega (arith, h)))
+  where
+    rest : Option Head
+    rest = look_up (take n (heads_from (with_declared declared e.origin) (with_defined defined e.origin) es)) x
+
+    by : (b : Bool)
+        → cond b (Some (record { place = place_behind declared defined e.origin; arity = length e.parameters }))
+        rest ≡ None
+        → (rest ≡ None → entry_named (take n (es ++ more)) x ≡ None)
+        → cond b (Some e) (entry_named (take n (es ++ more)) x) ≡ None
+    by true none next = cc
+    by false none next = next none
+
+no_element : (elements : Option SortNames) (x : List ℕ) (sort : Sort) → elements ≡ None
+    → element_among elements x ≡ Some sort → ⊥
+no_element None x sort is among = cc
+no_element (Some sorts) x sort is among = cc
+
 -- ---- a node that stands for a term is a row
 
 row_within : (rows : List Row) (i around : ℕ) (o : Option Node) → IsRow (slice_get rows i) around o
@@ -132,6 +160,7 @@ denotes_within t slots next around i (Atom Hexadecimal x) d = row_within t.rows 
 denotes_within t slots next around i (Atom Binary x) d = row_within t.rows i around _ d.0
 denotes_within t slots next around i (Items (Cons (Reserved Underscore) parts)) d =
     row_within t.rows i around _ d.2.0
+denotes_within t slots next around i (Items (Cons (Reserved As) parts)) d = row_within t.rows i around _ d.0
 denotes_within t slots next around i (Items (Cons (Reserved Let) (Cons (Items bs) (Cons body Nil)))) d =
     row_within t.rows i around _ d.2.0
 denotes_within t slots next around i (Items (Cons (Reserved Bang) (Cons term attributes))) d =
@@ -153,7 +182,7 @@ module _ (has : (nodes : List machine.Node) (i : ℕ) (frame : Frame)
     (model script : Table) (declared : List ℕ) (names definitions : Signature)
     (terms : AreTermsOf script names) (bodies : AreTermsOf model definitions)
     (all : AllDefined definitions.entries) (theories : definitions.theories ≡ names.theories)
-    (distinct : AreDistinct (structure_of names definitions).entries)
+    (elements : names.elements ≡ None) (distinct : AreDistinct (structure_of names definitions).entries)
     (gives : GivesBodies declared names definitions model.bodies) where
   abbrev pub g : machine.Giving
   g = given (nodes_over model script declared)
@@ -189,6 +218,8 @@ module _ (has : (nodes : List machine.Node) (i : ℕ) (frame : Frame)
     bodies = bodies.bodies;
     distinct = distinct;
     free = free_of_operators;
+    apart = λ n x sort h none among. not_headed 0 0 n definitions.entries (defined_among names.entries) x h
+        (ap (λ hs. look_up (take n hs) x) (sym bodies.heads) ∙ none);
     placed = λ q e at is. at_left definitions.entries (defined_among names.entries) q e at;
     grows = λ q n e at is h. h;
     given = λ k e at. absurd (none_declared definitions.entries k e all at);
@@ -230,6 +261,7 @@ module _ (has : (nodes : List machine.Node) (i : ℕ) (frame : Frame)
     bodies = terms.bodies;
     distinct = distinct;
     free = free_of_operators;
+    apart = λ n x sort h none among. absurd (no_element script.elements x sort (terms.elements ∙ elements) among);
     placed = λ q e at is. at_right definitions.entries (defined_among names.entries) (seen q)
         (defined_before names.entries q) e refl (defined_at names.entries q e at is);
     grows = λ q n e at is h. let more = defined_grows names.entries q n e at is h in omega (arith, more);
@@ -240,7 +272,7 @@ module _ (has : (nodes : List machine.Node) (i : ℕ) (frame : Frame)
   abbrev pub all_names : ℕ
   all_names = length script.heads
 
-  names_counted : all_names ≡ length names.entries
+  pub names_counted : all_names ≡ length names.entries
   names_counted = ap (λ (hs : List (List ℕ × Head)). length hs) terms.heads ∙ heads_counted 0 0 names.entries
 
   pub all_seen : first (seen all_names) whole ≡ whole
@@ -253,6 +285,7 @@ module _ (has : (nodes : List machine.Node) (i : ℕ) (frame : Frame)
       → g (count + i) [] ≡ known_over whole term
   node_gives_value around i term denotes =
       closed_given g count declared script names.entries whole seen script_names all_names around i term
+      (omega (arith, names_counted))
       (subst (λ hs. Denotes (record script { heads = hs }) [] 0 around i term) (sym (take-length script.heads))
       denotes)
       ∙ ap (λ d. known_of (known_in d) [] term) all_seen

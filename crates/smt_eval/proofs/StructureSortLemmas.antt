@@ -15,7 +15,8 @@ use Rattle.smt_terms.specs.Library.{defined_among, is_declared}
 use Rattle.smt_terms.specs.Signature.{AreDistinct, Entry, IsDeclared, KeepsRank, Names, Origin, Declared}
 use Rattle.smt_terms.specs.Signature.{Defined, Rank, Signature, declared_named, entry_named, if_declared}
 use Rattle.smt_terms.specs.Signature.{names_of, rank_of_entry, ranks_of, unlabelled_over}
-use Rattle.smt_terms.specs.Freshness.{is_taken}
+use Rattle.smt_terms.specs.Freshness.{is_element, is_taken, item_elements}
+use Rattle.smt_terms.specs.SortTrees.{SortNames}
 use Rattle.smt_terms.specs.WellSorted.{AreIntroduced, AreWellSorted, IsDefinition, IsSortedIfDefined}
 use Rattle.smt_terms.specs.WellSorted.{IsWellSortedFrom, Keeps}
 use Rattle.smt_eval.proofs.NameLemmas.{same_name, same_self}
@@ -23,7 +24,7 @@ use Rattle.smt_eval.specs.CompleteModel.{IsModelOf}
 use Rattle.smt_eval.specs.Structure.{IsStructure, structure_of}
 use Rattle.smt_eval.proofs.CompleteModelLemmas.{AreFree, AreSound}
 use Rattle.smt_eval.proofs.PlaceLemmas.{none_among}
-use Rattle.smt_eval.proofs.StructureLemmas.{rank_named, structure_distinct}
+use Rattle.smt_eval.proofs.StructureLemmas.{rank_named, structure_distinct, taken_named}
 
 -- ---- entries by name
 
@@ -82,7 +83,7 @@ found_defined (c ∷ es) x e defined h =
 
 -- a name that is introduced is no operator's
 introduced_free : (theories : Theories) (earlier es : List Entry) (x : List ℕ) (e : Entry)
-    → AreIntroduced theories earlier es → entry_named es x ≡ Some e → is_plain_operator theories x ≡ false
+    → AreIntroduced theories None earlier es → entry_named es x ≡ Some e → is_plain_operator theories x ≡ false
 introduced_free theories earlier [] x e all h = absurd (cc)
 introduced_free theories earlier (c ∷ es) x e all h =
     by (bytes_eq x c.name) refl h (introduced_free theories (earlier ++ c ∷ []) es x e all.1)
@@ -95,14 +96,15 @@ introduced_free theories earlier (c ∷ es) x e all h =
 
 -- ---- definitions, one after another
 
-sorted_both : (theories : Theories) (earlier xs ys : List Entry) → AreWellSorted theories earlier xs
-    → AreWellSorted theories (earlier ++ xs) ys → AreWellSorted theories earlier (xs ++ ys)
-sorted_both theories earlier [] ys h g =
-    subst (λ (es : List Entry). AreWellSorted theories es ys) (append-nil earlier) g
-sorted_both theories earlier (x ∷ xs) ys h g = (
+sorted_both : (theories : Theories) (elements : Option SortNames) (earlier xs ys : List Entry)
+    → AreWellSorted theories elements earlier xs → AreWellSorted theories elements (earlier ++ xs) ys
+    → AreWellSorted theories elements earlier (xs ++ ys)
+sorted_both theories elements earlier [] ys h g =
+    subst (λ (es : List Entry). AreWellSorted theories elements es ys) (append-nil earlier) g
+sorted_both theories elements earlier (x ∷ xs) ys h g = (
   h.0,
-  sorted_both theories (earlier ++ x ∷ []) xs ys h.1
-      (subst (λ (es : List Entry). AreWellSorted theories es ys)
+  sorted_both theories elements (earlier ++ x ∷ []) xs ys h.1
+      (subst (λ (es : List Entry). AreWellSorted theories elements es ys)
       (sym (append_assoc earlier (x ∷ []) xs)) g),
 )
 
@@ -124,14 +126,19 @@ abbrev pub SortsAreKept : Type 0
 SortsAreKept = (names more : Names) (scope : List (List ℕ × Sort)) (term : Sexp) (sort : Sort)
     → Keeps names more → sort_in names scope term ≡ Ok sort → sort_in more scope term ≡ Ok sort
 
-module _ (law : SortsAreKept) (s d : Signature) (introduced : AreIntroduced s.theories [] s.entries)
-    (sorted : AreWellSorted s.theories [] d.entries)
+module _ (law : SortsAreKept) (s d : Signature) (elements : Option SortNames)
+    (introduced : AreIntroduced s.theories None [] s.entries)
+    (sorted : AreWellSorted s.theories elements [] d.entries)
     (complete : (x : List ℕ) (e : Entry) → entry_named s.entries x ≡ Some e → IsDeclared e.origin
     → KeepsRank e (entry_named d.entries x))
     (free : (x : List ℕ) → is_some (entry_named d.entries x) ≡ true → declared_named s.entries x ≡ None
     → is_taken (names_of s) x ≡ false) where
+  -- the names that the script's terms see, and those with the elements of the model
   abbrev over : List Entry → Names
-  over es = unlabelled_over s.theories es
+  over es = unlabelled_over s.theories None es
+
+  abbrev over_model : List Entry → Names
+  over_model es = unlabelled_over s.theories elements es
 
   -- a declared name has its rank in the model
   kept_rank : (es : List Entry) (x : List ℕ) (e : Entry) (o : Option Entry) → entry_named d.entries x ≡ o
@@ -159,11 +166,10 @@ module _ (law : SortsAreKept) (s d : Signature) (introduced : AreIntroduced s.th
           declared_of (Some c) = if_declared c c.origin
 
       clash : is_taken (names_of s) x ≡ false → ⊥
-      clash h = taken (is_some (look_up (ranks_of s.entries) x)) (is_plain_operator s.theories x)
-          (ap is_some (rank_named s.entries x ∙ ap (option_map rank_of_entry) at)) h
-        where
-          taken : (b c : Bool) → b ≡ true → b || c ≡ false → ⊥
-          taken b c is h = absurd (cc)
+      clash h =
+          let both : true ≡ false = sym (taken_named s x
+          (ap is_some (rank_named s.entries x ∙ ap (option_map rank_of_entry) at))) ∙ h in
+          absurd (cc)
 
   ranks_stay : (pre rest : List Entry) → s.entries ≡ pre ++ rest → (x : List ℕ) (rank : Rank)
       → look_up (ranks_of pre) x ≡ Some rank
@@ -199,9 +205,10 @@ module _ (law : SortsAreKept) (s d : Signature) (introduced : AreIntroduced s.th
       (ap is_some (sym (rank_named (d.entries ++ defined_among pre) x)) ∙ some) in
       by none there (entry_named d.entries x) refl (entry_named s.entries x) refl
     where
-      second : (b c : Bool) → b || c ≡ false → c ≡ false
-      second true c h = absurd (cc)
-      second false c h = h
+      last_of : (a b c : Bool) → a || b || c ≡ false → c ≡ false
+      last_of true b c h = absurd (cc)
+      last_of false true c h = absurd (cc)
+      last_of false false c h = h
 
       by : entry_named (defined_among pre) x ≡ None
           → is_some (entry_named (d.entries ++ defined_among pre) x) ≡ true → (o : Option Entry)
@@ -212,8 +219,8 @@ module _ (law : SortsAreKept) (s d : Signature) (introduced : AreIntroduced s.th
         where
           no : false ≡ true → ⊥
           no h = absurd (cc)
-      by none there (Some f) is None found = second (is_some (look_up (ranks_of s.entries) x))
-          (is_plain_operator s.theories x)
+      by none there (Some f) is None found = last_of (is_element (names_of s) x)
+          (is_some (look_up (ranks_of s.entries) x)) (is_plain_operator s.theories x)
           (free x (ap is_some is) (ap (λ (r : Option Entry). declared_of r) found))
         where
           declared_of : Option Entry → Option Entry
@@ -224,24 +231,26 @@ module _ (law : SortsAreKept) (s d : Signature) (introduced : AreIntroduced s.th
   definition_kept : (pre rest : List Entry) → s.entries ≡ pre ++ rest
       → (sorts : List Sort) (sort : Sort) (ps : List (List ℕ)) (body : Sexp)
       → IsDefinition (over pre) sorts sort ps body
-      → IsDefinition (over (d.entries ++ defined_among pre)) sorts sort ps body
+      → IsDefinition (over_model (d.entries ++ defined_among pre)) sorts sort ps body
   definition_kept pre rest all sorts sort ps body h =
-      let keeps : Keeps (over pre) (over (d.entries ++ defined_among pre)) =
+      let keeps : Keeps (over pre) (over_model (d.entries ++ defined_among pre)) =
       record {
         theories = refl;
+        elements = tt;
         ranks = ranks_stay pre rest all;
         labels = refl;
         fresh = λ x rank none some. stays_free pre rest all x none (ap is_some some);
+        apart = λ x rank none some. refl;
       } in
       record {
         counted = h.counted;
         different = h.different;
         sorted =
-            law (over pre) (over (d.entries ++ defined_among pre)) (zip ps sorts) body sort keeps h.sorted;
+            law (over pre) (over_model (d.entries ++ defined_among pre)) (zip ps sorts) body sort keeps h.sorted;
       }
 
-  sorted_behind : (pre rest : List Entry) → s.entries ≡ pre ++ rest → AreIntroduced s.theories pre rest
-      → AreWellSorted s.theories (d.entries ++ defined_among pre) (defined_among rest)
+  sorted_behind : (pre rest : List Entry) → s.entries ≡ pre ++ rest → AreIntroduced s.theories None pre rest
+      → AreWellSorted s.theories elements (d.entries ++ defined_among pre) (defined_among rest)
   sorted_behind pre [] all h = tt
   sorted_behind pre (e ∷ rest) all h =
       by e.origin refl h.0.sorted
@@ -254,25 +263,25 @@ module _ (law : SortsAreKept) (s d : Signature) (introduced : AreIntroduced s.th
       one o = cond (not (is_declared o)) (e ∷ []) []
 
       by : (o : Origin) → e.origin ≡ o → IsSortedIfDefined (over pre) e.parameters e.sort o
-          → AreWellSorted s.theories (d.entries ++ defined_among (pre ++ e ∷ [])) (defined_among rest)
-          → AreWellSorted s.theories (d.entries ++ defined_among pre)
+          → AreWellSorted s.theories elements (d.entries ++ defined_among (pre ++ e ∷ [])) (defined_among rest)
+          → AreWellSorted s.theories elements (d.entries ++ defined_among pre)
           (cond (not (is_declared o)) (e ∷ defined_among rest) (defined_among rest))
       by (Declared command) is here next = subst
-          (λ (es : List Entry). AreWellSorted s.theories (d.entries ++ es) (defined_among rest))
+          (λ (es : List Entry). AreWellSorted s.theories elements (d.entries ++ es) (defined_among rest))
           (more ∙ ap (λ o. defined_among pre ++ one o) is ∙ append-nil (defined_among pre)) next
       by (Defined ps body) is here next = (
-        subst (IsWellSortedFrom (over (d.entries ++ defined_among pre)) e.parameters e.sort) (sym is)
+        subst (IsWellSortedFrom (over_model (d.entries ++ defined_among pre)) e.parameters e.sort) (sym is)
             (definition_kept pre (e ∷ rest) all e.parameters e.sort ps body here),
-        subst (λ (es : List Entry). AreWellSorted s.theories es (defined_among rest))
+        subst (λ (es : List Entry). AreWellSorted s.theories elements es (defined_among rest))
             (ap (λ (es : List Entry). d.entries ++ es) (more ∙ ap (λ o. defined_among pre ++ one o) is) ∙ sym
             (append_assoc d.entries (defined_among pre) (e ∷ []))) next,
       )
 
   -- the whole structure
-  pub structure_sorted : AreWellSorted s.theories [] (structure_of s d).entries
+  pub structure_sorted : AreWellSorted s.theories elements [] (structure_of s d).entries
   structure_sorted =
-      sorted_both s.theories [] d.entries (defined_among s.entries) sorted
-      (subst (λ (es : List Entry). AreWellSorted s.theories es (defined_among s.entries))
+      sorted_both s.theories elements [] d.entries (defined_among s.entries) sorted
+      (subst (λ (es : List Entry). AreWellSorted s.theories elements es (defined_among s.entries))
       (append-nil d.entries) (sorted_behind [] s.entries refl introduced))
 
 -- ---- the structure of a model
@@ -293,7 +302,7 @@ free_at s (e ∷ es) all x some absent = by (bytes_eq x e.name) refl some (free_
 
 -- a name that came before is not introduced again
 not_again : (theories : Theories) (earlier es : List Entry) (x : List ℕ) (e : Entry)
-    → AreIntroduced theories earlier es → entry_named earlier x ≡ Some e → entry_named es x ≡ None
+    → AreIntroduced theories None earlier es → entry_named earlier x ≡ Some e → entry_named es x ≡ None
 not_again theories earlier [] x e all h = refl
 not_again theories earlier (c ∷ es) x e all h = by (bytes_eq x c.name) refl
     (not_again theories (earlier ++ c ∷ []) es x e all.1 (found_first earlier (c ∷ []) x e h))
@@ -305,7 +314,7 @@ not_again theories earlier (c ∷ es) x e all h = by (bytes_eq x c.name) refl
     by false is rest = rest
 
 -- so names that are introduced are distinct
-introduced_distinct : (theories : Theories) (earlier es : List Entry) → AreIntroduced theories earlier es
+introduced_distinct : (theories : Theories) (earlier es : List Entry) → AreIntroduced theories None earlier es
     → AreDistinct es
 introduced_distinct theories earlier [] all = tt
 introduced_distinct theories earlier (e ∷ es) all = (
@@ -315,10 +324,13 @@ introduced_distinct theories earlier (e ∷ es) all = (
 )
 
 pub structure_of_model : SortsAreKept → (s d : Signature) (parts : Sexps)
-    → AreIntroduced s.theories [] s.entries → AreSound s d.entries → IsModelOf s parts d
+    → AreIntroduced s.theories None [] s.entries → AreSound s d.entries → IsModelOf s parts d
     → IsStructure (structure_of s d)
 structure_of_model law s d parts introduced sound model = record {
-  well_sorted = subst (λ (t : Theories). AreWellSorted t [] (structure_of s d).entries) (sym model.theories)
-      (structure_sorted law s d introduced sound.sorted model.complete (free_at s d.entries sound.free));
+  well_sorted = subst (λ (t : Theories). AreWellSorted t d.elements [] (structure_of s d).entries)
+      (sym model.theories)
+      (subst (λ (o : Option SortNames). AreWellSorted s.theories o [] (structure_of s d).entries)
+      (sym model.elements) (structure_sorted law s d (item_elements s) introduced sound.sorted model.complete
+      (free_at s d.entries sound.free)));
   distinct = structure_distinct s d (introduced_distinct s.theories [] s.entries introduced) sound;
 }

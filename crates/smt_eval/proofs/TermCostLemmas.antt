@@ -1,6 +1,6 @@
 -- What a term of a library costs over an interpretation, by its number.
-use Rattle.std.proofs.Common.{◌≡◌, ◌≤◌, ℕ, ◌+◌, List, [], length, Option, Result, Ok, Err, IfOk, OnOk, ap, sym, ◌∙◌, subst}
-use Rattle.std.proofs.Common.{arith}
+use Rattle.std.proofs.Common.{◌≡◌, ◌≤◌, ℕ, ◌+◌, List, [], length, Option, None, Result, Ok, Err}
+use Rattle.std.proofs.Common.{IfOk, OnOk, ap, sym, ◌∙◌, subst, arith}
 use Rattle.smt_trees.specs.Sexp.{Sexp}
 use Rattle.smt_machine.specs.Costs.{cost, within}
 use Rattle.smt_machine.specs.Least.{least}
@@ -23,7 +23,7 @@ use Rattle.smt_eval.specs.declared.interpretation.Interpretation.{Interpretation
 abbrev pub NodesHaveCosts : Type 0
 NodesHaveCosts = (model script : Table) (declared : List ℕ) (names definitions : Signature) (around i : ℕ)
     (term : Sexp) → AreTermsOf script names → AreTermsOf model definitions
-    → AllDefined definitions.entries → definitions.theories ≡ names.theories
+    → AllDefined definitions.entries → definitions.theories ≡ names.theories → names.elements ≡ None
     → AreDistinct (structure_of names definitions).entries
     → GivesBodies declared names definitions model.bodies
     → Denotes script [] 0 around i term
@@ -45,7 +45,8 @@ pub cost_is : NodesHaveCosts → (tables : Tables) (library : Library) (interpre
 cost_is law tables library interpretation id script definitions t are names holds term =
     let model = held_terms_of interpretation.definitions in
     let whole = law model (terms_of library) interpretation.declared.items script definitions 0 id t
-    (are.named script names) holds.stands.terms holds.defined holds.theories holds.distinct holds.bodies term in
+    (are.named script names) holds.stands.terms holds.defined holds.theories holds.no_elements
+    holds.distinct holds.bodies term in
     ap (λ n. cost (nodes_of tables) (arounds_of tables) (n + id)) are.count
     ∙ ap (λ nodes. cost nodes (arounds_of tables) (length model.rows + id)) are.nodes
     ∙ ap (λ (arounds : List ℕ). cost (nodes_over model (terms_of library) interpretation.declared.items) arounds
@@ -56,7 +57,7 @@ cost_is law tables library interpretation id script definitions t are names hold
 abbrev pub NodesTakeLeast : Type 0
 NodesTakeLeast = (model script : Table) (declared : List ℕ) (names definitions : Signature) (around i : ℕ)
     (term : Sexp) → AreTermsOf script names → AreTermsOf model definitions
-    → AllDefined definitions.entries → definitions.theories ≡ names.theories
+    → AllDefined definitions.entries → definitions.theories ≡ names.theories → names.elements ≡ None
     → AreDistinct (structure_of names definitions).entries
     → GivesBodies declared names definitions model.bodies
     → Denotes script [] 0 around i term
@@ -86,7 +87,7 @@ counted_is r old new law tables library interpretation id script definitions t a
     by (Ok x) most =
         let taken = law (held_terms_of interpretation.definitions) (terms_of library) interpretation.declared.items
         script definitions 0 id t (are.named script names) holds.stands.terms holds.defined holds.theories
-        holds.distinct holds.bodies term in
+        holds.no_elements holds.distinct holds.bodies term in
         let same = ap (λ theories. least_of theories t) holds.theories in
         omega (arith, is, taken, most, same)
     by (Err e) most = tt

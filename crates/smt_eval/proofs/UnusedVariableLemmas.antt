@@ -5,7 +5,7 @@ use Rattle.std.specs.Prelude.{bytes_eq, unwrap_or}
 use Rattle.smt_trees.specs.Sexp as sexp
 use Rattle.smt_trees.specs.Sexp.{Sexp, Sexps, Atom, Reserved, Items, Nil, Cons, Symbol, Keyword, Numeral}
 use Rattle.smt_trees.specs.Sexp.{Hexadecimal, Binary}
-use Rattle.smt_trees.specs.declared.reserved.Word.TheVariants.{Bang, Let, Underscore}
+use Rattle.smt_trees.specs.declared.reserved.Word.TheVariants.{As, Bang, Let, Underscore}
 use Rattle.smt_theory.specs.Words.{look_up}
 use Rattle.smt_theory.specs.declared.sort.Sort.{Sort}
 use Rattle.smt_values.specs.Element.{Element}
@@ -52,6 +52,7 @@ module _ (m : KnownMeaning) where
     known_same inner outer r s same (Reserved word) unused = refl
     known_same inner outer r s same (Items Nil) unused = refl
     known_same inner outer r s same (Items (Cons (Reserved Underscore) parts)) unused = refl
+    known_same inner outer r s same (Items (Cons (Reserved As) parts)) unused = refl
     known_same inner outer r s same
         (Items (Cons (Reserved Let) (Cons (Items bindings) (Cons body Nil)))) unused =
         let names = map (λ b. b.0) (named_trees bindings) ++ inner in

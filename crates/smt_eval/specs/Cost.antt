@@ -3,7 +3,7 @@
 -- names a definition, the body of that, at each use. A variable hides what is defined by its name.
 use Rattle.std.specs.Prelude.{ℕ, ◌+◌, List, [], ◌∷◌, ◌++◌, map, Result, Ok, Err, if◌then◌else◌, bytes_eq}
 use Rattle.smt_trees.specs.Sexp.{Sexp, Sexps, Atom, Reserved, Items, Nil, Cons, Symbol}
-use Rattle.smt_trees.specs.declared.reserved.Word.TheVariants.{Bang, Let, Underscore}
+use Rattle.smt_trees.specs.declared.reserved.Word.TheVariants.{As, Bang, Let, Underscore}
 use Rattle.smt_forms.specs.Bindings.{named_trees}
 use Rattle.smt_forms.specs.Identifier.{Identifier, Plain, Indexed, applied, indexed}
 use Rattle.smt_forms.specs.Variables.{is_among}
@@ -25,6 +25,7 @@ abbrev mutual
   pub cost_of : BodyCosts → List (List ℕ) → Sexp → ℕ
   cost_of b variables (Atom Symbol x) = 1 + (if is_among variables x then 0 else b x)
   cost_of b variables (Items (Cons (Reserved Underscore) parts)) = 1 + head_cost b (indexed parts)
+  cost_of b variables (Items (Cons (Reserved As) parts)) = 1
   cost_of b variables (Items (Cons (Reserved Let) (Cons (Items bindings) (Cons body Nil)))) =
       1 + costs_bound b variables bindings
       + cost_of b (map (λ binding. binding.0) (named_trees bindings) ++ variables) body

@@ -1,5 +1,5 @@
 -- What a contract sees of an interpretation: the definitions that it was read from.
-use Rattle.std.specs.Prelude.{◌≡◌, ◌≤◌, ◌⊎◌, ℕ, []}
+use Rattle.std.specs.Prelude.{◌≡◌, ◌≤◌, ◌⊎◌, ℕ, [], None}
 use Rattle.smt_trees.specs.Sexp.{Sexp}
 use Rattle.smt_machine.specs.Costs.{AreCosts}
 use Rattle.smt_machine.specs.Memory.{Remembers}
@@ -13,13 +13,18 @@ use Rattle.smt_eval.specs.NodeValues.{GivesBodies, arounds_over, nodes_over}
 use Rattle.smt_eval.specs.Structure.{structure_of}
 use Rattle.smt_eval.specs.declared.interpretation.Interpretation.{Interpretation}
 
+-- the library holds a script's names; no term of it names an element of a declared sort
+abbrev pub HoldsScript : Library → Type 0
+HoldsScript library = (script : Signature) × StandsFor library script × (script.elements ≡ None)
+
 -- the interpretation holds these definitions of a model of the script's names, over the script's theories,
 -- and for each declared name the body that they give to it; in the structure of the script no two have one
--- name
+-- name. No term of the script names an element of a declared sort
 pub record IsInterpretation (interpretation : Interpretation) (script definitions : Signature) : Type 0 where
   pub stands : StandsFor interpretation.definitions definitions
   pub defined : AllDefined definitions.entries
   pub theories : definitions.theories ≡ script.theories
+  pub no_elements : script.elements ≡ None
   pub distinct : AreDistinct (structure_of script definitions).entries
   pub bodies : GivesBodies interpretation.declared.items script definitions
       (held_terms_of interpretation.definitions).bodies

@@ -1,18 +1,19 @@
 -- What is known of the value of a term: which element it is, or nothing; then the term is open. Which terms
 -- are open is this project's rule; where the value is known, it is the standard's.
 use Rattle.std.specs.Prelude.{ℕ, List, [], ◌∷◌, ◌++◌, Option, None, Result, Ok, Err, if◌then◌else◌, unwrap_or}
-use Rattle.std.specs.Prelude.{bytes_eq}
+use Rattle.std.specs.Prelude.{bytes_eq, option_and_then}
 use Rattle.std.specs.List.{zip}
 use Rattle.smt_trees.specs.Sexp.{Sexp, Sexps, Atom, Reserved, Items, Nil, Cons, Symbol, Numeral, Hexadecimal}
 use Rattle.smt_trees.specs.Sexp.{Binary}
-use Rattle.smt_trees.specs.declared.reserved.Word.TheVariants.{Bang, Let, Underscore}
+use Rattle.smt_trees.specs.declared.reserved.Word.TheVariants.{As, Bang, Let, Underscore}
 use Rattle.smt_theory.specs.Words.{look_up}
 use Rattle.smt_theory.specs.declared.op.Op.{Op}
 use Rattle.smt_theory.specs.declared.op.OpFault.{OpFault}
 use Rattle.smt_theory.specs.declared.theories.Theories.{Theories}
 use Rattle.smt_values.specs.Element.{Element}
 use Rattle.smt_values.specs.KnownOperations.{known_step}
-use Rattle.smt_values.specs.Literals.{bin_element, hex_element, numeral_element}
+use Rattle.smt_values.specs.Literals.{bin_element, hex_element, name_element, numeral_element}
+use Rattle.smt_forms.specs.ElementNames.{qualified_symbol}
 use Rattle.smt_forms.specs.Identifier.{Identifier, Plain, Indexed, applied, indexed, operator_of}
 use Rattle.smt_terms.specs.Signature.{Entry, Origin, Declared, Defined, Signature}
 use Rattle.smt_faults.specs.declared.term_flaw.TermFlaw.{TermFlaw}
@@ -34,6 +35,7 @@ abbrev mutual
   known_of m r (Atom Hexadecimal digits) = hex_element digits
   known_of m r (Atom Binary digits) = bin_element digits
   known_of m r (Items (Cons (Reserved Underscore) parts)) = known_by (indexed parts) (λ f. m f [])
+  known_of m r (Items (Cons (Reserved As) parts)) = option_and_then name_element (qualified_symbol parts)
   known_of m r (Items (Cons (Reserved Let) (Cons (Items bindings) (Cons body Nil)))) =
       known_of m (knowns_bound m r bindings ++ r) body
   known_of m r (Items (Cons (Reserved Bang) (Cons term attributes))) = known_of m r term
@@ -50,12 +52,17 @@ abbrev mutual
       (x, known_of m r term) ∷ knowns_bound m r rest
   knowns_bound m r _ = []
 
-abbrev pub known_of_op : Result Op OpFault → List (Option Element) → Option Element
-known_of_op (Ok op) args = known_step op args
-known_of_op (Err fault) args = None
+-- a symbol alone that is no operator is the element of that name
+abbrev pub other_known : Identifier → List (Option Element) → Option Element
+other_known (Plain x) [] = name_element x
+other_known f args = None
+
+abbrev pub known_of_op : Result Op OpFault → Identifier → List (Option Element) → Option Element
+known_of_op (Ok op) f args = known_step op args
+known_of_op (Err fault) f args = other_known f args
 
 abbrev pub known_operators : Theories → KnownMeaning
-known_operators theories f args = known_of_op (operator_of theories f) args
+known_operators theories f args = known_of_op (operator_of theories f) f args
 
 -- what a definition gives for arguments, where earlier names mean m
 abbrev pub known_defined : KnownMeaning → Origin → List (Option Element) → Option Element

@@ -4,7 +4,7 @@
 -- be kept.
 use Rattle.std.specs.Prelude.{ℕ, ◌+◌, List, [], ◌∷◌, Bool, false, Result, Ok, Err, if◌then◌else◌}
 use Rattle.smt_trees.specs.Sexp.{Sexp, Sexps, Atom, Reserved, Items, Nil, Cons, Symbol}
-use Rattle.smt_trees.specs.declared.reserved.Word.TheVariants.{Bang, Let, Underscore}
+use Rattle.smt_trees.specs.declared.reserved.Word.TheVariants.{As, Bang, Let, Underscore}
 use Rattle.smt_theory.specs.declared.op.Op.{Op}
 use Rattle.smt_theory.specs.declared.op.OpFault.{OpFault}
 use Rattle.smt_theory.specs.declared.theories.Theories.{Theories}
@@ -31,6 +31,7 @@ unless_kept (label ∷ labels) n = 0
 abbrev mutual
   pub least_of : Theories → Sexp → ℕ
   least_of theories (Items (Cons (Reserved Underscore) parts)) = 1
+  least_of theories (Items (Cons (Reserved As) parts)) = 1
   least_of theories (Items (Cons (Reserved Let) (Cons (Items bindings) (Cons body Nil)))) =
       1 + leasts_bound theories bindings + least_of theories body
   least_of theories (Items (Cons (Reserved Bang) (Cons term attributes))) =

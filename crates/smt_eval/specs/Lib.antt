@@ -10,6 +10,7 @@ pub mod ModelFaults
 pub mod CompleteModel
 pub mod Structure
 pub mod Substitution
+pub mod Renaming
 pub mod Interpretation
 pub mod ClosedTerm
 pub mod PlainTerm

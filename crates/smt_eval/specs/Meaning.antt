@@ -1,19 +1,20 @@
 -- SMT-LIB 2.6, section 5.3: the value of a well-sorted term in a structure, which is given by theories and
 -- definitions.
 use Rattle.std.specs.Prelude.{ℕ, pos, List, [], ◌∷◌, ◌++◌, false, Result, Ok, Err, if◌then◌else◌, bytes_eq}
-use Rattle.std.specs.Prelude.{unwrap_or}
+use Rattle.std.specs.Prelude.{Option, Some, None, unwrap_or}
 use Rattle.std.specs.List.{zip}
 use Rattle.std.specs.Str.Parse.{digits_value}
 use Rattle.smt_bits.specs.Literals.{bin_vector, hex_vector}
 use Rattle.smt_trees.specs.Sexp.{Sexp, Sexps, Atom, Reserved, Items, Nil, Cons, Symbol, Numeral, Hexadecimal}
 use Rattle.smt_trees.specs.Sexp.{Binary}
-use Rattle.smt_trees.specs.declared.reserved.Word.TheVariants.{Bang, Let, Underscore}
+use Rattle.smt_trees.specs.declared.reserved.Word.TheVariants.{As, Bang, Let, Underscore}
 use Rattle.smt_theory.specs.Words.{look_up}
 use Rattle.smt_theory.specs.declared.op.Op.{Op}
 use Rattle.smt_theory.specs.declared.op.OpFault.{OpFault}
 use Rattle.smt_theory.specs.declared.theories.Theories.{Theories}
-use Rattle.smt_values.specs.Element.{Element, Truth, Integer, Vector}
+use Rattle.smt_values.specs.Element.{Element, Truth, Integer, Vector, Abstract}
 use Rattle.smt_values.specs.Operations.{DivisionByZero, operate}
+use Rattle.smt_forms.specs.ElementNames.{qualified_symbol}
 use Rattle.smt_forms.specs.Identifier.{Identifier, Plain, Indexed, applied, indexed, operator_of}
 use Rattle.smt_terms.specs.Signature.{Entry, Origin, Declared, Defined, Signature}
 use Rattle.smt_faults.specs.declared.term_flaw.TermFlaw.{TermFlaw}
@@ -27,6 +28,11 @@ abbrev pub element_by : Result Identifier TermFlaw → (Identifier → Element) 
 element_by (Ok f) give = give f
 element_by (Err fault) give = Truth false
 
+-- the element of the symbol that stands behind an `as`
+abbrev pub element_of_symbol : Option (List ℕ) → Element
+element_of_symbol (Some x) = Abstract x
+element_of_symbol None = Truth false
+
 -- the value of a term where identifiers mean m and the variables have these values, the innermost first
 abbrev mutual
   pub value_of : Meaning → List (List ℕ × Element) → Sexp → Element
@@ -35,6 +41,7 @@ abbrev mutual
   value_of m r (Atom Hexadecimal digits) = Vector (hex_vector digits)
   value_of m r (Atom Binary digits) = Vector (bin_vector digits)
   value_of m r (Items (Cons (Reserved Underscore) parts)) = element_by (indexed parts) (λ f. m f [])
+  value_of m r (Items (Cons (Reserved As) parts)) = element_of_symbol (qualified_symbol parts)
   value_of m r (Items (Cons (Reserved Let) (Cons (Items bindings) (Cons body Nil)))) =
       value_of m (values_bound m r bindings ++ r) body
   value_of m r (Items (Cons (Reserved Bang) (Cons term attributes))) = value_of m r term
@@ -51,13 +58,18 @@ abbrev mutual
       (x, value_of m r term) ∷ values_bound m r rest
   values_bound m r _ = []
 
--- where no name is defined, identifiers mean the operators of the theories
-abbrev pub meaning_of_op : DivisionByZero → Result Op OpFault → List Element → Element
-meaning_of_op z (Ok op) args = operate z op args
-meaning_of_op z (Err fault) args = Truth false
+-- a symbol alone that is no operator is the element of that name
+abbrev pub other_meaning : Identifier → List Element → Element
+other_meaning (Plain x) [] = Abstract x
+other_meaning f args = Truth false
+
+-- where no name is defined, identifiers mean the operators of the theories, or else elements
+abbrev pub meaning_of_op : DivisionByZero → Result Op OpFault → Identifier → List Element → Element
+meaning_of_op z (Ok op) f args = operate z op args
+meaning_of_op z (Err fault) f args = other_meaning f args
 
 abbrev pub operators : DivisionByZero → Theories → Meaning
-operators z theories f args = meaning_of_op z (operator_of theories f) args
+operators z theories f args = meaning_of_op z (operator_of theories f) f args
 
 -- what a definition gives for arguments, where earlier names mean m
 abbrev pub defined_value : Meaning → Origin → List Element → Element

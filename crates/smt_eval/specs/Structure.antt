@@ -10,5 +10,5 @@ structure_of script definitions =
 
 -- these definitions are a structure's: each is well sorted over the earlier ones, and no two have one name
 pub record IsStructure (definitions : Signature) : Type 0 where
-  pub well_sorted : AreWellSorted definitions.theories [] definitions.entries
+  pub well_sorted : AreWellSorted definitions.theories definitions.elements [] definitions.entries
   pub distinct : AreDistinct definitions.entries

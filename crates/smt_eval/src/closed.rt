@@ -31,8 +31,8 @@ use smt_values::Value;
 /// A term over the definitions of an interpretation, followed by those of the script.
 #[derive(Clone, Copy)]
 pub struct Closed<'a> {
-    pub library: &'a Library,
-    pub interpretation: &'a Interpretation,
+    pub library: &'a Library<'a>,
+    pub interpretation: &'a Interpretation<'a>,
     pub term: TermId,
 }
 
@@ -51,7 +51,7 @@ impl Checked for Closed<'_> {
 ///
 /// The interpretation was read over the library as it is now, and counted. So the call looks a number up, and
 /// asks for no memory.
-pub fn cost(library: &Library, interpretation: &Interpretation, term: TermId) -> u64
+pub fn cost(library: &Library<'_>, interpretation: &Interpretation<'_>, term: TermId) -> u64
     requires term { (t : Sexp) × IsTerm library.now term t }
     requires fits { Fits interpretation.now library.now }
     requires counted { KnowsCosts interpretation.now library.now }
@@ -72,8 +72,8 @@ pub fn cost(library: &Library, interpretation: &Interpretation, term: TermId) ->
 /// The limit is below 2^64 - 1. Where the interpretation was counted, the call looks the cost up; otherwise
 /// it counts from the term down, as far as the limit. The only error is want of memory.
 pub fn cost_within(
-    library: &Library,
-    interpretation: &Interpretation,
+    library: &Library<'_>,
+    interpretation: &Interpretation<'_>,
     term: TermId,
     limit: u64,
 ) -> Result<Option<u64>, Memory>
@@ -101,8 +101,8 @@ pub fn cost_within(
 /// library has now. The call subtracts one from `left` for each term that it evaluates, parts and the bodies
 /// of names among them; `left` is no less than the cost of the term. The only error is want of memory.
 pub fn eval(
-    library: &Library,
-    interpretation: &Interpretation,
+    library: &Library<'_>,
+    interpretation: &Interpretation<'_>,
     term: TermId,
     left: &mut u64,
 ) -> Result<Option<Value>, Memory>
@@ -135,8 +135,8 @@ pub fn eval(
 /// The machine is new, or has evaluated terms of this library over this interpretation alone.
 pub fn eval_by(
     machine: &mut Machine,
-    library: &Library,
-    interpretation: &Interpretation,
+    library: &Library<'_>,
+    interpretation: &Interpretation<'_>,
     term: TermId,
     left: &mut u64,
 ) -> Result<Option<Value>, Memory>
@@ -163,7 +163,7 @@ pub fn eval_by(
 }
 
 // The tables of the model and of the script.
-fn tables_of<'a>(library: &'a Library, interpretation: &'a Interpretation) -> Tables<'a>
+fn tables_of<'a>(library: &'a Library<'a>, interpretation: &'a Interpretation<'a>) -> Tables<'a>
     ensures nodes { nodes_of result ≡ nodes_over (held_terms_of interpretation.now.definitions)
         (terms_of library.now) interpretation.now.declared.items }
     ensures arounds { arounds_of result ≡ arounds_over (held_terms_of interpretation.now.definitions)

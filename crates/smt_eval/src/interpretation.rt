@@ -9,7 +9,7 @@ ghost use Rattle.smt_terms.specs.Signature.{Entry, Signature, declared_among, en
 ghost use Rattle.smt_eval.specs.Internal.DefinitionValues.{AllDefined};
 ghost use Rattle.smt_eval.specs.Internal.GivenBodies.{GiveBodies, GivesBody, TellsLacking};
 ghost use Rattle.smt_eval.specs.Internal.ItemFault.{model_fault_of_item};
-ghost use Rattle.smt_eval.specs.Interpretation.{Fits, IsInterpretation, KeepsCosts, KnowsCosts};
+ghost use Rattle.smt_eval.specs.Interpretation.{Fits, HoldsScript, IsInterpretation, KeepsCosts, KnowsCosts};
 ghost use Rattle.smt_eval.specs.Model.{first_lacking, model_in, items_from, items_of};
 ghost use Rattle.smt_eval.specs.ModelFaults.{TellsModel};
 
@@ -26,20 +26,23 @@ use smt_trees::Trees;
 /// The definitions of a model, and for each name that the script declares the body that the model gives to
 /// it. Once it is counted, it also holds the cost of each node of the model and of the script.
 #[derive(Drop)]
-pub struct Interpretation {
-    pub(crate) definitions: Library,
+pub struct Interpretation<'l> {
+    pub(crate) definitions: Library<'l>,
     pub(crate) declared: Vec<TermId>,
     pub(crate) costs: Vec<u64>,
 }
 
-impl Interpretation {
+impl<'l> Interpretation<'l> {
     /// Reads a model of the names of a library, without evaluating anything (SMT-LIB 2.6, section 4.2.6).
     ///
     /// The fault is that of the first item that has one; else that the model lacks a declared name, the first
     /// one; or want of memory. The library stands for a signature, as every library does that `Library::new`
-    /// and the calls after it made.
-    pub fn read(declared: &Library, model: Trees<'_>) -> Result<Interpretation, ModelFault>
-        requires { (s : Signature) × StandsFor declared.now s }
+    /// and the calls after it made; and it is none for a model, so no term of it names an element.
+    pub fn read(
+        declared: &'l Library<'_>,
+        model: Trees<'_>,
+    ) -> Result<Interpretation<'l>, ModelFault>
+        requires { HoldsScript declared.now }
         ensures model { (s : Signature) → StandsFor declared.now s
             → MatchResult result (λ i. (d : Signature) × (model_in s (sexps_of model.entry) ≡ Ok d)
             × IsInterpretation i s d)
@@ -71,7 +74,7 @@ impl Interpretation {
     ///
     /// The library is the one that the model was read over, as it is now. The only error is want of memory,
     /// and then nothing has changed.
-    pub fn count(&mut self, declared: &Library) -> Result<(), Memory>
+    pub fn count(&mut self, declared: &Library<'_>) -> Result<(), Memory>
         ensures costs { OnOk result (KnowsCosts self.new declared.now) }
         ensures unchanged { OnErr result (self.new ≡ self.old) }
         ensures same { (script definitions : Signature) → IsInterpretation self.old script definitions
@@ -87,7 +90,7 @@ impl Interpretation {
 }
 
 // The library of the definitions that the items make, in order, or the first fault.
-fn read_items(declared: &Library, items: Trees<'_>) -> Result<Library, ModelFault>
+fn read_items<'l>(declared: &'l Library<'_>, items: Trees<'_>) -> Result<Library<'l>, ModelFault>
     ensures { (s : Signature) → StandsFor declared.now s
         → MatchResult result (λ library. (es : List Entry) × (items_from s [] 1 (sexps_of items.entry) ≡ Ok es)
         × StandsFor library (items_before s es))
@@ -129,7 +132,10 @@ fn items(trees: Trees<'_>) -> Trees<'_>
 
 // For each declared name, in order, the node that is the body of its definition; or the command of the first
 // name that has no definition.
-fn declared_bodies(declared: &Library, definitions: &Library) -> Result<Vec<TermId>, ModelFault>
+fn declared_bodies(
+    declared: &Library<'_>,
+    definitions: &Library<'_>,
+) -> Result<Vec<TermId>, ModelFault>
     requires { (s : Signature) × StandsFor declared.now s }
     ensures { (s d : Signature) → StandsFor declared.now s → StandsFor definitions.now d → AllDefined d.entries
         → MatchResult result (λ bodies. (first_lacking s.entries d.entries ≡ None)
@@ -151,7 +157,7 @@ fn declared_bodies(declared: &Library, definitions: &Library) -> Result<Vec<Term
 }
 
 // The node that is the body of the definition of a name, if there is one.
-fn body_of(definitions: &Library, name: &[u8]) -> Option<TermId>
+fn body_of(definitions: &Library<'_>, name: &[u8]) -> Option<TermId>
     ensures { (d : Signature) → StandsFor definitions.now d → AllDefined d.entries
         → MatchOption result (entry_named d.entries name.now ≡ None)
         (λ body. GivesBody d.entries (held_terms_of definitions.now).bodies name.now body) }

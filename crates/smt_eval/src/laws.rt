@@ -2,7 +2,8 @@
 
 pub mod terms;
 
-ghost use Rattle.std.specs.Prelude.{◌≡◌, ◌≤◌, ◌↔◌, ℕ, ◌+◌, ◌*◌, ◌^◌, List, [], ◌∷◌, Ok, Err, Option, length};
+ghost use Rattle.std.specs.Prelude.{◌≡◌, ◌≤◌, ◌↔◌, ℕ, ◌+◌, ◌*◌, ◌^◌, List, [], ◌∷◌, Ok, Err, Option, None, length};
+ghost use Rattle.std.specs.Prelude.{map};
 ghost use Rattle.smt_trees.specs.Sexp.{Cons, Sexp, Sexps, append};
 ghost use Rattle.smt_trees.specs.View.{sexp_of};
 ghost use Rattle.smt_theory.specs.declared.sort.Sort.{Sort};
@@ -33,6 +34,8 @@ ghost use Rattle.smt_eval.specs.Meaning.{value_over};
 ghost use Rattle.smt_eval.specs.Model.{AreDefined, AreItems, HasFirstFlaw, IsFirstLacking, items_of};
 ghost use Rattle.smt_eval.specs.Model.{model_in};
 ghost use Rattle.smt_eval.specs.NodeValues.{GivesBodies, arounds_over, nodes_over};
+ghost use Rattle.smt_eval.specs.Renaming.{DefinitionsNameNone, IsInjective, NamesNone, Renaming, parameters_in};
+ghost use Rattle.smt_eval.specs.Renaming.{renamed, renamed_variables};
 ghost use Rattle.smt_eval.specs.Structure.{IsStructure, structure_of};
 ghost use Rattle.smt_eval.specs.PlainTerm.{entries_of};
 ghost use Rattle.smt_eval.specs.declared.closed.Closed.{Closed};
@@ -64,7 +67,8 @@ pub fn known_values_are_true()
 pub fn well_sorted_terms_have_values()
     ensures { (z : DivisionByZero) (definitions : Signature) (scope : List (List ℕ × Sort))
         (r : List (List ℕ × Element)) (term : Sexp) (sort : Sort)
-        → AreWellSorted definitions.theories [] definitions.entries → AreDistinct definitions.entries
+        → AreWellSorted definitions.theories definitions.elements [] definitions.entries
+        → AreDistinct definitions.entries
         → FitsScope scope r
         → sort_in (unlabelled (names_of definitions)) scope term ≡ Ok sort
         → IsOfSort sort (value_over z definitions r term) }
@@ -73,6 +77,17 @@ pub fn well_sorted_terms_have_values()
     results_are_of_their_sorts();
     sorts_are_compared();
 }
+
+/// Of the elements of declared sorts nothing matters but which are the same: where a term and the definitions name
+/// no element, other names for the elements that the variables have, different for different elements, give the
+/// value by its other name.
+pub fn elements_matter_by_their_names_alone()
+    ensures { (z : DivisionByZero) (definitions : Signature) (g : Renaming) (r : List (List ℕ × Element))
+        (term : Sexp) → IsInjective g → DefinitionsNameNone definitions
+        → NamesNone (parameters_in definitions) (map (λ v. v.0) r) term
+        → value_over z definitions (renamed_variables g r) term
+        ≡ renamed g (value_over z definitions r term) }
+{}
 
 /// The definitions of a model are over the script's theories, are well sorted and have different names. Each
 /// declared name has one, of the rank that it was declared with (SMT-LIB 2.6, section 4.2.6).
@@ -98,7 +113,7 @@ pub fn structures_are_distinct()
 /// and have different names.
 pub fn models_give_structures()
     ensures { (script : Signature) (parts : Sexps) (definitions : Signature)
-        → model_in script parts ≡ Ok definitions → AreIntroduced script.theories [] script.entries
+        → model_in script parts ≡ Ok definitions → AreIntroduced script.theories None [] script.entries
         → IsStructure (structure_of script definitions) }
 {
     sorts_are_kept();
@@ -159,11 +174,11 @@ pub fn the_first_fault_of_a_model_is_told()
 
 /// A node of a script has the value that is known of its term, over the structure that a model gives to the
 /// script. The nodes are those of the model and of the script, and each declared name leads to the body that
-/// the model gives to it.
+/// the model gives to it. No term of a script names an element; those of the model may.
 pub fn nodes_give_the_values_of_their_terms()
     ensures { (model script : Table) (declared : List ℕ) (names definitions : Signature) (around i : ℕ)
         (term : Sexp) → AreTermsOf script names → AreTermsOf model definitions
-        → AllDefined definitions.entries → definitions.theories ≡ names.theories
+        → AllDefined definitions.entries → definitions.theories ≡ names.theories → names.elements ≡ None
         → AreDistinct (structure_of names definitions).entries
         → GivesBodies declared names definitions model.bodies
         → Denotes script [] 0 around i term
@@ -178,8 +193,9 @@ pub fn nodes_give_the_values_of_their_terms()
 pub fn nodes_have_the_costs_of_their_terms()
     ensures { (model script : Table) (declared : List ℕ) (names definitions : Signature) (around i : ℕ)
         (term : Sexp) → AreTermsOf script names → AreTermsOf model definitions
-        → AllDefined definitions.entries → definitions.theories ≡ names.theories →
-        AreDistinct (structure_of names definitions).entries → GivesBodies declared names definitions model.bodies
+        → AllDefined definitions.entries → definitions.theories ≡ names.theories → names.elements ≡ None
+        → AreDistinct (structure_of names definitions).entries
+        → GivesBodies declared names definitions model.bodies
         → Denotes script [] 0 around i term
         → cost (nodes_over model script declared) (arounds_over model script) (length model.rows + i)
         ≡ around + cost_over (structure_of names definitions) term }
@@ -193,8 +209,9 @@ pub fn nodes_have_the_costs_of_their_terms()
 pub fn nodes_take_the_least_of_their_terms()
     ensures { (model script : Table) (declared : List ℕ) (names definitions : Signature) (around i : ℕ)
         (term : Sexp) → AreTermsOf script names → AreTermsOf model definitions
-        → AllDefined definitions.entries → definitions.theories ≡ names.theories →
-        AreDistinct (structure_of names definitions).entries → GivesBodies declared names definitions model.bodies
+        → AllDefined definitions.entries → definitions.theories ≡ names.theories → names.elements ≡ None
+        → AreDistinct (structure_of names definitions).entries
+        → GivesBodies declared names definitions model.bodies
         → Denotes script [] 0 around i term
         → around + least_of names.theories term
         ≤ least (nodes_over model script declared) (arounds_over model script) (length model.rows + i) }

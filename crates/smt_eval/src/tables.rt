@@ -15,8 +15,8 @@ use smt_terms::laws::transient_terms_change_no_names;
 
 /// The tables of a script and of a model's definitions, where the declared names have these bodies.
 pub(crate) fn tables<'a>(
-    script: &'a Library,
-    definitions: &'a Library,
+    script: &'a Library<'a>,
+    definitions: &'a Library<'a>,
     declared: &'a [TermId],
 ) -> Tables<'a>
     ensures nodes { nodes_of result

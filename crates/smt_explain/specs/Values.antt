@@ -1,5 +1,5 @@
 -- What an explanation says of a value.
-use Rattle.std.specs.Prelude.{◌≡◌, List, [], Option}
+use Rattle.std.specs.Prelude.{◌≡◌, List, [], Option, None}
 use Rattle.smt_trees.specs.Sexp.{Sexp}
 use Rattle.smt_theory.specs.Theories.{all_theories}
 use Rattle.smt_theory.specs.declared.profile.Profile.TheVariants.{Base}
@@ -14,6 +14,7 @@ abbrev pub IsKnownOver : List Definition → Sexp → Option Value → Type 0
 IsKnownOver definitions term v = known_element v ≡ known_over
     (record {
       theories = all_theories Base;
-      entries = entries_of definitions;
       abbreviations = [];
+      elements = None;
+      entries = entries_of definitions;
     }) term

@@ -11,13 +11,15 @@ use crate::told::{
     tell_command,
 };
 use crate::unknown::{
-    Brought, brought_by, is_operator, unknown_in_command, unknown_in_form, without_bars,
+    Brought, brought_by, element_sort, is_operator, unknown_in_command, unknown_in_form,
+    without_bars,
 };
 use crate::walk::{all_in, two_of};
 use crate::world::{places_in, tree_of};
 use smt_faults::{CommandFlaw, Memory, TermFlaw, TextFlaw};
 use smt_forms::{Scope, item_form};
 use smt_report::{Line, Side};
+use smt_theory::Profile;
 use smt_trees::{Tree, Trees};
 use std::alloc::Global;
 
@@ -179,7 +181,12 @@ fn tell_term(
         }
         TermFlaw::NotFresh => match head_of(text) {
             Head::Assert => tell_label_in_use(page, dialogue, place, *span),
-            Head::DefineSort => tell_sort_in_use(page, dialogue, place, word(text, 1)),
+            Head::DeclareSort | Head::DefineSort => tell_sort_in_use(
+                page,
+                dialogue,
+                place,
+                word(text, 1),
+            ),
             _ => tell_earlier(page, dialogue, place, word(text, 1)),
         },
         TermFlaw::BoundTwice => tell_bound_twice(page, tree.view()),
@@ -407,7 +414,7 @@ fn tell_item_names(
     };
     let name = word(text_at(dialogue.texts.answers, *span), 1);
     match flaw {
-        TermFlaw::NotFresh => tell_earlier(page, dialogue, check, name),
+        TermFlaw::NotFresh => tell_item_in_use(page, dialogue, check, name),
         TermFlaw::IllSorted => {
             tell_declared(page, dialogue, check, name)?;
             tell_sorts_in_item(
@@ -421,6 +428,28 @@ fn tell_item_names(
             )
         }
         _ => tell_unknown_in_item(page, dialogue, check, spans, place),
+    }
+}
+
+// Writes why no item may have a name: it is that of an element of a sort, or stands for something else.
+fn tell_item_in_use(
+    page: &mut Page,
+    dialogue: &Dialogue<'_>,
+    check: usize,
+    name: &[u8],
+) -> Result<(), Memory> {
+    let known = brought_before(page.alloc, dialogue, check)?;
+    match element_sort(&known, name) {
+        Some(place) if dialogue.texts.profile == Profile::Wide => {
+            let number = (place as u64).saturating_add(1);
+            tell_command(
+                page,
+                dialogue,
+                b"  it is also the name of an element: ",
+                number,
+            )
+        }
+        _ => tell_bringer(page, dialogue, known.names.find(name), name),
     }
 }
 
@@ -492,6 +521,7 @@ fn tell_unknown_in_item(
     };
     let mut known = brought_before(alloc, dialogue, check)?;
     known.names.cut(0);
+    known.has_elements = dialogue.texts.profile == Profile::Wide;
     for (index, span) in spans.iter().enumerate() {
         if index < place {
             known.names.push(word(text_at(answers, *span), 1), index)?;

@@ -75,9 +75,8 @@ fn take(
         return Ok(());
     };
     match head {
-        Head::Assert | Head::Declare | Head::Define | Head::DefineSort => standing
-            .stands
-            .push(Stand { place, gone: false })?,
+        Head::Assert | Head::Declare | Head::Define | Head::DeclareSort | Head::DefineSort =>
+            standing.stands.push(Stand { place, gone: false })?,
         Head::Push => {
             for _ in 0..levels_of(text) {
                 let count = standing.stands.len();

@@ -59,7 +59,7 @@ fn library_before(
     dialogue: &Dialogue<'_>,
     place: usize,
     held: Held,
-) -> Result<Option<Library>, Memory> {
+) -> Result<Option<Library<'static>>, Memory> {
     let standing = in_force(alloc, dialogue.commands(), place)?;
     library_of(alloc, dialogue.commands(), standing.as_slice(), place, held)
 }
@@ -116,7 +116,7 @@ fn tell_body<'a>(
 // The parameters in a list of trees, with their sorts; `None` where a tree names no sort.
 fn sorts_of_params<'a>(
     alloc: Global,
-    library: &mut Library,
+    library: &mut Library<'_>,
     params: Trees<'a>,
 ) -> Result<Option<Vec<(&'a [u8], Sort)>>, Memory> {
     let mut sorted = Vec::new(alloc);
@@ -182,7 +182,7 @@ fn tell_sorts_over<'a>(
     page: &mut Page,
     dialogue: &Dialogue<'_>,
     item: &ItemAt<'_>,
-    script: &mut Library,
+    script: &mut Library<'_>,
     form: &ItemForm<'a>,
 ) -> Result<(), Memory> {
     let Some(sort) = sort_named(script, form.sort)? else {
@@ -221,7 +221,7 @@ fn tell_sorts_in_body<'a>(
 // Writes where the rank of an item differs from the declared one, and returns whether it does.
 fn tell_rank(
     page: &mut Page,
-    script: &Library,
+    script: &Library<'_>,
     name: &[u8],
     params: &[(&[u8], Sort)],
     sort: &Sort,
@@ -262,7 +262,7 @@ fn tell_rank(
 // Adds what the items before this one define, and returns whether all of them have a meaning.
 fn add_items(
     alloc: Global,
-    model: &mut Library,
+    model: &mut Library<'_>,
     dialogue: &Dialogue<'_>,
     item: &ItemAt<'_>,
 ) -> Result<bool, Memory> {
@@ -277,7 +277,7 @@ fn add_items(
     Ok(true)
 }
 
-fn add_item(alloc: Global, model: &mut Library, text: &[u8]) -> Result<bool, Memory> {
+fn add_item(alloc: Global, model: &mut Library<'_>, text: &[u8]) -> Result<bool, Memory> {
     match tree_of(alloc, text)? {
         Some(tree) => match item_form(tree.view()) {
             Ok(form) => was_added(add_form(alloc, model, &form)),

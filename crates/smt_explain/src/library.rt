@@ -12,17 +12,18 @@ ghost use Rattle.smt_explain.specs.Sorts.{IsSortFound};
 use crate::force::{Commands, Stand, has_label};
 use crate::pairs::{Head, word};
 use crate::scan::text_at;
+use crate::show::constant_name;
 use crate::walk::{four_of, three_of, two_of};
 use crate::world::{form_of, tree_of};
 use smt_faults::Memory;
 use smt_forms::{ItemForm, Param, split_named};
 use smt_terms::{Library, TermFault};
 use smt_theory::{Sort, Theories, all_theories, theories_of};
-use smt_trees::{Tree, Trees};
+use smt_trees::{Kind, OwnedTree, Tree, Trees};
 use std::alloc::Global;
 
 /// The sort of a term over the names of a library; `None` where it has a fault.
-pub(crate) fn sort_over(library: &mut Library, term: Tree<'_>) -> Result<Option<Sort>, Memory>
+pub(crate) fn sort_over(library: &mut Library<'_>, term: Tree<'_>) -> Result<Option<Sort>, Memory>
     ensures sort { IfOk result (λ sort. (s : Signature) → StandsFor library.old s
         → IsSortFound (sort_in (names_of s) [] (sexp_of term.entry)) sort) }
     ensures held { contents_of library.new ≡ contents_of library.old }
@@ -38,7 +39,10 @@ pub(crate) fn sort_over(library: &mut Library, term: Tree<'_>) -> Result<Option<
 }
 
 /// The sort that a tree names over the abbreviations of a library; `None` where it names none.
-pub(crate) fn sort_named(library: &mut Library, tree: Tree<'_>) -> Result<Option<Sort>, Memory> {
+pub(crate) fn sort_named(
+    library: &mut Library<'_>,
+    tree: Tree<'_>,
+) -> Result<Option<Sort>, Memory> {
     let mark = library.mark();
     // (No symbol of a script contains a bar, so this name is free.)
     let declared = library.declare(1, b"|", Trees::empty(), tree);
@@ -69,13 +73,13 @@ pub(crate) fn library_of(
     standing: &[Stand],
     before: usize,
     held: Held,
-) -> Result<Option<Library>, Memory> {
+) -> Result<Option<Library<'static>>, Memory> {
     let mut library = Library::new(alloc, theories_before(commands, before));
     for stand in standing {
         if let Some((head, text)) = commands.at(stand.place)
             && is_held(held, head, text)
         {
-            match add_command(alloc, &mut library, head, text) {
+            match add_command(alloc, &mut library, head, text, stand.place) {
                 Ok(()) => {}
                 Err(TermFault::Memory) => return Err(Memory),
                 Err(_) => return Ok(None),
@@ -87,7 +91,7 @@ pub(crate) fn library_of(
 
 fn is_held(held: Held, head: Head, text: &[u8]) -> bool {
     match head {
-        Head::DefineSort => true,
+        Head::DeclareSort | Head::DefineSort => true,
         Head::Assert => held == Held::All && has_label(text),
         _ => held == Held::All,
     }
@@ -116,9 +120,10 @@ fn theories_before(commands: Commands<'_>, before: usize) -> Theories {
 
 fn add_command(
     alloc: Global,
-    library: &mut Library,
+    library: &mut Library<'_>,
     head: Head,
     text: &[u8],
+    place: usize,
 ) -> Result<(), TermFault> {
     let tree = match tree_of(alloc, text) {
         Ok(Some(tree)) => tree,
@@ -127,6 +132,7 @@ fn add_command(
     };
     match (head, form_of(tree.view())) {
         (Head::Define, Some(form)) => add_form(alloc, library, &form),
+        _ if head == Head::DeclareSort => add_sort(alloc, library, word(text, 1), place),
         _ => add_parts(library, head, tree.view()),
     }
 }
@@ -134,7 +140,7 @@ fn add_command(
 /// Adds what an item or a definition defines.
 pub(crate) fn add_form(
     alloc: Global,
-    library: &mut Library,
+    library: &mut Library<'_>,
     form: &ItemForm<'_>,
 ) -> Result<(), TermFault> {
     let mut params = Vec::new(alloc);
@@ -156,7 +162,7 @@ fn push_param<'a>(params: &mut Vec<Param<'a>>, param: Param<'a>) -> Result<(), T
     }
 }
 
-fn add_parts(library: &mut Library, head: Head, command: Tree<'_>) -> Result<(), TermFault> {
+fn add_parts(library: &mut Library<'_>, head: Head, command: Tree<'_>) -> Result<(), TermFault> {
     let Tree::List(parts) = command else {
         return Ok(());
     };
@@ -174,7 +180,34 @@ fn add_parts(library: &mut Library, head: Head, command: Tree<'_>) -> Result<(),
     }
 }
 
-fn add_declaration(library: &mut Library, parts: Trees<'_>) -> Result<(), TermFault> {
+// Declares a sort by the command at a place, and a constant of it, which terms of the script do not name.
+fn add_sort(
+    alloc: Global,
+    library: &mut Library<'_>,
+    name: &[u8],
+    place: usize,
+) -> Result<(), TermFault> {
+    let command = command_of(place);
+    library.declare_sort(command, name)?;
+    let (Ok(constant), Ok(sort)) = (
+        constant_name(alloc, command),
+        OwnedTree::atom(alloc, Kind::Symbol, name),
+    ) else {
+        return Err(TermFault::Memory);
+    };
+    // (a name that is in use already is another's: then this sort has no constant)
+    match library.declare(1, constant.as_slice(), Trees::empty(), sort.view()) {
+        Err(TermFault::Memory) => Err(TermFault::Memory),
+        _ => Ok(()),
+    }
+}
+
+/// The number of the command at a place, as a declared sort has it.
+pub(crate) fn command_of(place: usize) -> u32 {
+    place.saturating_add(1).min(u32::MAX as usize) as u32
+}
+
+fn add_declaration(library: &mut Library<'_>, parts: Trees<'_>) -> Result<(), TermFault> {
     if let Some((_, Tree::Symbol(name), sort)) = three_of(parts) {
         return library.declare(1, name, Trees::empty(), sort);
     }
@@ -186,7 +219,7 @@ fn add_declaration(library: &mut Library, parts: Trees<'_>) -> Result<(), TermFa
     }
 }
 
-fn add_assertion(library: &mut Library, term: Tree<'_>) -> Result<(), TermFault> {
+fn add_assertion(library: &mut Library<'_>, term: Tree<'_>) -> Result<(), TermFault> {
     match library.assert(term) {
         Ok(_) => Ok(()),
         Err(fault) => Err(fault),

@@ -21,6 +21,8 @@ pub(crate) struct Page {
     out: Vec<u8>,
     line: Vec<u8>,
     lines: u64,
+    /// The names of declared sorts, each with the number of its command.
+    sorts: Vec<(u32, Vec<u8>)>,
 }
 
 impl Page {
@@ -30,7 +32,15 @@ impl Page {
             out: Vec::new(alloc),
             line: Vec::new(alloc),
             lines: 0,
+            sorts: Vec::new(alloc),
         }
+    }
+
+    /// Adds the name of a sort that the command of this number declares.
+    pub(crate) fn add_sort(&mut self, command: u32, name: &[u8]) -> Result<(), Memory> {
+        let name = Vec::from_slice(self.alloc, name)?;
+        self.sorts.push((command, name))?;
+        Ok(())
     }
 
     /// Begins the lines for another line of the report.
@@ -52,6 +62,17 @@ impl Page {
             self.line.push(printable(*byte))?;
         }
         Ok(())
+    }
+
+    /// Adds the name of a declared sort at the end of the line.
+    pub(crate) fn put_sort_name(&mut self, command: u32) -> Result<(), Memory> {
+        let mut name = Vec::new(self.alloc);
+        for (number, text) in self.sorts.as_slice() {
+            if *number == command {
+                name.extend_from_slice(text.as_slice())?;
+            }
+        }
+        self.put(name.as_slice())
     }
 
     /// Adds a text, without its middle where it is long; each run of spaces, tabs and line ends becomes one space.

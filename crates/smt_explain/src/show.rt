@@ -3,7 +3,7 @@
 use smt_bits::Bits;
 use smt_faults::Memory;
 use smt_theory::Sort;
-use smt_trees::{Kind, OwnedTree, Tape, Tree, Trees, spelling};
+use smt_trees::{Kind, OwnedTree, Tape, Tree, Trees, Word, spelling};
 use smt_values::Value;
 use std::alloc::Global;
 
@@ -141,6 +141,7 @@ pub(crate) fn constant(alloc: Global, value: &Option<Value>) -> Result<OwnedTree
         Some(Value::Bool(true)) => symbol(alloc, b"true"),
         Some(Value::Bool(false)) => symbol(alloc, b"false"),
         Some(Value::Bits(bits)) => vector(alloc, bits),
+        Some(Value::Abstract(name)) => element(alloc, name.as_bytes()),
         Some(number) => integer(alloc, number.integer().unwrap_or(0)),
     }
 }
@@ -150,11 +151,35 @@ fn vector(alloc: Global, bits: &Bits) -> Result<OwnedTree, Memory> {
     Ok(OwnedTree::atom(alloc, Kind::Bin, digits.as_slice())?)
 }
 
-/// A constant of a sort: `true`, 0, or a vector of zeros.
+// `(as name)`, which the evaluator takes for the element of that name, whatever the name stands for.
+fn element(alloc: Global, name: &[u8]) -> Result<OwnedTree, Memory> {
+    let mut list = Tape::new(alloc);
+    list.begin_list()?;
+    list.add_word(Word::As)?;
+    list.add_atom(Kind::Symbol, name)?;
+    Ok(list.take(alloc)?)
+}
+
+/// A value as it is written: its constant, but of an element the name alone.
+pub(crate) fn shown(alloc: Global, value: &Option<Value>) -> Result<OwnedTree, Memory> {
+    match value {
+        Some(Value::Abstract(name)) => symbol(alloc, name.as_bytes()),
+        _ => constant(alloc, value),
+    }
+}
+
+/// The name of the constant that stands for a declared sort, by the number of the sort's command.
+pub(crate) fn constant_name(alloc: Global, command: u32) -> Result<Vec<u8>, Memory> {
+    let text = format!(in alloc; "@{command}")?;
+    Ok(Vec::from_slice(alloc, text.as_bytes())?)
+}
+
+/// A constant of a sort: `true`, 0, a vector of zeros, or the one that was declared with the sort.
 pub(crate) fn constant_of(alloc: Global, sort: Sort) -> Result<OwnedTree, Memory> {
     match sort {
         Sort::Bool => symbol(alloc, b"true"),
         Sort::Int => integer(alloc, 0),
+        Sort::Free(command) => symbol(alloc, constant_name(alloc, command)?.as_slice()),
         Sort::Bits(width) => {
             let digits = digits_of(alloc, 0, width.bits())?;
             Ok(OwnedTree::atom(alloc, Kind::Bin, digits.as_slice())?)
@@ -162,7 +187,8 @@ pub(crate) fn constant_of(alloc: Global, sort: Sort) -> Result<OwnedTree, Memory
     }
 }
 
-fn symbol(alloc: Global, name: &[u8]) -> Result<OwnedTree, Memory> {
+/// A symbol of this name.
+pub(crate) fn symbol(alloc: Global, name: &[u8]) -> Result<OwnedTree, Memory> {
     Ok(OwnedTree::atom(alloc, Kind::Symbol, name)?)
 }
 

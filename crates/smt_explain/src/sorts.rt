@@ -1,12 +1,12 @@
 //! The sorts that differ where a term is ill sorted: its smallest ill-sorted part, the argument that does not fit,
 //! and the sort needed there. This file knows no values and no command.
 
-use crate::library::sort_over;
+use crate::library::{sort_named, sort_over};
 use crate::page::Page;
-use crate::show::{constant_of, text_of};
-use crate::walk::tree_at;
+use crate::show::{constant_of, symbol, text_of};
+use crate::walk::{tree_at, two_of};
 use smt_faults::Memory;
-use smt_forms::{Scope, split_let, split_named};
+use smt_forms::{Scope, sort_of_element, split_let, split_named};
 use smt_terms::{Found, Library};
 use smt_theory::{Sort, Width};
 use smt_trees::{Tape, Tree, Trees, Word};
@@ -20,7 +20,7 @@ const MOST_ARGUMENTS: usize = 100;
 #[derive(Drop)]
 pub(crate) struct Sorter<'a> {
     pub(crate) alloc: Global,
-    pub(crate) library: Library,
+    pub(crate) library: Library<'static>,
     /// The variables that a term sees.
     pub(crate) variables: Scope<'a, Sort>,
     /// The sorts of arguments already checked, whose applications are still to be checked.
@@ -31,7 +31,7 @@ pub(crate) struct Sorter<'a> {
 
 impl<'a> Sorter<'a> {
     /// A sorter over the names of a library.
-    pub(crate) fn new(alloc: Global, library: Library) -> Sorter<'a> {
+    pub(crate) fn new(alloc: Global, library: Library<'static>) -> Sorter<'a> {
         Sorter {
             alloc,
             library,
@@ -55,11 +55,39 @@ impl<'a> Sorter<'a> {
     }
 
     fn sort_of_leaf(&mut self, term: Tree<'a>) -> Result<Option<Sort>, Memory> {
-        let sort = sort_over(&mut self.library, term)?;
+        let sort = match sort_over(&mut self.library, term)? {
+            Some(sort) => Some(sort),
+            None => self.sort_of_element(term)?,
+        };
         if sort.is_none() {
             self.found = Some((term, self.sorts.len()));
         }
         Ok(sort)
+    }
+
+    // The declared sort of a term that is an element: only bodies of items have such terms.
+    fn sort_of_element(&mut self, term: Tree<'_>) -> Result<Option<Sort>, Memory> {
+        let sort = match term {
+            Tree::Symbol(name) => match sort_of_element(name) {
+                Some(sort) => {
+                    let tree = symbol(self.alloc, sort)?;
+                    sort_named(&mut self.library, tree.view())?
+                }
+                None => None,
+            },
+            Tree::List(parts) => match parts.split_first() {
+                Some((Tree::Reserved(Word::As), args)) => match two_of(args) {
+                    Some((_, sort)) => sort_named(&mut self.library, sort)?,
+                    None => None,
+                },
+                _ => None,
+            },
+            _ => None,
+        };
+        match sort {
+            Some(Sort::Free(_)) => Ok(sort),
+            _ => Ok(None),
+        }
     }
 
     #[cycle(sort)]
@@ -172,7 +200,7 @@ fn sorts_from(sorts: &[Sort], first: usize) -> &[Sort] {
 // The sort of a head applied to arguments of these sorts; `None` where they do not fit.
 fn sort_applied(
     alloc: Global,
-    library: &mut Library,
+    library: &mut Library<'_>,
     head: Tree<'_>,
     sorts: &[Sort],
 ) -> Result<Option<Sort>, Memory> {
@@ -236,6 +264,7 @@ fn put_sort(page: &mut Page, sort: Sort) -> Result<(), Memory> {
     match sort {
         Sort::Bool => page.put(b"Bool"),
         Sort::Int => page.put(b"Int"),
+        Sort::Free(command) => page.put_sort_name(command),
         Sort::Bits(width) => {
             page.put(b"(_ BitVec ")?;
             page.put_number(width.bits())?;
@@ -339,7 +368,7 @@ fn put_argument(page: &mut Page, alloc: Global, index: usize, arg: Tree<'_>) -> 
 fn tell_operator(
     page: &mut Page,
     alloc: Global,
-    library: &mut Library,
+    library: &mut Library<'_>,
     head: Tree<'_>,
     args: Trees<'_>,
     sorts: &[Sort],
@@ -366,7 +395,7 @@ fn tell_operator(
 // and vectors of 1, 8, 16, 32, 64 and 128 bits.
 fn fitting(
     alloc: Global,
-    library: &mut Library,
+    library: &mut Library<'_>,
     head: Tree<'_>,
     sorts: &[Sort],
     index: usize,

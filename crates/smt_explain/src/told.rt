@@ -3,9 +3,10 @@
 use crate::evaluation::{Over, Stopped, Work, value_of};
 use crate::faults::{tell_command_fault, tell_item_fault, tell_pairing, tell_text_fault};
 use crate::force::{Commands, Stand, has_label, in_force};
+use crate::library::command_of;
 use crate::names::{Costs, cost_of, index_of};
 use crate::page::Page;
-use crate::pairs::{Head, Pair, Start, head_of, pair_up};
+use crate::pairs::{Head, Pair, Start, head_of, pair_up, word};
 use crate::parts::{Known, tell_parts};
 use crate::scan::{Place, Scan, Span, find_trees, first_place, text_at};
 use crate::show::text_of;
@@ -87,12 +88,26 @@ pub fn explain(alloc: Global, texts: Texts<'_>, lines: &[Line]) -> Result<Vec<u8
         answers_scan: &answers_scan,
     };
     let mut page = Page::new(alloc);
+    add_sorts(&mut page, &dialogue)?;
     let mut left = size_of_texts(texts).saturating_add(LEAST);
     for line in lines {
         page.begin();
         tell_line(&mut page, &dialogue, line, &mut left)?;
     }
     Ok(page.into_bytes())
+}
+
+// Lets a page know the names of declared sorts.
+fn add_sorts(page: &mut Page, dialogue: &Dialogue<'_>) -> Result<(), Memory> {
+    for (place, pair) in dialogue.pairs.iter().enumerate() {
+        if pair.head == Head::DeclareSort
+            && let Some(span) = dialogue.commands.get(place)
+        {
+            let name = word(text_at(dialogue.texts.script, *span), 1);
+            page.add_sort(command_of(place), name)?;
+        }
+    }
+    Ok(())
 }
 
 fn size_of_texts(texts: Texts<'_>) -> u64 {

@@ -7,7 +7,9 @@ use crate::scan::{find_tokens, first_place, text_at};
 use crate::walk::{four_of, three_of, two_of};
 use crate::world::form_of;
 use smt_faults::Memory;
-use smt_forms::{ItemForm, Scope, is_bang, is_let, is_underscore, split_let, split_named};
+use smt_forms::{
+    ItemForm, Scope, is_as, is_bang, is_let, is_underscore, sort_of_element, split_let, split_named,
+};
 use smt_theory::{Profile, all_theories, op_of};
 use smt_trees::{Tree, Trees};
 use std::alloc::Global;
@@ -20,6 +22,8 @@ use std::alloc::Global;
 pub(crate) struct Brought<'a> {
     pub(crate) names: Scope<'a, usize>,
     pub(crate) sorts: Scope<'a, usize>,
+    /// Whether terms may name elements of the sorts.
+    pub(crate) has_elements: bool,
 }
 
 /// The names that these commands brought, labels included.
@@ -31,11 +35,14 @@ pub(crate) fn brought_by<'a>(
     let mut brought = Brought {
         names: Scope::new(alloc),
         sorts: Scope::new(alloc),
+        has_elements: false,
     };
     for stand in standing {
         if let Some((head, text)) = commands.at(stand.place) {
             match head {
-                Head::DefineSort => brought.sorts.push(word(text, 1), stand.place)?,
+                Head::DeclareSort | Head::DefineSort => {
+                    brought.sorts.push(word(text, 1), stand.place)?
+                }
                 Head::Assert => add_labels(alloc, &mut brought.names, text, stand.place)?,
                 _ => brought.names.push(word(text, 1), stand.place)?,
             }
@@ -103,7 +110,7 @@ pub(crate) fn unknown_in_command<'a>(
     };
     match (head, two_of(parts)) {
         (Head::Assert, Some((_, term))) => {
-            unknown_in_term(alloc, &known.names, Scope::new(alloc), term)
+            unknown_in_term(alloc, known, Scope::new(alloc), term)
         }
         (Head::Check, Some((_, Tree::List(literals)))) => {
             unknown_in_literals(alloc, known, literals)
@@ -126,7 +133,7 @@ fn unknown_in_literals<'a>(
         let Some((literal, rest)) = left.split_first() else {
             break;
         };
-        let found = unknown_in_term(alloc, &known.names, Scope::new(alloc), literal)?;
+        let found = unknown_in_term(alloc, known, Scope::new(alloc), literal)?;
         if found.is_some() {
             return Ok(found);
         }
@@ -167,7 +174,7 @@ pub(crate) fn unknown_in_form<'a>(
     if found.is_some() {
         return Ok(found);
     }
-    unknown_in_term(alloc, &known.names, bound, form.body)
+    unknown_in_term(alloc, known, bound, form.body)
 }
 
 fn unknown_sort_in<'a>(known: &Scope<'_, usize>, sorts: Trees<'a>) -> Option<&'a [u8]> {
@@ -225,7 +232,7 @@ fn push_step<'a>(steps: &mut Vec<Step<'a>>, step: Step<'a>) -> Result<(), Memory
 // The first unknown name of a term that sees variables.
 fn unknown_in_term<'a>(
     alloc: Global,
-    known: &Scope<'_, usize>,
+    known: &Brought<'_>,
     variables: Scope<'a, ()>,
     term: Tree<'a>,
 ) -> Result<Option<&'a [u8]>, Memory> {
@@ -249,13 +256,24 @@ fn unknown_in_term<'a>(
         };
         if let Some(name) = name
             && bound.find(name).is_none()
-            && known.find(name).is_none()
+            && known.names.find(name).is_none()
             && !is_operator(name)
+            && !is_element(known, name)
         {
             return Ok(Some(name));
         }
     }
     Ok(None)
+}
+
+/// Whether a name is that of an element of a sort in force, where terms may name one.
+pub(crate) fn is_element(known: &Brought<'_>, name: &[u8]) -> bool {
+    known.has_elements && element_sort(known, name).is_some()
+}
+
+/// The place of the command that brought the sort of which a symbol is an element.
+pub(crate) fn element_sort(known: &Brought<'_>, symbol: &[u8]) -> Option<usize> {
+    known.sorts.find(sort_of_element(symbol)?)
 }
 
 fn enter<'a>(bound: &mut Scope<'a, ()>, bindings: Trees<'a>) -> Result<(), Memory> {
@@ -287,6 +305,9 @@ fn push_inner<'a>(
             Some((Tree::Symbol(name), _)) if !is_indexed_operator(name) => Some(name),
             _ => None,
         });
+    }
+    if is_as(head) {
+        return Ok(None);
     }
     if is_let(head) {
         push_let(steps, seen, args)?;

@@ -3,7 +3,7 @@
 use crate::evaluation::{Bound, Over, Stopped, Work, find, value_in};
 use crate::page::Page;
 use crate::parts::{Known, Part, defined_at, is_literal};
-use crate::show::{constant, put_name, text_of};
+use crate::show::{put_name, shown, text_of};
 use crate::walk::all_in;
 use crate::world::Defined;
 use smt_faults::Memory;
@@ -201,8 +201,8 @@ fn tell_value<'a>(
     }
     page.put(b" = ")?;
     if value.is_some() {
-        let constant = constant(over.alloc, &value)?;
-        let text = text_of(over.alloc, constant.view())?;
+        let written = shown(over.alloc, &value)?;
+        let text = text_of(over.alloc, written.view())?;
         page.put(text.as_slice())?;
     } else {
         page.put(b"open")?;

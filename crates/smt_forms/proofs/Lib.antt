@@ -1,4 +1,5 @@
 mod AttributeLemmas
+pub mod ElementNameLemmas
 mod IdentifierLemmas
 pub mod HeadLemmas
 pub mod PartLemmas

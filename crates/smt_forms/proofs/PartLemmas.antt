@@ -10,7 +10,7 @@ use Rattle.std.specs.Prelude.{slice_index_or, codes}
 use Rattle.std.specs.Str.{bytes_eq}
 use Rattle.smt_theory.specs.declared.sort.Sort.{Sort}
 use Rattle.smt_trees.specs.Sexp.{Sexp, Sexps, Atom, Reserved, Items, Nil, Cons, Symbol, Keyword, append}
-use Rattle.smt_trees.specs.declared.reserved.Word.TheVariants.{Bang, Let, Underscore}
+use Rattle.smt_trees.specs.declared.reserved.Word.TheVariants.{As, Bang, Let, Underscore}
 use Rattle.smt_theory.specs.Words.{look_up}
 use Rattle.smt_forms.specs.Bindings.{is_label, named_trees}
 use Rattle.smt_forms.specs.Variables.{any_uses_outer, bindings_use_outer, is_among, uses_outer, uses_variable}
@@ -120,6 +120,7 @@ ordered (Atom kind bytes) = refl
 ordered (Reserved word) = refl
 ordered (Items Nil) = refl
 ordered (Items (Cons (Reserved Underscore) indexes)) = refl
+ordered (Items (Cons (Reserved As) parts)) = refl
 ordered (Items (Cons (Reserved Let) (Cons (Items bindings) (Cons body Nil)))) =
     let parts = terms_bound bindings in
     let last = (map (λ b. b.0) (named_trees bindings), body) ∷ [] in
@@ -197,6 +198,7 @@ mutual
   labelled (Reserved word) l h = absurd (none l h)
   labelled (Items Nil) l h = absurd (none l h)
   labelled (Items (Cons (Reserved Underscore) indexes)) l h = absurd (none l h)
+  labelled (Items (Cons (Reserved As) parts)) l h = absurd (none l h)
   labelled (Items (Cons (Reserved Let) (Cons (Items bindings) (Cons body Nil)))) l h =
       let t = Items (Cons (Reserved Let) (Cons (Items bindings) (Cons body Nil))) in
       let parts = terms_bound bindings in
@@ -340,6 +342,7 @@ mutual
   free inner outer (Reserved word) h = cc
   free inner outer (Items Nil) h = cc
   free inner outer (Items (Cons (Reserved Underscore) indexes)) h = cc
+  free inner outer (Items (Cons (Reserved As) parts)) h = cc
   free inner outer (Items (Cons (Reserved Let) (Cons (Items bindings) (Cons body Nil)))) h =
       let parts = terms_bound bindings in
       let names = map (λ b. b.0) (named_trees bindings) in
@@ -403,6 +406,7 @@ used_part inner outer (Atom kind bytes) p is h = absurd (none p is)
 used_part inner outer (Reserved word) p is h = absurd (none p is)
 used_part inner outer (Items Nil) p is h = absurd (none p is)
 used_part inner outer (Items (Cons (Reserved Underscore) indexes)) p is h = absurd (none p is)
+used_part inner outer (Items (Cons (Reserved As) parts)) p is h = absurd (none p is)
 used_part inner outer (Items (Cons (Reserved Let) (Cons (Items bindings) (Cons body Nil)))) p is h =
     let parts = terms_bound bindings in
     let names = map (λ b. b.0) (named_trees bindings) in

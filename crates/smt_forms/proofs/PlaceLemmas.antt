@@ -2,7 +2,7 @@
 use Rattle.std.proofs.Common.{◌≡◌, ℕ, zero, suc, ◌+◌, ◌-◌, ◌<◌, ◌≤◌, Bool, true, false, cond, List, [], ◌∷◌}
 use Rattle.std.proofs.Common.{◌++◌}
 use Rattle.std.proofs.Common.{length, drop, take, Option, Some, None, refl, ap, sym, ◌∙◌, arith, add-zero}
-use Rattle.std.proofs.Common.{Bor, get_or, Result, Ok, Err}
+use Rattle.std.proofs.Common.{get_or, Result, Ok, Err}
 use Rattle.std.proofs.Common.{OnOk, OnErr}
 use Rattle.std.proofs.Common.{append_assoc, append-nil}
 use Rattle.std.proofs.lemmas.List.{drop-append-le, drop_all, length-drop, length-take, length-append}

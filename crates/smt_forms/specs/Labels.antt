@@ -1,7 +1,7 @@
 -- SMT-LIB 2.6, section 3.6.5: the labels of a term, which name terms.
 use Rattle.std.specs.Prelude.{ℕ, List, [], ◌∷◌, ◌++◌, map, if◌then◌else◌}
 use Rattle.smt_trees.specs.Sexp.{Sexp, Sexps, Atom, Reserved, Items, Nil, Cons, Keyword, Symbol}
-use Rattle.smt_trees.specs.declared.reserved.Word.TheVariants.{Bang, Let, Underscore}
+use Rattle.smt_trees.specs.declared.reserved.Word.TheVariants.{As, Bang, Let, Underscore}
 use Rattle.smt_forms.specs.Bindings.{is_label}
 
 -- the label that a keyword with what stands behind it is, if it is one
@@ -22,6 +22,7 @@ abbrev mutual
   labels_in (Reserved word) = []
   labels_in (Items Nil) = []
   labels_in (Items (Cons (Reserved Underscore) parts)) = []
+  labels_in (Items (Cons (Reserved As) parts)) = []
   labels_in (Items (Cons (Reserved Let) (Cons (Items bindings) (Cons body Nil)))) =
       labels_in_bindings bindings ++ labels_in body
   labels_in (Items (Cons (Reserved Bang) (Cons term attributes))) =

@@ -1,4 +1,5 @@
 pub mod Bindings
+pub mod ElementNames
 pub mod Heads
 pub mod Identifier
 pub mod IdentifierView

@@ -3,7 +3,7 @@
 use Rattle.std.specs.Prelude.{◌≡◌, ℕ, List, [], ◌∷◌, ◌++◌, map, codes}
 use Rattle.std.specs.List.{Contains}
 use Rattle.smt_trees.specs.Sexp.{Sexp, Sexps, Atom, Reserved, Items, Nil, Cons, Keyword, Symbol, append}
-use Rattle.smt_trees.specs.declared.reserved.Word.TheVariants.{Bang, Let, Underscore}
+use Rattle.smt_trees.specs.declared.reserved.Word.TheVariants.{As, Bang, Let, Underscore}
 use Rattle.smt_forms.specs.Bindings.{named_trees}
 use Rattle.smt_forms.specs.Labels.{labels_among}
 
@@ -14,6 +14,7 @@ trees_of (Cons x xs) = x ∷ trees_of xs
 -- the terms of which a term is made, in order, each with the names that the term binds for it
 abbrev pub parts_of : Sexp → List (List (List ℕ) × Sexp)
 parts_of (Items (Cons (Reserved Underscore) indexes)) = []
+parts_of (Items (Cons (Reserved As) parts)) = []
 parts_of (Items (Cons (Reserved Let) (Cons (Items bindings) (Cons body Nil)))) =
     map (λ b. ([], b.1)) (named_trees bindings) ++ (map (λ b. b.0) (named_trees bindings), body) ∷ []
 parts_of (Items (Cons (Reserved Bang) (Cons term attributes))) = ([], term) ∷ []

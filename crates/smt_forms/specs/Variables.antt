@@ -2,7 +2,7 @@
 use Rattle.std.specs.Prelude.{ℕ, List, [], ◌++◌, Bool, false, not, ◌&&◌, ◌||◌, is_some, map, bytes_eq}
 use Rattle.std.specs.List.{list_any}
 use Rattle.smt_trees.specs.Sexp.{Sexp, Sexps, Atom, Reserved, Items, Nil, Cons, Symbol}
-use Rattle.smt_trees.specs.declared.reserved.Word.TheVariants.{Bang, Let, Underscore}
+use Rattle.smt_trees.specs.declared.reserved.Word.TheVariants.{As, Bang, Let, Underscore}
 use Rattle.smt_theory.specs.Words.{look_up}
 use Rattle.smt_theory.specs.declared.sort.Sort.{Sort}
 use Rattle.smt_forms.specs.Bindings.{named_trees}
@@ -19,6 +19,7 @@ abbrev mutual
   uses_outer inner outer (Reserved word) = false
   uses_outer inner outer (Items Nil) = false
   uses_outer inner outer (Items (Cons (Reserved Underscore) parts)) = false
+  uses_outer inner outer (Items (Cons (Reserved As) parts)) = false
   uses_outer inner outer (Items (Cons (Reserved Let) (Cons (Items bindings) (Cons body Nil)))) =
       bindings_use_outer inner outer bindings
       || uses_outer (map (λ b. b.0) (named_trees bindings) ++ inner) outer body

@@ -2,8 +2,7 @@
 
 ghost use Rattle.std.specs.Prelude.{◌≡◌};
 ghost use Rattle.smt_trees.specs.View.{sexp_of};
-ghost use Rattle.smt_forms.specs.Heads.{begins_indexed};
-ghost use Rattle.smt_forms.specs.Heads.{begins_annotated, begins_let};
+ghost use Rattle.smt_forms.specs.Heads.{begins_annotated, begins_indexed, begins_let, begins_qualified};
 
 use smt_trees::{Tree, Word};
 
@@ -12,6 +11,13 @@ pub fn is_underscore(head: Tree<'_>) -> bool
     ensures { result ≡ begins_indexed (sexp_of head.entry) }
 {
     matches!(head, Tree::Reserved(Word::Underscore))
+}
+
+/// Whether a list with this head is an identifier with its sort (SMT-LIB 2.6, section 3.6).
+pub fn is_as(head: Tree<'_>) -> bool
+    ensures { result ≡ begins_qualified (sexp_of head.entry) }
+{
+    matches!(head, Tree::Reserved(Word::As))
 }
 
 /// Whether a list with this head is a `let` (SMT-LIB 2.6, section 3.6.1).

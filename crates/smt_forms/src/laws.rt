@@ -3,9 +3,10 @@
 pub mod refusals;
 
 ghost use Rattle.std.specs.List.{AllPairs, Contains, flat_map};
-ghost use Rattle.std.specs.Prelude.{◌≡◌, ◌≢◌, ◌↔◌, ◌++◌, ℕ, List, [], None, map, true};
+ghost use Rattle.std.specs.Prelude.{◌≡◌, ◌≢◌, ◌↔◌, ◌⊎◌, ◌++◌, ℕ, List, [], None, Some, codes, map, true};
 ghost use Rattle.smt_trees.specs.Sexp.{Sexp, Sexps, Nil};
 ghost use Rattle.smt_theory.specs.declared.sort.Sort.{Sort};
+ghost use Rattle.smt_forms.specs.ElementNames.{is_numeral, sort_of_element};
 ghost use Rattle.smt_forms.specs.Labels.{labels_in};
 ghost use Rattle.smt_forms.specs.Parts.{IsLabelled, OccursFree, own_labels, parts_of};
 ghost use Rattle.smt_forms.specs.Repeated.{repeated_behind};
@@ -38,4 +39,15 @@ pub fn used_variables_occur_free()
 /// No name is found repeated exactly where no two names are the same.
 pub fn none_repeated_where_all_differ()
     ensures { (names : List (List ℕ)) → (repeated_behind [] names ≡ None) ↔ AllPairs (λ x y. x ≢ y) names }
+{}
+
+/// A plain symbol is read as an element of the sort `U` exactly where it is `U!val!` or `@uc_U_` with a numeral
+/// behind it (SMT-LIB 2.6, section 3.1). No symbol is read in both ways.
+pub fn elements_name_their_sorts()
+    ensures named { (sort numeral : List ℕ) → is_numeral numeral ≡ true
+        → sort_of_element (sort ++ codes "!val!" ++ numeral) ≡ Some sort }
+    ensures alone { (symbol sort : List ℕ) → (sort_of_element symbol ≡ Some sort)
+        ↔ ((numeral : List ℕ) × (is_numeral numeral ≡ true)
+        × ((symbol ≡ sort ++ codes "!val!" ++ numeral)
+        ⊎ (symbol ≡ codes "@uc_" ++ sort ++ codes "_" ++ numeral))) }
 {}

@@ -13,6 +13,7 @@
 
 mod attributes;
 mod bindings;
+mod element_names;
 mod heads;
 mod identifier;
 mod items;
@@ -25,7 +26,8 @@ mod variable;
 
 pub use attributes::{are_attributes, label_at};
 pub use bindings::{are_named, split_let, split_named};
-pub use heads::{is_bang, is_let, is_underscore};
+pub use element_names::sort_of_element;
+pub use heads::{is_as, is_bang, is_let, is_underscore};
 pub use identifier::{Identifier, applied_identifier, are_indexes, indexed_identifier};
 pub use items::{ItemForm, item_form};
 pub use name_set::NameSet;

@@ -47,6 +47,7 @@ operator_at at args h some =
     by (node.Numeral digits) e = leaf cc
     by (node.Hexadecimal digits) e = leaf cc
     by (node.Binary digits) e = leaf cc
+    by (node.Element name) e = leaf cc
     by (node.Slot place) e = leaf cc
     by (node.Apply op js) e =
         let same : js ≡ args = cc in (op, ap (λ (xs : List ℕ). Some (machine.Apply op (shifted at.shift xs))) same)

@@ -50,6 +50,7 @@ parts_counted : (i : ℕ) (c : ℕ → ℕ) (at : Place) (n : node.Node)
 parts_counted i c at (node.Numeral digits) = refl
 parts_counted i c at (node.Hexadecimal digits) = refl
 parts_counted i c at (node.Binary digits) = refl
+parts_counted i c at (node.Element name) = refl
 parts_counted i c at (node.Slot place) = refl
 parts_counted i c at (node.Apply op args) = omega arith
 parts_counted i c at (node.Declared place args) = refl

@@ -29,7 +29,7 @@ use crate::task::{Task, task_of};
 use smt_faults::Memory;
 use smt_nodes::{Node, NodeParts, TermId};
 use smt_theory::{CoreOp, Op};
-use smt_values::{Value, bin_of, hex_of, numeral_of};
+use smt_values::{Value, bin_of, element, hex_of, numeral_of};
 
 impl Machine {
     /// What is known of the value of a closed term of the script; `None` where the value is open.
@@ -199,6 +199,7 @@ impl Machine {
             Node::Numeral(_) => self.leave(numeral_of(from.literal())),
             Node::Hex(digits) => self.leave(hex_of(from.literal(), *digits)),
             Node::Bin(digits) => self.leave(bin_of(from.literal(), *digits)),
+            Node::Element(name) => self.leave(element(*name)),
             Node::Slot(place) => {
                 let value = self.value_at(*place);
                 self.leave(value)
@@ -311,6 +312,7 @@ impl Machine {
             Node::Numeral(_) => Ok(()),
             Node::Hex(_) => Ok(()),
             Node::Bin(_) => Ok(()),
+            Node::Element(_) => Ok(()),
             Node::Slot(_) => Ok(()),
         }
     }
@@ -367,6 +369,7 @@ impl Machine {
             Node::Numeral(_) => Ok(()),
             Node::Hex(_) => Ok(()),
             Node::Bin(_) => Ok(()),
+            Node::Element(_) => Ok(()),
             Node::Slot(_) => Ok(()),
         }
     }

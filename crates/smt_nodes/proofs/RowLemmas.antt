@@ -12,7 +12,7 @@ use Rattle.smt_nodes.specs.Node as spec
 use Rattle.smt_nodes.specs.declared.annotated.AnnotatedNode.{AnnotatedNode}
 use Rattle.smt_nodes.specs.declared.rows.Ends.{Ends}
 use Rattle.smt_nodes.specs.declared.rows.Stored.{Stored}
-use Rattle.smt_nodes.specs.declared.rows.Stored.TheVariants.{Literal, Large, Slot, Plain, Numbered}
+use Rattle.smt_nodes.specs.declared.rows.Stored.TheVariants.{Literal, Large, Element, Slot, Plain, Numbered}
 use Rattle.smt_nodes.specs.declared.rows.Stored.TheVariants.{Declared}
 use Rattle.smt_nodes.specs.declared.rows.Stored.TheVariants.{Defined, Let, Annotated}
 use Rattle.smt_nodes.specs.declared.rows.StoredRow.{StoredRow}
@@ -25,6 +25,8 @@ node_kept t u ends (Literal base n number) held within more =
     ap (λ ds. literal_of base ds) (before_kept n ends.digits t.digits u.digits within.digits more.digits)
 node_kept t u ends (Large base n place) held within more =
     ap (λ ds. literal_of base ds) (before_kept n ends.digits t.digits u.digits within.digits more.digits)
+node_kept t u ends (Element n) held within more =
+    ap (λ ds. spec.Element ds) (before_kept n ends.digits t.digits u.digits within.digits more.digits)
 node_kept t u ends (Slot place) held within more = refl
 node_kept t u ends (Plain op n) held within more =
     ap (λ is. spec.Apply (op_of_plain op) is)

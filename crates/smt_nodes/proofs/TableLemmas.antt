@@ -1,5 +1,5 @@
 -- The rows that contracts see, as a table grows and is cut.
-use Rattle.std.proofs.Common.{◌≡◌, ◌+◌, ℕ, List, [], ◌∷◌, ◌++◌, take, drop, slice_get, Some}
+use Rattle.std.proofs.Common.{◌≡◌, ℕ, List, [], ◌∷◌, ◌++◌, take, drop, slice_get, Some}
 use Rattle.std.proofs.Common.{None, option_map, ap, sym, ◌∙◌}
 use Rattle.std.proofs.lemmas.List.{append-nil, map-append, take-append-drop, take-map}
 use Rattle.std.proofs.lemmas.Option.{slice_get-map}

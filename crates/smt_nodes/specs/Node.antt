@@ -8,6 +8,8 @@ pub data Node : Type 0 where
   Numeral : (digits : List ℕ) → Node
   Hexadecimal : (digits : List ℕ) → Node
   Binary : (digits : List ℕ) → Node
+  -- an element of a declared sort, by its name
+  Element : (name : List ℕ) → Node
   -- a variable: a place of the frame, from 0
   Slot : (place : ℕ) → Node
   Apply : (op : Op) → (args : List ℕ) → Node

@@ -12,6 +12,8 @@ pub enum Node<'a> {
     Hex(&'a [u8]),
     /// A binary literal, by its digits.
     Bin(&'a [u8]),
+    /// An element of a declared sort, by its name.
+    Element(&'a [u8]),
     /// A variable, by its place in the frame, from 0.
     Slot(usize),
     /// An operator of a theory, with its arguments.
@@ -27,7 +29,7 @@ pub enum Node<'a> {
 /// The parts of a node, by their numbers, without its operator, digits or variable.
 #[derive(Clone, Copy)]
 pub enum NodeParts<'a> {
-    /// The arguments of an operator; none for a literal or a variable.
+    /// The arguments of an operator; none for a literal, an element or a variable.
     Args(&'a [TermId]),
     /// The arguments of a declared name, with its place among the declared names, from 0.
     Declared { place: usize, args: &'a [TermId] },

@@ -103,6 +103,7 @@ impl Tables {
         match stored {
             Stored::Literal(base, count, _) => literal(base, self.digits(count, ends.digits)),
             Stored::Large(base, count, _) => literal(base, self.digits(count, ends.digits)),
+            Stored::Element(count) => Node::Element(self.digits(count, ends.digits)),
             Stored::Slot(place) => Node::Slot(place as usize),
             Stored::Plain(op, count) => Node::Apply {
                 op: op.op(),
@@ -137,7 +138,7 @@ impl Tables {
     {
         match stored {
             Stored::Literal(_, _, _) | Stored::Large(_, _, _) => NodeParts::Args(&[]),
-            Stored::Slot(_) | Stored::Annotated(_, _) => NodeParts::Args(&[]),
+            Stored::Element(_) | Stored::Slot(_) | Stored::Annotated(_, _) => NodeParts::Args(&[]),
             Stored::Plain(_, count) | Stored::Numbered(_, count) => {
                 NodeParts::Args(self.parts(count, ends.parts))
             }
@@ -251,6 +252,7 @@ impl Tables {
             Node::Numeral(digits) => self.store_literal(Base::Decimal, digits, row),
             Node::Hex(digits) => self.store_literal(Base::Hexadecimal, digits, row),
             Node::Bin(digits) => self.store_literal(Base::Binary, digits, row),
+            Node::Element(name) => Ok(Stored::Element(self.push_digits(name)?)),
             Node::Slot(place) => Ok(Stored::Slot(narrow(place)?)),
             Node::Apply { op, args } => self.store_apply(&op, args),
             Node::Declared { place, args } => {

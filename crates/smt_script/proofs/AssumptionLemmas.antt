@@ -11,7 +11,7 @@ use Rattle.smt_terms.specs.Denotes.{Denotes, Table}
 use Rattle.smt_terms.specs.Library.{terms_of}
 use Rattle.smt_terms.specs.Signature.{Names, Signature, names_of}
 use Rattle.smt_terms.specs.declared.library.Library.{Library}
-use Rattle.smt_script.specs.Command.{Command, SetLogic, DeclareConst, DeclareFun, DefineFun, DefineSort, Assert}
+use Rattle.smt_script.specs.Command.{Command, SetLogic, DeclareConst, DeclareFun, DefineFun, DeclareSort, DefineSort, Assert}
 use Rattle.smt_script.specs.Command.{effect_of, SetPrintSuccess, SetGlobalDeclarations, SetOption, SetInfo, Push, Pop}
 use Rattle.smt_script.specs.Command.{Reset, ResetAssertions, Exit, CheckSat, CheckSatAssuming, GetModel, Echo, Get}
 use Rattle.smt_script.specs.Stack as spec
@@ -52,6 +52,7 @@ left_assumptions old new now command s ts items names h are is table = by comman
     by (DeclareConst x sort) h is t = none is
     by (DeclareFun x parameters sort) h is t = none is
     by (DefineFun x parameters sort body) h is t = none is
+    by (DeclareSort x) h is t = none is
     by (DefineSort x sort) h is t = none is
     by (Assert term) h is t = none is
     by (Push levels) h is t = none is

@@ -16,14 +16,14 @@ use Rattle.smt_terms.specs.Contents.{Contents, Extends, contents_of, first_of}
 use Rattle.smt_terms.specs.Definitions.{defined_in}
 use Rattle.smt_terms.specs.Library as library
 use Rattle.smt_terms.specs.Library.{Holds, IsTermOf, transient_of}
-use Rattle.smt_terms.specs.Declarations.{abbreviated_in, declared_in}
+use Rattle.smt_terms.specs.Declarations.{abbreviated_in, declared_in, sort_declared_in}
 use Rattle.smt_terms.specs.Signature.{Entry, Signature, names_of, no_names, sort_names_of, with_abbreviation}
 use Rattle.smt_terms.specs.Signature.{with_entries, with_entry}
 use Rattle.smt_faults.specs.Faults.{fault_by_term}
 use Rattle.smt_faults.specs.declared.term_flaw.TermFlaw.{TermFlaw}
 use Rattle.smt_terms.specs.declared.library.Library.{Library}
 use Rattle.smt_script.specs.Command.{Command, Effect, Addition, SetLogic, DeclareConst, DeclareFun, DefineFun}
-use Rattle.smt_script.specs.Command.{DefineSort, Assert, Brings, Removing, Nothing, effect_of}
+use Rattle.smt_script.specs.Command.{DeclareSort, DefineSort, Assert, Brings, Removing, Nothing, effect_of}
 use Rattle.smt_script.specs.Stack as spec
 use Rattle.smt_script.specs.Stack.{Brought, Numbered, abbreviations_by, abbreviations_of_effect}
 use Rattle.smt_script.specs.Stack.{assertions_of_effect, depth_by, entries_of_effect, flaw_by}
@@ -114,7 +114,8 @@ abbrev pub with_brought : Signature → ℕ → Command → Signature
 with_brought s n command =
     record {
       theories = s.theories;
-      abbreviations = s.abbreviations ++ abbreviations_by s command;
+      elements = s.elements;
+      abbreviations = s.abbreviations ++ abbreviations_by s n command;
       entries =
           s.entries ++ entries_by s n command;
     }
@@ -124,8 +125,8 @@ pub same_signature : (t u : Theories) (xs ys : List Brought) → t ≡ u → abb
     → entries_of xs ≡ entries_of ys → signature_of t xs ≡ signature_of u ys
 same_signature t u xs ys theories abbreviations entries =
     ap (λ (t : Theories). signature_of t xs) theories
-    ∙ ap (λ (es : List Entry). record { theories = u; abbreviations = abbreviations_of xs; entries = es }) entries
-    ∙ ap (λ (as' : List (List ℕ × Sort)). record { theories = u; abbreviations = as'; entries = entries_of ys })
+    ∙ ap (λ (es : List Entry). record { theories = u; elements = None; abbreviations = abbreviations_of xs; entries = es }) entries
+    ∙ ap (λ (as' : List (List ℕ × Sort)). record { theories = u; elements = None; abbreviations = as'; entries = entries_of ys })
     abbreviations
 
 pub names_grow : (profile : Profile) (cs : List Numbered) (c : Numbered) → is_reset c.command ≡ false
@@ -151,6 +152,7 @@ signature-add profile cs c adds =
     ∙ ap (λ (es : List Entry).
     record {
       theories = theories_in_force profile cs;
+      elements = None;
       abbreviations =
           abbreviations_of (in_force names_stand (history profile cs) ++ b ∷ []);
       entries = es;
@@ -159,6 +161,7 @@ signature-add profile cs c adds =
     ∙ ap (λ (as' : List (List ℕ × Sort)).
     record {
       theories = theories_in_force profile cs;
+      elements = None;
       abbreviations = as';
       entries =
           entries_of (in_force names_stand (history profile cs)) ++ b.entries;
@@ -216,7 +219,7 @@ none_more xs b false e a = (ap entries_of (append-nil xs), ap abbreviations_of (
 -- nor are there more where a command brings none
 pub no_names_left : (profile : Profile) (k : ℕ) (cs : List Numbered) (c : Numbered) → Keeps profile c.command
     → entries_by (signature_in_force profile cs) c.number c.command ≡ []
-    → abbreviations_by (signature_in_force profile cs) c.command ≡ []
+    → abbreviations_by (signature_in_force profile cs) c.number c.command ≡ []
     → signature_to_level profile k (cs ++ c ∷ []) ≡ signature_to_level profile k cs
 no_names_left profile k cs c keeps entries abbreviations =
     let b = brought_by profile cs (history profile cs) c in
@@ -337,6 +340,8 @@ added law old new more cs n command h alike adds same_global global levels logic
 pub extends_itself : (c : Contents) → Extends c c
 extends_itself c = record {
   theories = refl;
+  elements = refl;
+  apart = λ x head none found. cc;
   abbreviations = ([], sym (append-nil c.abbreviations));
   ranks = ([], sym (append-nil c.ranks));
   heads = ([], sym (append-nil c.heads));
@@ -348,25 +353,26 @@ extends_itself c = record {
 
 -- a signature to which a command brings nothing
 pub nothing_brought : (l : Library) (s : Signature) (n : ℕ) (command : Command)
-    → abbreviations_by s command ≡ [] → entries_by s n command ≡ [] → library.StandsFor l s
+    → abbreviations_by s n command ≡ [] → entries_by s n command ≡ [] → library.StandsFor l s
     → library.StandsFor l (with_brought s n command)
 nothing_brought l s n command abbreviations entries h =
     let P : Signature → Type 0 = λ x. library.StandsFor l x in
     subst P (sym (ap (λ (as' : List (List ℕ × Sort)).
     record {
       theories = s.theories;
+      elements = s.elements;
       abbreviations = s.abbreviations ++ as';
       entries =
           s.entries ++ entries_by s n command;
     }) abbreviations
     ∙ ap (λ (es : List Entry).
-    record { theories = s.theories; abbreviations = s.abbreviations ++ []; entries = s.entries ++ es })
+    record { theories = s.theories; elements = s.elements; abbreviations = s.abbreviations ++ []; entries = s.entries ++ es })
     entries
     ∙ ap (λ (es : List Entry).
-    record { theories = s.theories; abbreviations = s.abbreviations ++ []; entries = es })
+    record { theories = s.theories; elements = s.elements; abbreviations = s.abbreviations ++ []; entries = es })
     (append-nil s.entries)
     ∙ ap (λ (as' : List (List ℕ × Sort)).
-    record { theories = s.theories; abbreviations = as'; entries = s.entries })
+    record { theories = s.theories; elements = s.elements; abbreviations = as'; entries = s.entries })
     (append-nil s.abbreviations))) h
 
 -- a command that changes nothing but the notes
@@ -374,7 +380,7 @@ pub record Idle (profile : Profile) (command : Command) : Type 0 where
   pub adds : Adds profile command
   pub global : (g : Bool) → global_after g command ≡ g
   pub entries : (s : Signature) (n : ℕ) → entries_by s n command ≡ []
-  pub abbreviations : (s : Signature) → abbreviations_by s command ≡ []
+  pub abbreviations : (s : Signature) (n : ℕ) → abbreviations_by s n command ≡ []
   pub assertions : (n : ℕ) → assertions_by n command ≡ []
   pub faultless : (cs : List Numbered) (n : ℕ) → flaw_of_effect profile cs n command ≡ None
 
@@ -388,7 +394,7 @@ idle_effect law s n command idle = record {
       added law s s [] cs n command h alike idle.adds (idle.global (global_in_force cs)) refl refl refl refl refl refl
       (extends_itself (contents_of s.library)) (sym (append-nil s.assertions.items))
       (nothing_brought s.library (signature_in_force (profile_of s) cs) n command
-      (idle.abbreviations (signature_in_force (profile_of s) cs))
+      (idle.abbreviations (signature_in_force (profile_of s) cs) n)
       (idle.entries (signature_in_force (profile_of s) cs) n) h.library)
       (subst P (sym (idle.assertions n))
       (subst (λ (bs : List spec.Assertion). AreAssertions (contents_of s.library) s.assertions.items bs)
@@ -416,7 +422,7 @@ no_effect_is_idle profile command is = record {
   };
   global = λ g. ap (global_by g) is;
   entries = λ s n. ap (entries_of_effect s n) is;
-  abbreviations = λ s. ap (abbreviations_of_effect s) is;
+  abbreviations = λ s n. ap (abbreviations_of_effect s n) is;
   assertions = λ n. ap (assertions_of_effect n) is;
   faultless = λ cs n. ap (flaw_by profile cs n) is;
 }
@@ -454,22 +460,23 @@ names_effect law old l n command brings = record {
 
 -- one more name is what a command brings that brings it alone
 one_entry : (l : Library) (s : Signature) (n : ℕ) (command : Command) (e : Entry)
-    → abbreviations_by s command ≡ [] → entries_by s n command ≡ e ∷ [] → library.StandsFor l (with_entry s e)
+    → abbreviations_by s n command ≡ [] → entries_by s n command ≡ e ∷ [] → library.StandsFor l (with_entry s e)
     → library.StandsFor l (with_brought s n command)
 one_entry l s n command e abbreviations entries h =
     let P : Signature → Type 0 = λ x. library.StandsFor l x in
     subst P (sym (ap (λ (as' : List (List ℕ × Sort)).
     record {
       theories = s.theories;
+      elements = s.elements;
       abbreviations = s.abbreviations ++ as';
       entries =
           s.entries ++ entries_by s n command;
     }) abbreviations
     ∙ ap (λ (es : List Entry).
-    record { theories = s.theories; abbreviations = s.abbreviations ++ []; entries = s.entries ++ es })
+    record { theories = s.theories; elements = s.elements; abbreviations = s.abbreviations ++ []; entries = s.entries ++ es })
     entries
     ∙ ap (λ (as' : List (List ℕ × Sort)).
-    record { theories = s.theories; abbreviations = as'; entries = s.entries ++ e ∷ [] })
+    record { theories = s.theories; elements = s.elements; abbreviations = as'; entries = s.entries ++ e ∷ [] })
     (append-nil s.abbreviations))) h
 
 abbrev pub DeclaresIn : Library → Library → ℕ → List ℕ → Sexps → Sexp → Type 0
@@ -542,13 +549,14 @@ AbbreviatesIn old new x sort =
     × library.StandsFor new (with_abbreviation s x found)
 
 one_abbreviation : (l : Library) (s : Signature) (n : ℕ) (command : Command) (x : List ℕ) (sort : Sort)
-    → abbreviations_by s command ≡ (x, sort) ∷ [] → entries_by s n command ≡ []
+    → abbreviations_by s n command ≡ (x, sort) ∷ [] → entries_by s n command ≡ []
     → library.StandsFor l (with_abbreviation s x sort) → library.StandsFor l (with_brought s n command)
 one_abbreviation l s n command x sort abbreviations entries h =
     let P : Signature → Type 0 = λ y. library.StandsFor l y in
     subst P (sym (ap (λ (as' : List (List ℕ × Sort)).
     record {
       theories = s.theories;
+      elements = s.elements;
       abbreviations = s.abbreviations ++ as';
       entries =
           s.entries ++ entries_by s n command;
@@ -556,13 +564,37 @@ one_abbreviation l s n command x sort abbreviations entries h =
     ∙ ap (λ (es : List Entry).
     record {
       theories = s.theories;
+      elements = s.elements;
       abbreviations = s.abbreviations ++ (x, sort) ∷ [];
       entries =
           s.entries ++ es;
     }) entries
     ∙ ap (λ (es : List Entry).
-    record { theories = s.theories; abbreviations = s.abbreviations ++ (x, sort) ∷ []; entries = es })
+    record { theories = s.theories; elements = s.elements; abbreviations = s.abbreviations ++ (x, sort) ∷ []; entries = es })
     (append-nil s.entries))) h
+
+abbrev pub DeclaresSortIn : Library → Library → ℕ → List ℕ → Type 0
+DeclaresSortIn old new n x =
+    (s : Signature) → library.StandsFor old s
+    → (found : Sort) × (sort_declared_in (sort_names_of s) n x ≡ Ok found)
+    × library.StandsFor new (with_abbreviation s x found)
+
+pub declare_sort_effect : ContentsAreKept → (old : Stack) (l : Library) (n : ℕ) (x : List ℕ)
+    → DeclaresSortIn old.library l n x → Extends (contents_of old.library) (contents_of l)
+    → HasEffect old (record old { library = l }) n (DeclareSort x)
+declare_sort_effect law old l n x declares grown =
+    names_effect law old l n (DeclareSort x) (record {
+      adds = addition_adds (profile_of old) (DeclareSort x) _ refl;
+      global = λ g. refl;
+      grown = grown;
+      assertions = refl;
+      names = λ cs h.
+          let made = declares (signature_in_force (profile_of old) cs) h in (
+            ap flaw_of made.1,
+            one_abbreviation l (signature_in_force (profile_of old) cs) n (DeclareSort x) x made.0
+                (ap (λ (r : Result Sort TermFlaw). spec.named x (one_or_none r)) made.1) refl made.2,
+          );
+    })
 
 pub define_sort_effect : ContentsAreKept → (old : Stack) (l : Library) (n : ℕ) (x : List ℕ) (sort : Sexp)
     → AbbreviatesIn old.library l x sort → Extends (contents_of old.library) (contents_of l)
@@ -590,22 +622,23 @@ AssertsIn old new term =
     × library.StandsFor new (with_entries s labels)
 
 some_entries : (l : Library) (s : Signature) (n : ℕ) (command : Command) (es : List Entry)
-    → abbreviations_by s command ≡ [] → entries_by s n command ≡ es → library.StandsFor l (with_entries s es)
+    → abbreviations_by s n command ≡ [] → entries_by s n command ≡ es → library.StandsFor l (with_entries s es)
     → library.StandsFor l (with_brought s n command)
 some_entries l s n command es abbreviations entries h =
     let P : Signature → Type 0 = λ x. library.StandsFor l x in
     subst P (sym (ap (λ (as' : List (List ℕ × Sort)).
     record {
       theories = s.theories;
+      elements = s.elements;
       abbreviations = s.abbreviations ++ as';
       entries =
           s.entries ++ entries_by s n command;
     }) abbreviations
     ∙ ap (λ (ds : List Entry).
-    record { theories = s.theories; abbreviations = s.abbreviations ++ []; entries = s.entries ++ ds })
+    record { theories = s.theories; elements = s.elements; abbreviations = s.abbreviations ++ []; entries = s.entries ++ ds })
     entries
     ∙ ap (λ (as' : List (List ℕ × Sort)).
-    record { theories = s.theories; abbreviations = as'; entries = s.entries ++ es })
+    record { theories = s.theories; elements = s.elements; abbreviations = as'; entries = s.entries ++ es })
     (append-nil s.abbreviations))) h
 
 pub assert_effect : ContentsAreKept

@@ -17,7 +17,7 @@ use Rattle.smt_terms.specs.Signature.{Entry, Signature}
 use Rattle.smt_script.specs.Command.{Command, Effect, Removes, SetsLogic, Brings, Pushes, Pops, Removing, SetsGlobal}
 use Rattle.smt_script.specs.Command.{Assumes, AllButOptions, Everything, SetLogic, SetPrintSuccess, effect_of}
 use Rattle.smt_script.specs.Command.{SetGlobalDeclarations, SetOption, SetInfo, DeclareConst, DeclareFun, DefineFun}
-use Rattle.smt_script.specs.Command.{DefineSort, Assert, Push, Pop, Reset, ResetAssertions, Exit, CheckSat}
+use Rattle.smt_script.specs.Command.{DeclareSort, DefineSort, Assert, Push, Pop, Reset, ResetAssertions, Exit, CheckSat}
 use Rattle.smt_script.specs.Command.{CheckSatAssuming, GetModel, Echo, Get}
 use Rattle.smt_script.specs.Command as removals
 use Rattle.smt_script.specs.Stack.{Assertion, Brought, Numbered, abbreviations_by, abbreviations_of_effect}
@@ -391,7 +391,7 @@ Unfixed before brought =
 pub data Unfixing (late : Bool) (command : Command) : Type 0 where
   Resets : effect_of command ≡ Removing Everything → Unfixing late command
   Idles : (late ≡ false) → ((s : Signature) (n : ℕ) → entries_by s n command ≡ [])
-      → ((s : Signature) → abbreviations_by s command ≡ []) → ((n : ℕ) → assertions_by n command ≡ [])
+      → ((s : Signature) (n : ℕ) → abbreviations_by s n command ≡ []) → ((n : ℕ) → assertions_by n command ≡ [])
       → is_reset command ≡ false → ((d : ℕ) → depth_after d command ≡ d) → Unfixing late command
 
 -- where it was not, and the command makes it not
@@ -404,27 +404,28 @@ late_there true h = absurd (cc)
 late_there false h = absurd (cc)
 
 unfixing : (late : Bool) (command : Command) → is_late_after late command ≡ false → Unfixing late command
-unfixing late (SetLogic x) h = Idles (free late h) (λ s n. refl) (λ s. refl) (λ n. refl) refl (λ d. refl)
-unfixing late (SetPrintSuccess on) h = Idles (free late h) (λ s n. refl) (λ s. refl) (λ n. refl) refl (λ d. refl)
+unfixing late (SetLogic x) h = Idles (free late h) (λ s n. refl) (λ s n. refl) (λ n. refl) refl (λ d. refl)
+unfixing late (SetPrintSuccess on) h = Idles (free late h) (λ s n. refl) (λ s n. refl) (λ n. refl) refl (λ d. refl)
 unfixing late (SetGlobalDeclarations on) h =
-    Idles (free late h) (λ s n. refl) (λ s. refl) (λ n. refl) refl (λ d. refl)
-unfixing late (SetOption k v) h = Idles (free late h) (λ s n. refl) (λ s. refl) (λ n. refl) refl (λ d. refl)
-unfixing late (SetInfo k v) h = Idles (free late h) (λ s n. refl) (λ s. refl) (λ n. refl) refl (λ d. refl)
+    Idles (free late h) (λ s n. refl) (λ s n. refl) (λ n. refl) refl (λ d. refl)
+unfixing late (SetOption k v) h = Idles (free late h) (λ s n. refl) (λ s n. refl) (λ n. refl) refl (λ d. refl)
+unfixing late (SetInfo k v) h = Idles (free late h) (λ s n. refl) (λ s n. refl) (λ n. refl) refl (λ d. refl)
 unfixing late (DeclareConst x sort) h = absurd (late_there late h)
 unfixing late (DeclareFun x ps sort) h = absurd (late_there late h)
 unfixing late (DefineFun x ps sort body) h = absurd (late_there late h)
+unfixing late (DeclareSort x) h = absurd (late_there late h)
 unfixing late (DefineSort x sort) h = absurd (late_there late h)
 unfixing late (Assert term) h = absurd (late_there late h)
 unfixing late (Push m) h = absurd (late_there late h)
 unfixing late (Pop m) h = absurd (late_there late h)
 unfixing late Reset h = Resets refl
 unfixing late ResetAssertions h = absurd (late_there late h)
-unfixing late Exit h = Idles (free late h) (λ s n. refl) (λ s. refl) (λ n. refl) refl (λ d. refl)
+unfixing late Exit h = Idles (free late h) (λ s n. refl) (λ s n. refl) (λ n. refl) refl (λ d. refl)
 unfixing late CheckSat h = absurd (late_there late h)
 unfixing late (CheckSatAssuming literals) h = absurd (late_there late h)
-unfixing late GetModel h = Idles (free late h) (λ s n. refl) (λ s. refl) (λ n. refl) refl (λ d. refl)
-unfixing late (Echo text) h = Idles (free late h) (λ s n. refl) (λ s. refl) (λ n. refl) refl (λ d. refl)
-unfixing late (Get query) h = Idles (free late h) (λ s n. refl) (λ s. refl) (λ n. refl) refl (λ d. refl)
+unfixing late GetModel h = Idles (free late h) (λ s n. refl) (λ s n. refl) (λ n. refl) refl (λ d. refl)
+unfixing late (Echo text) h = Idles (free late h) (λ s n. refl) (λ s n. refl) (λ n. refl) refl (λ d. refl)
+unfixing late (Get query) h = Idles (free late h) (λ s n. refl) (λ s n. refl) (λ n. refl) refl (λ d. refl)
 
 -- names and assertions behind those that stood, and of one more
 nothing_with : (names asserted : List Brought) (b : Brought) → entries_of names ≡ [] → abbreviations_of names ≡ []
@@ -453,7 +454,7 @@ unfixed_by profile before brought c h (Resets is) =
     let asserted = none_still assertion_stands_after level_of assertions_rule b (assertions_in brought) all in
     let s = signature_of (theories_in_force profile before) (names_in brought) in
     let P : Effect → Type 0 =
-    λ e. (entries_of_effect s c.number e ≡ []) × (abbreviations_of_effect s e ≡ [])
+    λ e. (entries_of_effect s c.number e ≡ []) × (abbreviations_of_effect s c.number e ≡ [])
     × (assertions_of_effect c.number e ≡ []) in
     let none : P (effect_of c.command) = subst P (sym is) (refl, refl, refl) in (
       nothing_with (still name_stands_after b (names_in brought)) (still assertion_stands_after b (assertions_in brought))
@@ -471,7 +472,7 @@ unfixed_by profile before brought c h (Idles unfixed entries abbreviations asser
     let s = signature_of (theories_in_force profile before) (names_in brought) in (
       nothing_with (still name_stands_after b (names_in brought)) (still assertion_stands_after b (assertions_in brought))
           b (ap entries_of names ∙ was.0.entries) (ap abbreviations_of names ∙ was.0.abbreviations)
-          (ap assertions_of asserted ∙ was.0.assertions) (entries s c.number) (abbreviations s) (assertions c.number),
+          (ap assertions_of asserted ∙ was.0.assertions) (entries s c.number) (abbreviations s c.number) (assertions c.number),
       depth (depth_in_force before) ∙ was.1,
     )
 
@@ -539,7 +540,7 @@ global-push cs c = fold-append (λ (g : Bool) (d : Numbered). global_after g d.c
 pub data Regards (late global : Bool) (command : Command) : Type 0 where
   Same : (global_after global command ≡ global) → Regards late global command
   Early : (late ≡ false) → ((s : Signature) (n : ℕ) → entries_by s n command ≡ [])
-      → ((s : Signature) → abbreviations_by s command ≡ []) → Regards late global command
+      → ((s : Signature) (n : ℕ) → abbreviations_by s n command ≡ []) → Regards late global command
   Anew : (effect_of command ≡ Removing Everything) → Regards late global command
 
 set_early : (late global on : Bool) → flaw_of_global late global on ≡ None → (late ≡ false) ⊎ (on ≡ global)
@@ -564,7 +565,7 @@ regards profile cs n command (SetsGlobal on) is h = by (set_early (is_too_late c
     by : (is_too_late cs ≡ false) ⊎ (on ≡ global_in_force cs)
         → Regards (is_too_late cs) (global_in_force cs) command
     by (inl early) =
-        Early early (λ s k. ap (entries_of_effect s k) is) (λ s. ap (abbreviations_of_effect s) is)
+        Early early (λ s k. ap (entries_of_effect s k) is) (λ s k. ap (abbreviations_of_effect s k) is)
     by (inr same) = Same (ap (global_by (global_in_force cs)) is ∙ same)
 
 alike_by : (profile : Profile) (cs : List Numbered) (c : Numbered) → AreNamesAlike profile cs
@@ -586,7 +587,7 @@ alike_by profile cs c h (Early early entries abbreviations) =
     let s = signature_of (theories_in_force profile cs) all in
     alike-append g (still name_stands_after b all) b
     (filter_alike (λ (a : Brought). name_stands_after a b) g all
-    (brings_none all g none.entries none.abbreviations)) (inr (entries s c.number, abbreviations s))
+    (brings_none all g none.entries none.abbreviations)) (inr (entries s c.number, abbreviations s c.number))
 alike_by profile cs c h (Anew is) =
     let b = brought_by profile cs (history profile cs) c in
     let all = in_force names_stand (history profile cs) in
@@ -595,7 +596,7 @@ alike_by profile cs c h (Anew is) =
     (ap (λ (e : Effect). is_everything (removed_of_effect e)) is) in
     let s = signature_of (theories_in_force profile cs) all in
     subst (λ (l : List Brought). AreAs g (l ++ b ∷ [])) (sym gone)
-    (inr (ap (entries_of_effect s c.number) is, ap (abbreviations_of_effect s) is), tt)
+    (inr (ap (entries_of_effect s c.number) is, ap (abbreviations_of_effect s c.number) is), tt)
 
 -- a command without a fault keeps them so
 pub alike_step : (profile : Profile) (cs : List Numbered) (c : Numbered)

@@ -16,15 +16,16 @@ use Rattle.smt_theory.specs.declared.theories.Theories.{Theories}
 use Rattle.smt_terms.specs.Assertions.{asserted_in}
 use Rattle.smt_terms.specs.Definitions.{defined_in}
 use Rattle.smt_terms.specs.Declarations.{declaration, declared_in, rank_named}
-use Rattle.smt_terms.specs.Freshness.{is_taken}
+use Rattle.smt_terms.specs.Freshness.{is_element, is_taken}
 use Rattle.smt_terms.specs.Signature.{Entry, Names, Origin, Declared, Defined, Rank, Signature, entry_named}
 use Rattle.smt_terms.specs.Signature.{names_of, no_names, rank_of_entry, ranks_of, sort_names_of, unlabelled_over}
 use Rattle.smt_terms.specs.WellSorted.{AreIntroduced, IsIntroduced, IsSortedIfDefined, IsWellSorted}
 use Rattle.smt_terms.specs.WellSorted.{IsWellSortedFrom}
+use Rattle.smt_terms.specs.SortTrees.{SortNames}
 use Rattle.smt_faults.specs.declared.term_flaw.TermFlaw.{TermFlaw}
 use Rattle.smt_faults.specs.declared.term_flaw.TermFlaw.TheVariants as terms
 use Rattle.smt_script.specs.Command.{Command, Effect, Addition, SetLogic, Pop, ResetAssertions, Declaration, Definition}
-use Rattle.smt_script.specs.Command.{Abbreviation, Assertion, SetsLogic, Brings, Assumes, Pushes, Pops, Removing}
+use Rattle.smt_script.specs.Command.{Abbreviation, Assertion, SortDeclaration, SetsLogic, Brings, Assumes, Pushes, Pops, Removing}
 use Rattle.smt_script.specs.Command.{SetsGlobal, Nothing, AllButOptions, Everything, effect_of}
 use Rattle.smt_script.specs.Stack.{Brought, HaveNoFlaw, Numbered, all_or_none, brought_by, depth_by}
 use Rattle.smt_script.specs.Stack.{entries_by, entries_of_effect, entries_of_addition, flaw_by, flaw_of_addition}
@@ -247,22 +248,24 @@ no_entry [] x h = refl
 no_entry (e ∷ es) x h = no_entry_by x e es (no_entry es x) (bytes_eq x e.name) h
 
 -- more names
-more_names : (theories : Theories) (earlier es fs : List Entry) → AreIntroduced theories earlier es
-    → AreIntroduced theories (earlier ++ es) fs → AreIntroduced theories earlier (es ++ fs)
-more_names theories earlier [] fs h more =
-    subst (λ (before : List Entry). AreIntroduced theories before fs) (append-nil earlier) more
-more_names theories earlier (c ∷ es) fs h more = (
+more_names : (theories : Theories) (elements : Option SortNames) (earlier es fs : List Entry)
+    → AreIntroduced theories elements earlier es → AreIntroduced theories elements (earlier ++ es) fs
+    → AreIntroduced theories elements earlier (es ++ fs)
+more_names theories elements earlier [] fs h more =
+    subst (λ (before : List Entry). AreIntroduced theories elements before fs) (append-nil earlier) more
+more_names theories elements earlier (c ∷ es) fs h more = (
   h.0,
-  more_names theories (earlier ++ c ∷ []) es fs h.1
-      (subst (λ (before : List Entry). AreIntroduced theories before fs)
+  more_names theories elements (earlier ++ c ∷ []) es fs h.1
+      (subst (λ (before : List Entry). AreIntroduced theories elements before fs)
       (sym (append_assoc earlier (c ∷ []) es)) more),
 )
 
 -- fewer names
-fewer_names : (theories : Theories) (earlier es fs : List Entry) → AreIntroduced theories earlier (es ++ fs)
-    → AreIntroduced theories earlier es
-fewer_names theories earlier [] fs h = tt
-fewer_names theories earlier (c ∷ es) fs h = (h.0, fewer_names theories (earlier ++ c ∷ []) es fs h.1)
+fewer_names : (theories : Theories) (elements : Option SortNames) (earlier es fs : List Entry)
+    → AreIntroduced theories elements earlier (es ++ fs) → AreIntroduced theories elements earlier es
+fewer_names theories elements earlier [] fs h = tt
+fewer_names theories elements earlier (c ∷ es) fs h =
+    (h.0, fewer_names theories elements (earlier ++ c ∷ []) es fs h.1)
 
 first_false : (a b : Bool) → a || b ≡ false → (a ≡ false) × (b ≡ false)
 first_false true b h = absurd (cc)
@@ -274,13 +277,14 @@ none_of (Some a) h = absurd (cc)
 
 -- what a name that is not taken may bring
 introduced : (s : Signature) (e : Entry) → is_taken (names_of s) e.name ≡ false
-    → IsSortedIfDefined (unlabelled_over s.theories s.entries) e.parameters e.sort e.origin
-    → IsIntroduced s.theories s.entries e
+    → IsSortedIfDefined (unlabelled_over s.theories s.elements s.entries) e.parameters e.sort e.origin
+    → IsIntroduced s.theories s.elements s.entries e
 introduced s e free sorted =
-    let both = first_false (is_some (look_up (ranks_of s.entries) e.name))
+    let both = first_false (is_element (names_of s) e.name || is_some (look_up (ranks_of s.entries) e.name))
     (is_plain_operator s.theories e.name) free in
+    let unnamed = first_false (is_element (names_of s) e.name) (is_some (look_up (ranks_of s.entries) e.name)) both.0 in
     record {
-      new = no_entry s.entries e.name (none_of (look_up (ranks_of s.entries) e.name) both.0);
+      new = no_entry s.entries e.name (none_of (look_up (ranks_of s.entries) e.name) unnamed.1);
       free =
           both.1;
       sorted = sorted;
@@ -307,20 +311,20 @@ sorted_as names sorts sort (Defined ps body) h = h
 -- the laws of definitions and labels
 pub record NamesAreIntroduced : Type 0 where
   pub sorted : (s : Signature) (x : List ℕ) (ps : List (List ℕ × Sexp)) (tree body : Sexp) (e : Entry)
-      → defined_in s x ps tree body ≡ Ok e → IsWellSorted s.theories s.entries e
+      → defined_in s x ps tree body ≡ Ok e → IsWellSorted s.theories s.elements s.entries e
   pub named : (s : Signature) (x : List ℕ) (ps : List (List ℕ × Sexp)) (tree body : Sexp) (e : Entry)
       → defined_in s x ps tree body ≡ Ok e → e.name ≡ x
   pub free : (s : Signature) (x : List ℕ) (ps : List (List ℕ × Sexp)) (tree body : Sexp) (e : Entry)
       → defined_in s x ps tree body ≡ Ok e → is_taken (names_of s) x ≡ false
   pub labels : (s : Signature) (term : Sexp) (es : List Entry) → asserted_in (names_of s) term ≡ Ok es
-      → AreIntroduced s.theories s.entries es
+      → AreIntroduced s.theories s.elements s.entries es
 
 abbrev IsWell : Signature → Type 0
-IsWell s = AreIntroduced s.theories [] s.entries
+IsWell s = AreIntroduced s.theories s.elements [] s.entries
 
 -- what a command brings is introduced behind the names in force
 abbrev BringsWell : Signature → List Entry → Type 0
-BringsWell s brought = AreIntroduced s.theories s.entries brought
+BringsWell s brought = AreIntroduced s.theories s.elements s.entries brought
 
 logic_alone : (command : Command) (x : List ℕ) → effect_of command ≡ SetsLogic x → command ≡ SetLogic x
 logic_alone command x h = grind (arith)
@@ -342,7 +346,7 @@ module _ (profile : Profile) (law : NamesAreIntroduced) where
       made.0 made.1 in
       subst (BringsWell s) (sym (ap one_or_none made.1)) (
         introduced s made.0 (ap (is_taken (names_of s)) said.1 ∙ said.0)
-            (subst (IsSortedIfDefined (unlabelled_over s.theories s.entries) made.0.parameters made.0.sort)
+            (subst (IsSortedIfDefined (unlabelled_over s.theories s.elements s.entries) made.0.parameters made.0.sort)
             (sym said.2) tt),
         tt,
       )
@@ -355,7 +359,7 @@ module _ (profile : Profile) (law : NamesAreIntroduced) where
       subst (BringsWell s) (sym (ap one_or_none made.1)) (
         introduced s made.0 (ap (is_taken (names_of s)) (law.named s x ps sort body made.0 made.1)
             ∙ law.free s x ps sort body made.0 made.1)
-            (sorted_as (unlabelled_over s.theories s.entries) made.0.parameters made.0.sort made.0.origin
+            (sorted_as (unlabelled_over s.theories s.elements s.entries) made.0.parameters made.0.sort made.0.origin
             (law.sorted s x ps sort body made.0 made.1)),
         tt,
       )
@@ -372,7 +376,7 @@ module _ (profile : Profile) (law : NamesAreIntroduced) where
   adds cs c keeps all brought =
       let s = signature_in_force profile cs in
       subst IsWell (sym (signature-add profile cs c keeps))
-      (more_names s.theories [] s.entries (entries_by s c.number c.command) all brought)
+      (more_names s.theories s.elements [] s.entries (entries_by s c.number c.command) all brought)
 
   unfixed : (set late : Bool) (theories : Option Theories) → flaw_of_logic set late theories ≡ None
       → late ≡ false
@@ -382,7 +386,7 @@ module _ (profile : Profile) (law : NamesAreIntroduced) where
 
   -- no names in any theories
   no_entries : (s : Signature) → s.entries ≡ [] → IsWell s
-  no_entries s none = subst (λ (es : List Entry). AreIntroduced s.theories [] es) (sym none) tt
+  no_entries s none = subst (λ (es : List Entry). AreIntroduced s.theories s.elements [] es) (sym none) tt
 
   sets_logic : (cs : List Numbered) (n : ℕ) (x : List ℕ) → flaw_of_effect profile cs n (SetLogic x) ≡ None
       → IsWell (signature_in_force profile (cs ++ record { number = n; command = SetLogic x } ∷ []))
@@ -403,11 +407,11 @@ module _ (profile : Profile) (law : NamesAreIntroduced) where
       → IsFirst first (signature_in_force profile cs).entries
       → IsWell (signature_in_force profile cs) → IsWell (signature_in_force profile (cs ++ c ∷ []))
   first_well cs c first theories now rest all =
-      subst (λ (t : Theories). AreIntroduced t [] (signature_in_force profile (cs ++ c ∷ [])).entries)
+      subst (λ (t : Theories). AreIntroduced t None [] (signature_in_force profile (cs ++ c ∷ [])).entries)
       (sym (theories-push profile cs c ∙ theories))
-      (subst (λ (es : List Entry). AreIntroduced (theories_in_force profile cs) [] es) (sym now)
-      (fewer_names (theories_in_force profile cs) [] first rest.0
-      (subst (λ (es : List Entry). AreIntroduced (theories_in_force profile cs) [] es) rest.1 all)))
+      (subst (λ (es : List Entry). AreIntroduced (theories_in_force profile cs) None [] es) (sym now)
+      (fewer_names (theories_in_force profile cs) None [] first rest.0
+      (subst (λ (es : List Entry). AreIntroduced (theories_in_force profile cs) None [] es) rest.1 all)))
 
   pops : (cs : List Numbered) (n m : ℕ) → AreNamesAlike profile cs → IsWell (signature_in_force profile cs)
       → IsWell (signature_in_force profile (cs ++ record { number = n; command = Pop m } ∷ []))
@@ -452,6 +456,7 @@ module _ (profile : Profile) (law : NamesAreIntroduced) where
       → BringsWell s (entries_of_addition s n item)
   brings s n (Declaration x ps sort) h = declares s n x ps sort h
   brings s n (Definition x ps sort body) h = defines s x ps sort body h
+  brings s n (SortDeclaration x) h = tt
   brings s n (Abbreviation x sort) h = tt
   brings s n (Assertion term) h = asserts s term h
 

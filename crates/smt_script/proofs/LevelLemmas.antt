@@ -290,7 +290,7 @@ cut_level law old new d cs h cut k x at =
 names_popped : (profile : Profile) (k : ℕ) (cs : List Numbered) (c : Numbered) → is_reset c.command ≡ false
     → theories_after profile (theories_in_force profile cs) c.command ≡ theories_in_force profile cs
     → entries_by (signature_in_force profile cs) c.number c.command ≡ []
-    → abbreviations_by (signature_in_force profile cs) c.command ≡ []
+    → abbreviations_by (signature_in_force profile cs) c.number c.command ≡ []
     → k ≤ depth_after (depth_in_force cs) c.command → signature_to_level profile k (cs ++ c ∷ [])
     ≡ signature_to_level profile k cs
 names_popped profile k cs c keeps theories entries abbreviations le =
@@ -310,7 +310,7 @@ names_popped profile k cs c keeps theories entries abbreviations le =
 all_popped : (profile : Profile) (cs : List Numbered) (c : Numbered) → is_reset c.command ≡ false
     → theories_after profile (theories_in_force profile cs) c.command ≡ theories_in_force profile cs
     → entries_by (signature_in_force profile cs) c.number c.command ≡ []
-    → abbreviations_by (signature_in_force profile cs) c.command ≡ []
+    → abbreviations_by (signature_in_force profile cs) c.number c.command ≡ []
     → signature_in_force profile (cs ++ c ∷ [])
     ≡ signature_to_level profile (depth_after (depth_in_force cs) c.command) cs
 all_popped profile cs c keeps theories entries abbreviations =

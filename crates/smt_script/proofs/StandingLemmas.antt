@@ -155,6 +155,7 @@ brings_or_not : (n : ℕ) (command : Command) (e : Effect) → effect_of command
 brings_or_not n command (Brings (items.Assertion term)) is = Yes term (assertion_alone command term is)
 brings_or_not n command (Brings (items.Declaration x ps sort)) is = No (ap (assertions_of_effect n) is)
 brings_or_not n command (Brings (items.Definition x ps sort t)) is = No (ap (assertions_of_effect n) is)
+brings_or_not n command (Brings (items.SortDeclaration x)) is = No (ap (assertions_of_effect n) is)
 brings_or_not n command (Brings (items.Abbreviation x sort)) is = No (ap (assertions_of_effect n) is)
 brings_or_not n command (SetsLogic x) is = No (ap (assertions_of_effect n) is)
 brings_or_not n command (Pushes m) is = No (ap (assertions_of_effect n) is)

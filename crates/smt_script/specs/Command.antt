@@ -9,7 +9,7 @@ use Rattle.smt_theory.specs.declared.profile.Profile.{Profile}
 use Rattle.smt_theory.specs.declared.profile.Profile.TheVariants.{Base, Wide}
 use Rattle.smt_script.specs.declared.command.Kind.{Kind}
 use Rattle.smt_script.specs.declared.command.Kind.TheVariants as kinds
-use Rattle.smt_script.specs.Parts.{is_none, keyword_and_value, list_and_tree, name_and_abbreviated}
+use Rattle.smt_script.specs.Parts.{is_none, keyword_and_value, list_and_tree, name_and_abbreviated, name_and_zero}
 use Rattle.smt_script.specs.Parts.{name_and_definition, name_and_rank, name_and_sort, name_and_two, one_keyword}
 use Rattle.smt_script.specs.Parts.{any_list, one_list, one_list_of_literals}
 use Rattle.smt_script.specs.Parts.{numeral_or_one, one_numeral, one_symbol, one_text, one_tree, truth_of_value}
@@ -36,6 +36,7 @@ pub data Command : Type 0 where
   DeclareConst : (name : List ℕ) → (sort : Sexp) → Command
   DeclareFun : (name : List ℕ) → (parameters : Sexps) → (sort : Sexp) → Command
   DefineFun : (name : List ℕ) → (parameters : List (List ℕ × Sexp)) → (sort : Sexp) → (body : Sexp) → Command
+  DeclareSort : (name : List ℕ) → Command
   DefineSort : (name : List ℕ) → (sort : Sexp) → Command
   Assert : (term : Sexp) → Command
   Push : (levels : ℕ) → Command
@@ -80,6 +81,11 @@ abbrev pub assumed_of : Profile → Sexps → Option Sexps
 assumed_of Base parts = one_list_of_literals parts
 assumed_of Wide parts = any_list parts
 
+-- the name of the sort that a `declare-sort` with these parts declares: in Wide, where it has no parameters
+abbrev pub sort_declared_by : Profile → Sexps → Option (List ℕ)
+sort_declared_by Base parts = None
+sort_declared_by Wide parts = name_and_zero parts
+
 -- the command of this word with these parts behind it
 abbrev pub command_with : Profile → Word → Sexps → Option Command
 command_with profile words.SetLogic parts = option_map SetLogic (one_symbol parts)
@@ -89,6 +95,7 @@ command_with profile words.DeclareConst parts = option_map (λ p. DeclareConst p
 command_with profile words.DeclareFun parts = option_map (λ p. DeclareFun p.0 p.1.0 p.1.1) (name_and_rank parts)
 command_with profile words.DefineFun parts =
     option_map (λ p. DefineFun p.0 p.1.0 p.1.1.0 p.1.1.1) (name_and_definition parts)
+command_with profile words.DeclareSort parts = option_map DeclareSort (sort_declared_by profile parts)
 command_with profile words.DefineSort parts = option_map (λ p. DefineSort p.0 p.1) (name_and_abbreviated parts)
 command_with profile words.Assert parts = option_map Assert (one_tree parts)
 command_with profile words.Push parts = option_map Push (levels_of profile parts)
@@ -159,6 +166,7 @@ kind_of (SetInfo keyword value) = kinds.Setting
 kind_of (DeclareConst x sort) = kinds.Change
 kind_of (DeclareFun x parameters sort) = kinds.Change
 kind_of (DefineFun x parameters sort body) = kinds.Change
+kind_of (DeclareSort x) = kinds.Change
 kind_of (DefineSort x sort) = kinds.Change
 kind_of (Assert term) = kinds.Change
 kind_of (Push levels) = kinds.Change
@@ -204,6 +212,7 @@ pub data Addition : Type 0 where
   Declaration : (name : List ℕ) → (parameters : Sexps) → (sort : Sexp) → Addition
   Definition : (name : List ℕ) → (parameters : List (List ℕ × Sexp)) → (sort : Sexp) → (body : Sexp)
       → Addition
+  SortDeclaration : (name : List ℕ) → Addition
   Abbreviation : (name : List ℕ) → (sort : Sexp) → Addition
   Assertion : (term : Sexp) → Addition
 
@@ -233,6 +242,7 @@ effect_of (SetInfo keyword value) = Removing Nothing
 effect_of (DeclareConst x sort) = Brings (Declaration x Nil sort)
 effect_of (DeclareFun x parameters sort) = Brings (Declaration x parameters sort)
 effect_of (DefineFun x parameters sort body) = Brings (Definition x parameters sort body)
+effect_of (DeclareSort x) = Brings (SortDeclaration x)
 effect_of (DefineSort x sort) = Brings (Abbreviation x sort)
 effect_of (Assert term) = Brings (Assertion term)
 effect_of (Push levels) = Pushes levels

@@ -8,7 +8,7 @@ use Rattle.smt_script.specs.declared.command.Command.{Command}
 use Rattle.smt_script.specs.declared.command.Command.TheVariants.{SetLogic, SetPrintSuccess}
 use Rattle.smt_script.specs.declared.command.Command.TheVariants.{SetGlobalDeclarations, SetOption, SetInfo}
 use Rattle.smt_script.specs.declared.command.Command.TheVariants.{DeclareConst, DeclareFun, DefineConst}
-use Rattle.smt_script.specs.declared.command.Command.TheVariants.{DefineFun, DefineSort, Assert, Push, Pop}
+use Rattle.smt_script.specs.declared.command.Command.TheVariants.{DefineFun, DeclareSort, DefineSort, Assert, Push, Pop}
 use Rattle.smt_script.specs.declared.command.Command.TheVariants.{Reset, ResetAssertions, Exit, CheckSat, GetModel}
 use Rattle.smt_script.specs.declared.command.Command.TheVariants.{CheckSatAssuming}
 use Rattle.smt_script.specs.declared.command.Command.TheVariants.{Echo, Get}
@@ -43,6 +43,7 @@ command_view (DeclareFun name params sort) = spec.DeclareFun name.now (sexps_of 
 command_view (DefineFun name params sort body) =
     spec.DefineFun name.now (named_trees (sexps_of params)) (sexp_of sort) (sexp_of body)
 command_view (DefineConst name sort body) = spec.DefineFun name.now [] (sexp_of sort) (sexp_of body)
+command_view (DeclareSort name) = spec.DeclareSort name.now
 command_view (DefineSort name sort) = spec.DefineSort name.now (sexp_of sort)
 command_view (Assert term) = spec.Assert (sexp_of term)
 command_view (Push levels) = spec.Push (levels_in (option_map (λ digits. digits.now) levels))

@@ -1,5 +1,6 @@
 -- What stands behind the word of a command, in the shapes that commands have.
-use Rattle.std.specs.Prelude.{ℕ, List, Bool, true, false, ◌&&◌, Option, Some, None, codes, if◌then◌else◌}
+use Rattle.std.specs.Prelude.{ℕ, List, Bool, true, false, ◌&&◌, ◌==◌, Option, Some, None, codes}
+use Rattle.std.specs.Prelude.{if◌then◌else◌}
 use Rattle.std.specs.Str.Parse.{digits_value}
 use Rattle.smt_trees.specs.Sexp.{Sexp, Sexps, Atom, Items, Nil, Cons, Keyword, Numeral, Symbol, Text}
 use Rattle.smt_trees.specs.Sexp.{is_symbol}
@@ -128,6 +129,15 @@ no_list_and_tree _ = None
 abbrev pub name_and_abbreviated : Sexps → Option (List ℕ × Sexp)
 name_and_abbreviated (Cons (Atom Symbol x) rest) = with_first x (no_list_and_tree rest)
 name_and_abbreviated _ = None
+
+abbrev pub zero_alone : Sexps → Bool
+zero_alone (Cons (Atom Numeral digits) Nil) = digits_value 10 digits == 0
+zero_alone _ = false
+
+-- a name, and 0 for no parameters
+abbrev pub name_and_zero : Sexps → Option (List ℕ)
+name_and_zero (Cons (Atom Symbol x) rest) = if zero_alone rest then Some x else None
+name_and_zero _ = None
 
 -- the truth value that the value of an option is
 abbrev pub truth_of_value : Option Sexp → Option Bool

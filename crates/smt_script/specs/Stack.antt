@@ -18,7 +18,7 @@ use Rattle.smt_theory.specs.declared.sort.Sort.{Sort}
 use Rattle.smt_theory.specs.declared.theories.Theories.{Theories}
 use Rattle.smt_terms.specs.Assertions.{asserted_in}
 use Rattle.smt_terms.specs.Definitions.{defined_in}
-use Rattle.smt_terms.specs.Declarations.{abbreviated_in, declared_in}
+use Rattle.smt_terms.specs.Declarations.{abbreviated_in, sort_declared_in, declared_in}
 use Rattle.smt_terms.specs.Signature.{Entry, Names, Signature, names_of, sort_names_of}
 use Rattle.smt_faults.specs.declared.term_flaw.TermFlaw.{TermFlaw}
 use Rattle.smt_faults.specs.declared.term_flaw.TermFlaw.TheVariants.{IllSorted}
@@ -192,7 +192,12 @@ assertions_of brought = flat_map (λ b. b.assertions) brought
 -- the signature that what was brought gives in these theories
 abbrev pub signature_of : Theories → List Brought → Signature
 signature_of theories brought =
-    record { theories = theories; abbreviations = abbreviations_of brought; entries = entries_of brought }
+    record {
+      theories = theories;
+      abbreviations = abbreviations_of brought;
+      elements = None;
+      entries = entries_of brought;
+    }
 
 -- one thing, or none at a fault
 abbrev pub one_or_none : {A : Type 0} → Result A TermFlaw → List A
@@ -214,6 +219,7 @@ entries_of_addition s n (items.Declaration x parameters sort) =
     one_or_none (declared_in s n x parameters sort)
 entries_of_addition s n (items.Definition x parameters sort body) =
     one_or_none (defined_in s x parameters sort body)
+entries_of_addition s n (items.SortDeclaration x) = []
 entries_of_addition s n (items.Abbreviation x sort) = []
 entries_of_addition s n (items.Assertion term) = all_or_none (asserted_in (names_of s) term)
 
@@ -230,29 +236,33 @@ entries_of_effect s n (Assumes literals) = []
 abbrev pub entries_by : Signature → ℕ → Command → List Entry
 entries_by s n command = entries_of_effect s n (effect_of command)
 
-abbrev pub abbreviations_of_addition : Signature → Addition → List (List ℕ × Sort)
-abbreviations_of_addition s (items.Declaration x parameters sort) = []
-abbreviations_of_addition s (items.Definition x parameters sort body) = []
-abbreviations_of_addition s (items.Abbreviation x sort) =
+-- the sorts that an item of command n declares, and what it abbreviates
+abbrev pub abbreviations_of_addition : Signature → ℕ → Addition → List (List ℕ × Sort)
+abbreviations_of_addition s n (items.Declaration x parameters sort) = []
+abbreviations_of_addition s n (items.Definition x parameters sort body) = []
+abbreviations_of_addition s n (items.SortDeclaration x) =
+    named x (one_or_none (sort_declared_in (sort_names_of s) n x))
+abbreviations_of_addition s n (items.Abbreviation x sort) =
     named x (one_or_none (abbreviated_in (sort_names_of s) x sort))
-abbreviations_of_addition s (items.Assertion term) = []
+abbreviations_of_addition s n (items.Assertion term) = []
 
-abbrev pub abbreviations_of_effect : Signature → Effect → List (List ℕ × Sort)
-abbreviations_of_effect s (SetsLogic name) = []
-abbreviations_of_effect s (Brings item) = abbreviations_of_addition s item
-abbreviations_of_effect s (Pushes levels) = []
-abbreviations_of_effect s (Pops levels) = []
-abbreviations_of_effect s (Removing what) = []
-abbreviations_of_effect s (SetsGlobal on) = []
-abbreviations_of_effect s (Assumes literals) = []
+abbrev pub abbreviations_of_effect : Signature → ℕ → Effect → List (List ℕ × Sort)
+abbreviations_of_effect s n (SetsLogic name) = []
+abbreviations_of_effect s n (Brings item) = abbreviations_of_addition s n item
+abbreviations_of_effect s n (Pushes levels) = []
+abbreviations_of_effect s n (Pops levels) = []
+abbreviations_of_effect s n (Removing what) = []
+abbreviations_of_effect s n (SetsGlobal on) = []
+abbreviations_of_effect s n (Assumes literals) = []
 
--- the abbreviations that a command brings
-abbrev pub abbreviations_by : Signature → Command → List (List ℕ × Sort)
-abbreviations_by s command = abbreviations_of_effect s (effect_of command)
+-- the declared sorts and the abbreviations that command n brings
+abbrev pub abbreviations_by : Signature → ℕ → Command → List (List ℕ × Sort)
+abbreviations_by s n command = abbreviations_of_effect s n (effect_of command)
 
 abbrev pub assertions_of_addition : ℕ → Addition → List Assertion
 assertions_of_addition n (items.Declaration x parameters sort) = []
 assertions_of_addition n (items.Definition x parameters sort body) = []
+assertions_of_addition n (items.SortDeclaration x) = []
 assertions_of_addition n (items.Abbreviation x sort) = []
 assertions_of_addition n (items.Assertion term) = record { command = n; term = term } ∷ []
 
@@ -300,7 +310,7 @@ brought_by profile before brought c =
       global = global_in_force before;
       removes = removed_by c.command;
       entries = entries_by s c.number c.command;
-      abbreviations = abbreviations_by s c.command;
+      abbreviations = abbreviations_by s c.number c.command;
       assertions = assertions_by c.number c.command;
     }
 
@@ -443,6 +453,7 @@ max_levels = 10000
 abbrev pub flaw_of_addition : Signature → ℕ → Addition → Option CommandFlaw
 flaw_of_addition s n (items.Declaration x parameters sort) = flaw_of (declared_in s n x parameters sort)
 flaw_of_addition s n (items.Definition x parameters sort body) = flaw_of (defined_in s x parameters sort body)
+flaw_of_addition s n (items.SortDeclaration x) = flaw_of (sort_declared_in (sort_names_of s) n x)
 flaw_of_addition s n (items.Abbreviation x sort) = flaw_of (abbreviated_in (sort_names_of s) x sort)
 flaw_of_addition s n (items.Assertion term) = flaw_of (asserted_in (names_of s) term)
 

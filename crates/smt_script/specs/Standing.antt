@@ -24,7 +24,7 @@ abbrev pub names_of_command : Profile → Brings Entry
 names_of_command profile earlier c = entries_by (signature_in_force profile earlier) c.number c.command
 
 abbrev pub abbreviations_of_command : Profile → Brings (List ℕ × Sort)
-abbreviations_of_command profile earlier c = abbreviations_by (signature_in_force profile earlier) c.command
+abbreviations_of_command profile earlier c = abbreviations_by (signature_in_force profile earlier) c.number c.command
 
 abbrev pub assertions_of_command : Brings Assertion
 assertions_of_command earlier c = assertions_by c.number c.command

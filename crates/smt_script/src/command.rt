@@ -61,6 +61,10 @@ pub enum Command<'a> {
         sort: Tree<'a>,
         body: Tree<'a>,
     },
+    /// `(declare-sort name 0)` (section 4.2.3), only in the wide profile.
+    DeclareSort {
+        name: &'a [u8],
+    },
     /// `(define-sort name () sort)` (section 4.2.3).
     DefineSort {
         name: &'a [u8],
@@ -116,7 +120,7 @@ impl Command<'_> {
             Command::SetOption { .. } | Command::SetInfo { .. } => Kind::Setting,
             Command::DeclareConst { .. } | Command::DeclareFun { .. } => Kind::Change,
             Command::DefineFun { .. } | Command::DefineConst { .. } => Kind::Change,
-            Command::DefineSort { .. } => Kind::Change,
+            Command::DeclareSort { .. } | Command::DefineSort { .. } => Kind::Change,
             Command::Assert { .. } | Command::ResetAssertions => Kind::Change,
             Command::Push { .. } | Command::Pop { .. } => Kind::Change,
             Command::Reset => Kind::Reset,

@@ -13,8 +13,9 @@ mod shapes;
 use crate::command::{Command, Query};
 use crate::forms::shapes::{
     any_list, is_abbreviation, is_global_declarations, keyword_and_value, name_and_abbreviated,
-    name_and_definition, name_and_rank, name_and_sort, name_and_two, numeral_or_none, one_keyword,
-    one_list, one_list_of_literals, one_numeral, one_symbol, one_text, one_tree, truth_of_value,
+    name_and_definition, name_and_rank, name_and_sort, name_and_two, name_and_zero,
+    numeral_or_none, one_keyword, one_list, one_list_of_literals, one_numeral, one_symbol,
+    one_text, one_tree, truth_of_value,
 };
 use smt_faults::CommandFlaw;
 use smt_theory::Profile;
@@ -94,6 +95,7 @@ fn command_with<'a>(profile: Profile, word: Word, parts: Trees<'a>) -> Option<Co
         Word::DeclareConst => constant(parts),
         Word::DeclareFun => function(parts),
         Word::DefineFun => definition(parts),
+        Word::DeclareSort => sort_declaration(profile, parts),
         Word::DefineSort => abbreviation(parts),
         Word::Assert => Some(Command::Assert {
             term: one_tree(parts)?,
@@ -124,7 +126,7 @@ fn command_with<'a>(profile: Profile, word: Word, parts: Trees<'a>) -> Option<Co
         Word::Bang | Word::Underscore | Word::As | Word::Binary | Word::Decimal => None,
         Word::Exists | Word::Hexadecimal | Word::Forall | Word::Let | Word::Match => None,
         Word::Numeral | Word::Par | Word::String => None,
-        Word::DeclareDatatype | Word::DeclareDatatypes | Word::DeclareSort => None,
+        Word::DeclareDatatype | Word::DeclareDatatypes => None,
         Word::DefineFunRec | Word::DefineFunsRec => None,
     }
 }
@@ -190,6 +192,24 @@ fn definition(parts: Trees<'_>) -> Option<Command<'_>>
         sort,
         body,
     })
+}
+
+// The declaration of a sort: only in the wide profile, and without parameters.
+fn sort_declaration<'a>(profile: Profile, parts: Trees<'a>) -> Option<Command<'a>>
+    ensures { option_map command_view result
+        ≡ commands.command_with profile Word.DeclareSort (sexps_of parts.entry) }
+{
+    let name = sort_declared_by(profile, parts)?;
+    Some(Command::DeclareSort { name })
+}
+
+fn sort_declared_by<'a>(profile: Profile, parts: Trees<'a>) -> Option<&'a [u8]>
+    ensures { option_map (λ name. name.now) result ≡ commands.sort_declared_by profile (sexps_of parts.entry) }
+{
+    match profile {
+        Profile::Base => None,
+        Profile::Wide => name_and_zero(parts),
+    }
 }
 
 fn abbreviation(parts: Trees<'_>) -> Option<Command<'_>>

@@ -35,7 +35,7 @@ use smt_terms::laws::{definitions_are_well_sorted, labels_are_introduced};
 /// and label is well sorted over the earlier ones.
 pub fn names_in_force_are_introduced()
     ensures { (profile : Profile) (commands : List Numbered) → HaveNoFlaw profile [] commands
-        → AreIntroduced (signature_in_force profile commands).theories []
+        → AreIntroduced (signature_in_force profile commands).theories None []
         (signature_in_force profile commands).entries }
 {
     definitions_are_well_sorted();

@@ -68,7 +68,7 @@ pub struct Start {
 #[derive(Drop)]
 pub struct Stack {
     alloc: Global,
-    library: Library,
+    library: Library<'static>,
     assertions: Vec<Assertion>,
     /// The literals of the last check; none where something in force has changed since.
     assumptions: Vec<TermId>,
@@ -111,7 +111,7 @@ impl Stack {
     }
 
     /// The theories, abbreviations and names in force, and the terms of the assertions.
-    pub fn library(&self) -> &Library
+    pub fn library(&self) -> &Library<'_>
         ensures stands { (commands : List Numbered) → StandsFor self.now commands
             → terms.StandsFor result.now (signature_in_force (profile_of self.now) commands) }
         ensures view { result.now ≡ library_of self.now }

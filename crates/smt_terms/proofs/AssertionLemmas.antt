@@ -1,5 +1,5 @@
 -- Labels that are added, one behind another.
-use Rattle.std.proofs.Common.{◌≡◌, ℕ, Bool, true, false, cond, List, [], ◌∷◌, ◌++◌, map, Option, Some, None}
+use Rattle.std.proofs.Common.{◌≡◌, ℕ, Bool, true, false, cond, List, [], ◌∷◌, ◌++◌, ◌||◌, map, Option, Some, None}
 use Rattle.std.proofs.Common.{is_some, Result, Ok, Err, OnOk, refl, ap, sym, ◌∙◌, subst, append_assoc}
 use Rattle.std.proofs.Common.{append-nil, inl, inr}
 use Rattle.std.proofs.lemmas.List.{map-append}
@@ -19,7 +19,10 @@ use Rattle.smt_terms.specs.Denotes.{IsLonger, Table}
 use Rattle.smt_terms.specs.Internal.Growing.{AreFitUnder, Bodies, HoldsUnder, IsFitUnder, terms_under}
 use Rattle.smt_terms.specs.Internal.LabelsView.{AreNew, AreSorted, label_entry}
 use Rattle.smt_terms.specs.Internal.TableView.{AreNamed, names_of_definitions, table_with}
-use Rattle.smt_terms.specs.Internal.LibraryView.{names_for, names_of_library, ranks_of_library}
+use Rattle.smt_terms.specs.Internal.LibraryView.{elements_of_library, names_for, names_of_library}
+use Rattle.smt_terms.specs.Internal.LibraryView.{ranks_of_library}
+use Rattle.smt_terms.specs.Elements.{element_among}
+use Rattle.smt_terms.specs.Freshness.{is_element}
 use Rattle.smt_terms.specs.Labels as spec
 use Rattle.smt_forms.specs.Labels.{labels_in}
 use Rattle.smt_terms.specs.Library.{StandsFor}
@@ -68,19 +71,22 @@ leaves-push names (spec.Given ls) ranks y r is leaves x none new =
 leaves-push names spec.Refused ranks y r is leaves x none new = absurd is
 leaves-push names spec.Unread ranks y r is leaves x none new = absurd is
 
-none_of : (o : Option Rank) → is_some o ≡ false → o ≡ None
+none_of : {A : Type 0} (o : Option A) → is_some o ≡ false → o ≡ None
 none_of None h = refl
 none_of (Some r) h = cc
 
 -- labels that fit are new
 fit_are_new : (names : Names) (ranks : List (List ℕ × Rank)) (ks : List Label) → IsGivenList names.labels
-    → Leaves names ranks → AreFit names (map (λ k. (k.name.items, sexp_of k.body)) ks) → AreNew ranks ks
+    → Leaves names ranks → AreFit names (map (λ k. (k.name.items, sexp_of k.body)) ks)
+    → AreNew names.elements ranks ks
 fit_are_new names ranks [] is leaves fits = tt
 fit_are_new names ranks (k ∷ ks) is leaves fits =
     let n =
-    neither (is_some (look_up names.ranks k.name.items))
-    (is_plain_operator names.theories k.name.items) fits.0.free in (
-      leaves k.name.items (none_of (look_up names.ranks k.name.items) n.0) fits.0.new,
+    neither (is_element names k.name.items) (is_some (look_up names.ranks k.name.items))
+    (neither (is_element names k.name.items || is_some (look_up names.ranks k.name.items))
+    (is_plain_operator names.theories k.name.items) fits.0.free).0 in (
+      leaves k.name.items (none_of (look_up names.ranks k.name.items) n.1) fits.0.new,
+      none_of (element_among names.elements k.name.items) n.0,
       fit_are_new (behind ((k.name.items, sexp_of k.body) ∷ []) names)
           (ranks ++ (k.name.items, rank_of_entry (label_entry k)) ∷ []) ks
           (IsGivenList-behind (k.name.items ∷ []) names.labels is)
@@ -101,7 +107,7 @@ given_fit library labels given term sort view has same =
 -- so are those of a term that has a sort
 pub given_are_new : (library : Library) (labels : spec.Labels) (given : List Label) (term : Sexp) (sort : Sort)
     → labels ≡ spec.Given [] → sort_in (names_for library labels) [] term ≡ Ok sort
-    → given_as given ≡ labels_in term → AreNew (ranks_of_library library) given
+    → given_as given ≡ labels_in term → AreNew (elements_of_library library) (ranks_of_library library) given
 given_are_new library labels given term sort view has same =
     fit_are_new (in_assertion (names_of_library library)) (ranks_of_library library) given tt (λ x h i. h)
     (given_fit library labels given term sort view has same)
@@ -166,7 +172,7 @@ fits_named names t bodies c s [] same longer fits named = tt
 fits_named names t bodies c s (l ∷ ls) same longer fits named = (
   record {
     free = ap (λ ts. is_plain_operator ts l.name.items) (sym same)
-        ∙ (neither (is_some (look_up names.ranks l.name.items))
+        ∙ (neither (is_element names l.name.items || is_some (look_up names.ranks l.name.items))
         (is_plain_operator names.theories l.name.items) fits.0.free).1;
     named = denotes_kept t (terms_under bodies c) longer [] 0 0 l.node (sexp_of l.body) named.0;
   },
@@ -196,19 +202,24 @@ pub record AreAdded (old now : Library) (all left : List Label) : Type 0 where
   pub names : names_of_definitions now.definitions.items
       ≡ names_of_definitions old.definitions.items ++ map (λ l. l.name.items) done
   pub bodies : now.bodies.items ≡ old.bodies.items ++ map (λ l. l.node) done
-  pub new : AreNew (ranks_of_library now) left
+  pub new : AreNew (elements_of_library now) (ranks_of_library now) left
   pub grown : Extends (contents_of old) (contents_of now)
   pub transient : now.transient ≡ old.transient
 
 no_entries : (s : Signature) → s ≡ with_entries s []
-no_entries s = λ i. record
-    { theories = s.theories; abbreviations = s.abbreviations; entries = sym (append-nil s.entries) i }
+no_entries s = λ i. record {
+  theories = s.theories;
+  abbreviations = s.abbreviations;
+  elements = s.elements;
+  entries = sym (append-nil s.entries) i;
+}
 
 one_entry : (s : Signature) (done : List Entry) (e : Entry)
     → with_entry (with_entries s done) e ≡ with_entries s (done ++ e ∷ [])
 one_entry s done e = λ i. record {
   theories = s.theories;
   abbreviations = s.abbreviations;
+  elements = s.elements;
   entries = append_assoc s.entries done (e ∷ []) i;
 }
 
@@ -228,8 +239,8 @@ fit_longer bodies c d s t l same longer fits = record {
       fits.named;
 }
 
-pub AreAdded-none : (library : Library) (all : List Label) → AreNew (ranks_of_library library) all
-    → AreAdded library library all all
+pub AreAdded-none : (library : Library) (all : List Label)
+    → AreNew (elements_of_library library) (ranks_of_library library) all → AreAdded library library all all
 AreAdded-none library all new = record {
   done = [];
   are = refl;
@@ -260,8 +271,8 @@ pub AreAdded-next : (old mid now : Library) (all left rest : List Label) (l : La
 AreAdded-next old mid now all left rest l first split added ranks named joined grown transient =
     let parts : all ≡ first.done ++ l ∷ rest = first.are ∙ ap (λ (ls : List Label). first.done ++ ls) split in
     let longer = λ (bodies : Bodies).
-    under_longer bodies (contents_of old) (contents_of mid) first.grown.theories first.grown.heads
-    first.grown.rows in
+    under_longer bodies (contents_of old) (contents_of mid) first.grown.theories
+    first.grown.elements first.grown.heads first.grown.apart first.grown.rows in
     record {
       done = first.done ++ l ∷ [];
       are = parts ∙ sym (append_assoc first.done (l ∷ []) rest);
@@ -277,8 +288,10 @@ AreAdded-next old mid now all left rest l first split added ranks named joined g
       names = one_behind (λ k. k.name.items) (names_of_definitions old.definitions.items) first.done l first.names
           named;
       bodies = one_behind (λ k. k.node) old.bodies.items first.done l first.bodies joined;
-      new = subst (λ rs. AreNew rs rest) (sym ranks)
-          (subst (λ ls. AreNew (ranks_of_library mid) ls) split first.new).1;
+      new = subst (λ rs. AreNew (elements_of_library now) rs rest) (sym ranks)
+          (subst (λ es. AreNew es
+          (ranks_of_library mid ++ (l.name.items, rank_of_entry (label_entry l)) ∷ []) rest) (sym grown.elements)
+          (subst (λ ls. AreNew (elements_of_library mid) (ranks_of_library mid) ls) split first.new).2);
       grown = extends_on (contents_of old) (contents_of mid) (contents_of now) first.grown grown;
       transient = transient ∙ first.transient;
     }

@@ -8,22 +8,24 @@ use Rattle.std.specs.List.{All}
 use Rattle.std.specs.Prelude.{bytes_eq}
 use Rattle.smt_trees.specs.Sexp.{Sexp, Atom, Reserved, Items, Nil, Cons, Numeral, Hexadecimal, Binary}
 use Rattle.smt_trees.specs.Sexp.{Symbol}
-use Rattle.smt_trees.specs.declared.reserved.Word.TheVariants.{Bang, Let, Underscore}
+use Rattle.smt_trees.specs.declared.reserved.Word.TheVariants.{As, Bang, Let, Underscore}
 use Rattle.smt_theory.specs.Operators.{is_plain_operator}
 use Rattle.smt_theory.specs.Words.{look_up}
 use Rattle.smt_theory.specs.declared.theories.Theories.{Theories}
+use Rattle.smt_forms.specs.ElementNames.{qualified_symbol}
 use Rattle.smt_forms.specs.Labels.{labels_among}
 use Rattle.smt_nodes.specs.Node as node
 use Rattle.smt_nodes.specs.Node.{Node, Row}
-use Rattle.smt_terms.specs.Denotes.{Denotes, Head, IsLonger, IsNameOf, IsRow, Slots, Table, UsesNone}
+use Rattle.smt_terms.specs.Denotes.{AreApart, Denotes, Head, IsLonger, IsNameOf, IsRow, Slots, Table, UsesNone}
 use Rattle.smt_terms.specs.Denotes.{node_of, slots_from, symbol_node, unless_labelled}
 use Rattle.smt_terms.specs.Internal.TableView.{HasBody, IsReady}
 use Rattle.smt_terms.specs.Signature as signature
-use Rattle.smt_terms.specs.Signature.{Entry, Origin, Signature, declared_among, defined_among, is_declared}
+use Rattle.smt_terms.specs.Signature.{Entry, Origin, Signature, declared_among, defined_among}
 use Rattle.smt_terms.specs.TermsOf.{AreBodies, AreTermsOf, IsBody, IsNextBody, first_heads, heads_from}
 use Rattle.smt_terms.specs.TermsOf.{place_behind, with_declared, with_defined}
 use Rattle.smt_terms.specs.declared.library.Found.{Found}
 use Rattle.smt_terms.specs.declared.library.Found.TheVariants as place
+use Rattle.smt_terms.proofs.ApartLemmas.{apart_first}
 use Rattle.smt_terms.proofs.DenotesLemmas.{denotes_kept}
 use Rattle.smt_terms.proofs.NameLemmas.{same_name}
 use Rattle.smt_terms.proofs.PlaceLemmas.{counted_declared, counted_defined}
@@ -42,7 +44,11 @@ first_longer n t u longer =
     let r = take_longer n t.heads longer.heads.0 in
     record {
       theories = longer.theories;
+      elements = longer.elements;
       heads = (r.0, ap (take n) longer.heads.1 ∙ r.1);
+      apart = subst (λ hs. AreApart t.elements (take n t.heads) (take n hs)) (sym longer.heads.1)
+          (apart_first t.elements n t.heads longer.heads.0
+          (subst (λ hs. AreApart t.elements t.heads hs) longer.heads.1 longer.apart));
       names = longer.names;
       bodies = longer.bodies;
       rows = longer.rows;
@@ -157,6 +163,8 @@ denotes_within t slots next around i (Atom Binary digits) d =
     row_within t.rows i around (Some (node.Binary digits)) d.0
 denotes_within t slots next around i (Items (Cons (Reserved Underscore) parts)) d =
     row_within t.rows i around (node_of t d.0 []) d.2.0
+denotes_within t slots next around i (Items (Cons (Reserved As) parts)) d =
+    row_within t.rows i around (option_map node.Element (qualified_symbol parts)) d.0
 denotes_within t slots next around i
     (Items (Cons (Reserved Let) (Cons (Items bindings) (Cons body Nil)))) d =
     row_within t.rows i around (Some (node.Let d.0 d.1)) d.2.0

@@ -2,13 +2,13 @@
 use Rattle.std.proofs.Common.{◌≡◌, ℕ, true, false, List, [], ◌∷◌, ◌++◌, Option, Some, None, is_some}
 use Rattle.std.proofs.Common.{Result, Ok, Err, refl, sym, ap, ◌∙◌, append_assoc, append-nil, inl, inr}
 use Rattle.smt_trees.specs.Sexp.{Sexp, Sexps, Reserved, Items, Cons, Nil}
-use Rattle.smt_trees.specs.declared.reserved.Word.TheVariants.{Bang, Let, Underscore}
+use Rattle.smt_trees.specs.declared.reserved.Word.TheVariants.{As, Bang, Let, Underscore}
 use Rattle.smt_theory.specs.Words.{look_up, result_and_then}
 use Rattle.smt_theory.specs.declared.sort.Sort.{Sort}
 use Rattle.smt_forms.specs.Heads.{begins_indexed}
 use Rattle.smt_terms.specs.Checking.{sort_in, sorts_in, sort_applied, sort_of_call, sort_unless_variable}
 use Rattle.smt_forms.specs.Identifier.{Identifier, Plain, Indexed, applied, indexed}
-use Rattle.smt_forms.specs.Heads.{begins_annotated, begins_let}
+use Rattle.smt_forms.specs.Heads.{begins_annotated, begins_let, begins_qualified}
 use Rattle.smt_terms.specs.Internal.Calls.{names_variable}
 use Rattle.smt_forms.specs.Labels.{labels_in}
 use Rattle.smt_terms.specs.Signature.{Names, behind}
@@ -76,26 +76,34 @@ pub bang_head : (head : Sexp) → begins_annotated head ≡ true → head ≡ Re
 bang_head (Reserved Bang) h = refl
 bang_head _ h = cc
 
+-- and one that is `as`
+pub as_head : (head : Sexp) → begins_qualified head ≡ true → head ≡ Reserved As
+as_head (Reserved As) h = refl
+as_head _ h = cc
+
 -- a head that is none of these
 pub record IsPlainHead (head : Sexp) : Type 0 where
   pub no_index : begins_indexed head ≡ false
   pub no_let : begins_let head ≡ false
   pub no_bang : begins_annotated head ≡ false
+  pub no_as : begins_qualified head ≡ false
 
 pub plain_head : (head : Sexp) → false ≡ begins_indexed head → false ≡ begins_let head → false ≡ begins_annotated head
-    → IsPlainHead head
-plain_head head index is_let bang = record { no_index = sym index; no_let = sym is_let; no_bang = sym bang }
+    → false ≡ begins_qualified head → IsPlainHead head
+plain_head head index is_let bang is_as =
+    record { no_index = sym index; no_let = sym is_let; no_bang = sym bang; no_as = sym is_as }
 
 -- a list with another head applies an identifier, or is out of form
 pub other_head : (names : Names) (scope : Scope) (head : Sexp) (args : Sexps)
     → begins_indexed head ≡ false → begins_let head ≡ false → begins_annotated head ≡ false
-    → sort_in names scope (Items (Cons head args))
+    → begins_qualified head ≡ false → sort_in names scope (Items (Cons head args))
     ≡ result_and_then (applied head args)
     (λ f. result_and_then (sorts_in names scope args) (λ ss. sort_of_call names scope f ss))
-other_head names scope (Reserved Underscore) args h i j = cc
-other_head names scope (Reserved Let) args h i j = cc
-other_head names scope (Reserved Bang) args h i j = cc
-other_head names scope _ args h i j = refl
+other_head names scope (Reserved Underscore) args h i j k = cc
+other_head names scope (Reserved As) args h i j k = cc
+other_head names scope (Reserved Let) args h i j k = cc
+other_head names scope (Reserved Bang) args h i j k = cc
+other_head names scope _ args h i j k = refl
 
 -- a call of a variable is ill sorted
 pub call_of_variable : (names : Names) (scope : Scope) (f : Identifier) (ss : List Sort)
@@ -126,7 +134,7 @@ pub applied_ok : (names : Names) (scope : Scope) (head : Sexp) (args parts : Sex
     → sort_in names scope (Items parts) ≡ sort_of_call names scope f ss
 applied_ok names scope head args parts f ss split other is done =
     ap (λ ps. sort_in names scope (Items ps)) split ∙ other_head names scope head args other.no_index
-    other.no_let other.no_bang
+    other.no_let other.no_bang other.no_as
     ∙ ap (λ r. result_and_then r
     (λ g. result_and_then (sorts_in names scope args) (λ ts. sort_of_call names scope g ts))) is
     ∙ ap (λ r. result_and_then r (λ ts. sort_of_call names scope f ts)) done
@@ -138,7 +146,7 @@ pub fault_of_form : (names : Names) (scope : Scope) (head : Sexp) (args parts : 
 fault_of_form names scope head args parts e split other (inl m) = inl m
 fault_of_form names scope head args parts e split other (inr is) =
     inr (ap (λ ps. sort_in names scope (Items ps)) split ∙ other_head names scope head args other.no_index
-    other.no_let other.no_bang ∙ ap
+    other.no_let other.no_bang other.no_as ∙ ap
     (λ r. result_and_then r (λ g. result_and_then (sorts_in names scope args)
     (λ ts. sort_of_call names scope g ts))) is)
 
@@ -150,7 +158,7 @@ pub fault_of_args : (names : Names) (scope : Scope) (head : Sexp) (args parts : 
 fault_of_args names scope head args parts f e split other is (inl m) = inl m
 fault_of_args names scope head args parts f e split other is (inr done) =
     inr (ap (λ ps. sort_in names scope (Items ps)) split ∙ other_head names scope head args other.no_index
-    other.no_let other.no_bang
+    other.no_let other.no_bang other.no_as
     ∙ ap (λ r. result_and_then r
     (λ g. result_and_then (sorts_in names scope args) (λ ts. sort_of_call names scope g ts))) is
     ∙ ap (λ r. result_and_then r (λ ts. sort_of_call names scope f ts)) done)

@@ -7,7 +7,7 @@ use Rattle.std.specs.Str.{bytes_eq}
 use Rattle.smt_trees.specs.Sexp as sexp
 use Rattle.smt_trees.specs.Sexp.{Sexp, Sexps, Atom, Reserved, Items, Nil, Cons, Symbol, Keyword, Numeral}
 use Rattle.smt_trees.specs.Sexp.{Hexadecimal, Binary}
-use Rattle.smt_trees.specs.declared.reserved.Word.TheVariants.{Bang, Let, Underscore}
+use Rattle.smt_trees.specs.declared.reserved.Word.TheVariants.{As, Bang, Let, Underscore}
 use Rattle.smt_theory.specs.Words.{look_up, result_and_then}
 use Rattle.smt_theory.specs.declared.sort.Sort.{Sort}
 use Rattle.smt_forms.specs.Bindings.{are_attributes, are_bindings, named_trees}
@@ -143,6 +143,7 @@ mutual
   closed-sort names inner outer (Reserved word) sort u unused h = cc
   closed-sort names inner outer (Items Nil) sort u unused h = cc
   closed-sort names inner outer (Items (Cons (Reserved Underscore) parts)) sort u unused h = h
+  closed-sort names inner outer (Items (Cons (Reserved As) parts)) sort u unused h = h
   closed-sort names inner outer
       (Items (Cons (Reserved Let) (Cons (Items bindings) (Cons body Nil)))) sort u unused h =
       let later = behind (labels_in_bindings bindings) names in

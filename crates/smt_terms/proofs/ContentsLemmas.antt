@@ -1,6 +1,7 @@
 -- The contents of libraries, cut and grown.
 use Rattle.std.proofs.Common.{◌≡◌, ◌≤◌, ℕ, zero, suc, ◌+◌, List, [], ◌∷◌, ◌++◌, length, map, take}
-use Rattle.std.proofs.Common.{refl, ap, sym, ◌∙◌, arith, append_assoc, Result, Ok, Err, OnOk, OnErr}
+use Rattle.std.proofs.Common.{refl, ap, sym, ◌∙◌, arith, append_assoc, Result, Ok, Err, OnOk, OnErr, subst}
+use Rattle.std.proofs.Common.{Bor, Option, option_map}
 use Rattle.std.specs.Global.{Vec}
 use Rattle.std.proofs.lemmas.List.{append-nil, length-append, length-take-le, map-append, take-append-le, take-map}
 use Rattle.smt_trees.specs.Sexp.{Sexp}
@@ -9,9 +10,9 @@ use Rattle.smt_nodes.specs.Node.{Row}
 use Rattle.smt_nodes.specs.Nodes.{rows_of}
 use Rattle.smt_terms.specs.Contents.{Contents, Extends, IsBelow, IsWithin, contents_of, declaration_view}
 use Rattle.smt_terms.specs.Contents.{first_of, terms_in}
-use Rattle.smt_terms.specs.Denotes.{IsLonger}
+use Rattle.smt_terms.specs.Denotes.{AreApart, IsLonger}
 use Rattle.smt_terms.specs.Internal.Growing.{KeepsNames}
-use Rattle.smt_terms.specs.Internal.LibraryView.{abbreviations_of}
+use Rattle.smt_terms.specs.Internal.LibraryView.{abbreviations_of, sort_names}
 use Rattle.smt_terms.specs.Internal.TableView.{names_of_definitions}
 use Rattle.smt_terms.specs.Library.{IsTermOf}
 use Rattle.smt_terms.specs.declared.library.Declared.{Declared}
@@ -19,14 +20,16 @@ use Rattle.smt_terms.specs.declared.library.Definition.{Definition}
 use Rattle.smt_terms.specs.declared.library.Library.{Library}
 use Rattle.smt_terms.specs.declared.library.marks.Mark.{Mark}
 use Rattle.smt_terms.specs.declared.sorts.SortNames.{SortNames}
+use Rattle.smt_terms.proofs.ApartLemmas.{apart_on, apart_same}
 use Rattle.smt_terms.proofs.DenotesLemmas.{denotes_kept}
 
 -- contents whose parts are the same
-pub same_contents : (c d : Contents) → c.theories ≡ d.theories → c.abbreviations ≡ d.abbreviations
+pub same_contents : (c d : Contents) → c.theories ≡ d.theories → c.elements ≡ d.elements → c.abbreviations ≡ d.abbreviations
     → c.ranks ≡ d.ranks → c.heads ≡ d.heads → c.declared ≡ d.declared → c.definitions ≡ d.definitions
     → c.bodies ≡ d.bodies → c.rows ≡ d.rows → c ≡ d
-same_contents c d theories abbreviations ranks heads declared definitions bodies rows = λ i. record {
+same_contents c d theories elements abbreviations ranks heads declared definitions bodies rows = λ i. record {
   theories = theories i;
+  elements = elements i;
   abbreviations = abbreviations i;
   ranks = ranks i;
   heads = heads i;
@@ -78,7 +81,7 @@ within_earlier m n xs below within =
 pub mark_kept : (mark : Mark) (c d : Contents) → IsWithin mark c → Extends c d
     → first_of mark d ≡ first_of mark c
 mark_kept mark c d within more =
-    same_contents (first_of mark d) (first_of mark c) more.theories
+    same_contents (first_of mark d) (first_of mark c) more.theories more.elements
     (take_kept mark.abbreviations c.abbreviations d.abbreviations within.abbreviations more.abbreviations)
     (take_kept mark.names c.ranks d.ranks within.ranks more.ranks)
     (take_kept mark.names c.heads d.heads within.heads more.heads)
@@ -102,7 +105,7 @@ mark_within mark c d within more = record {
 pub earlier_kept : (mark later : Mark) (c : Contents) → IsBelow mark later
     → first_of mark (first_of later c) ≡ first_of mark c
 earlier_kept mark later c below =
-    same_contents (first_of mark (first_of later c)) (first_of mark c) refl
+    same_contents (first_of mark (first_of later c)) (first_of mark c) refl refl
     (take_earlier mark.abbreviations later.abbreviations c.abbreviations below.abbreviations)
     (take_earlier mark.names later.names c.ranks below.names)
     (take_earlier mark.names later.names c.heads below.names)
@@ -136,7 +139,9 @@ names_go_on ds es (more, is) = (
 pub terms_longer : (c d : Contents) → Extends c d → IsLonger (terms_in c) (terms_in d)
 terms_longer c d more = record {
   theories = more.theories;
+  elements = more.elements;
   heads = more.heads;
+  apart = more.apart;
   names = names_go_on c.definitions d.definitions more.definitions;
   bodies = more.bodies;
   rows = more.rows;
@@ -156,10 +161,13 @@ goes_on {A = A} xs ys zs (more, h) (rest, i) =
 pub extends_on : (c d e : Contents) → Extends c d → Extends d e → Extends c e
 extends_on c d e first second = record {
   theories = second.theories ∙ first.theories;
+  elements = second.elements ∙ first.elements;
   abbreviations =
       goes_on c.abbreviations d.abbreviations e.abbreviations first.abbreviations second.abbreviations;
   ranks = goes_on c.ranks d.ranks e.ranks first.ranks second.ranks;
   heads = goes_on c.heads d.heads e.heads first.heads second.heads;
+  apart = apart_on c.elements c.heads d.heads e.heads first.apart
+      (subst (λ es. AreApart es d.heads e.heads) first.elements second.apart);
   declared = goes_on c.declared d.declared e.declared first.declared second.declared;
   definitions = goes_on c.definitions d.definitions e.definitions first.definitions second.definitions;
   bodies = goes_on c.bodies d.bodies e.bodies first.bodies second.bodies;
@@ -174,9 +182,11 @@ nothing_more xs ys is = ([], is ∙ sym (append-nil xs))
 pub extends_itself : (c : Contents) → Extends c c
 extends_itself c = record {
   theories = refl;
+  elements = refl;
   abbreviations = nothing_more _ _ refl;
   ranks = nothing_more _ _ refl;
   heads = nothing_more _ _ refl;
+  apart = apart_same c.elements c.heads c.heads refl;
   declared = nothing_more _ _ refl;
   definitions = nothing_more _ _ refl;
   bodies = nothing_more _ _ refl;
@@ -188,6 +198,7 @@ extends_itself c = record {
 pub keeps_on : (c d e : Contents) → KeepsNames c d → KeepsNames d e → KeepsNames c e
 keeps_on c d e first second = record {
   theories = second.theories ∙ first.theories;
+  elements = second.elements ∙ first.elements;
   abbreviations = second.abbreviations ∙ first.abbreviations;
   ranks = second.ranks ∙ first.ranks;
   heads = second.heads ∙ first.heads;
@@ -200,9 +211,11 @@ keeps_on c d e first second = record {
 pub grown_by : (c d : Contents) → KeepsNames c d → Extends c d
 grown_by c d kept = record {
   theories = kept.theories;
+  elements = kept.elements;
   abbreviations = nothing_more _ _ kept.abbreviations;
   ranks = nothing_more _ _ kept.ranks;
   heads = nothing_more _ _ kept.heads;
+  apart = apart_same c.elements c.heads d.heads kept.heads;
   declared = nothing_more _ _ kept.declared;
   definitions = nothing_more _ _ kept.definitions;
   bodies = nothing_more _ _ kept.bodies;
@@ -212,7 +225,7 @@ grown_by c d kept = record {
 -- where no name and no node has come, the contents are the same
 pub restored : (c d : Contents) → KeepsNames c d → d.rows ≡ c.rows → d ≡ c
 restored c d kept rows =
-    same_contents d c kept.theories kept.abbreviations kept.ranks kept.heads kept.declared kept.definitions kept.bodies
+    same_contents d c kept.theories kept.elements kept.abbreviations kept.ranks kept.heads kept.declared kept.definitions kept.bodies
     rows
 
 -- where a term was checked, or refused
@@ -221,12 +234,18 @@ pub more_rows : {A E : Type 0} (r : Result A E) (old new : List Row) → OnOk r 
 more_rows (Ok a) old new h i = h
 more_rows (Err e) old new h i = nothing_more old new i
 
+-- the same elements
+pub same_elements : {o p : Option (Bor SortNames)} → p ≡ o
+    → option_map (λ (z : Bor SortNames). sort_names z.now) p ≡ option_map (λ (z : Bor SortNames). sort_names z.now) o
+same_elements same = ap (option_map (λ (z : Bor SortNames). sort_names z.now)) same
+
 -- a library that differs in nodes alone
 pub keeps_names : (old new : Library) → new.names ≡ old.names → new.sorts ≡ old.sorts
-    → new.declared ≡ old.declared → new.definitions ≡ old.definitions → new.bodies ≡ old.bodies
+    → new.elements ≡ old.elements → new.declared ≡ old.declared → new.definitions ≡ old.definitions → new.bodies ≡ old.bodies
     → Goes (rows_of old.nodes) (rows_of new.nodes) → KeepsNames (contents_of old) (contents_of new)
-keeps_names old new names sorts declared definitions bodies rows = record {
+keeps_names old new names sorts elements declared definitions bodies rows = record {
   theories = ap (λ (z : SortNames). z.theories) sorts;
+  elements = same_elements elements;
   abbreviations = ap abbreviations_of sorts;
   ranks = rw names refl;
   heads = rw names refl;

@@ -81,42 +81,43 @@ zip-parts (p ∷ ps) = ap (λ (qs : Params). p ∷ qs) (zip-parts ps)
 -- ## Definitions
 
 -- the names that these entries give, where no label may stand
-abbrev pub refused_over : Theories → List Entry → Names
-refused_over theories earlier = record { theories = theories; ranks = ranks_of earlier; labels = Refused }
+abbrev pub refused_over : Theories → Option SortNames → List Entry → Names
+refused_over theories elements earlier =
+    record { theories = theories; elements = elements; ranks = ranks_of earlier; labels = Refused }
 
 -- what a definition brings, and that it is well sorted over the earlier names
 pub well_sorted : AreCompared
-    → (theories : Theories) (earlier : List Entry) (x : List ℕ) (ps : Params) (sort : Sort) (body : Sexp)
-    (e : Entry) → AreDifferent (map (λ p. p.0) ps)
-    → definition_in (refused_over theories earlier) x ps sort body ≡ Ok e
-    → (definition x ps sort body ≡ e) × IsWellSorted theories earlier e
-well_sorted compared theories earlier x ps sort body e different h = by (sort_in names ps body) refl h
+    → (theories : Theories) (elements : Option SortNames) (earlier : List Entry) (x : List ℕ) (ps : Params) (sort : Sort)
+    (body : Sexp) (e : Entry) → AreDifferent (map (λ p. p.0) ps)
+    → definition_in (refused_over theories elements earlier) x ps sort body ≡ Ok e
+    → (definition x ps sort body ≡ e) × IsWellSorted theories elements earlier e
+well_sorted compared theories elements earlier x ps sort body e different h = by (sort_in names ps body) refl h
   where
     names : Names
-    names = refused_over theories earlier
+    names = refused_over theories elements earlier
 
     made : definition x ps sort body ≡ e → sort_in names ps body ≡ Ok sort
-        → (definition x ps sort body ≡ e) × IsWellSorted theories earlier e
+        → (definition x ps sort body ≡ e) × IsWellSorted theories elements earlier e
     made is sorted = (
       is,
-      subst (IsWellSorted theories earlier) is (record {
+      subst (IsWellSorted theories elements earlier) is (record {
         counted = length-map ps (λ p. p.0) ∙ sym (length-map ps (λ p. p.1));
         different = different;
-        sorted = ap (λ (qs : Params). sort_in (unlabelled_over theories earlier) qs body) (zip-parts ps) ∙
-            kept-sort names (unlabelled_over theories earlier) (Keeps-unlabelled names) ps body sort sorted;
+        sorted = ap (λ (qs : Params). sort_in (unlabelled_over theories elements earlier) qs body) (zip-parts ps) ∙
+            kept-sort names (unlabelled_over theories elements earlier) (Keeps-unlabelled names) ps body sort sorted;
       }),
     )
 
     found_by : (found : Sort) (b : Bool) → is_same_sort found sort ≡ b → sort_in names ps body ≡ Ok found
         → cond b (Ok (definition x ps sort body)) (Err IllSorted) ≡ Ok e
-        → (definition x ps sort body ≡ e) × IsWellSorted theories earlier e
+        → (definition x ps sort body ≡ e) × IsWellSorted theories elements earlier e
     found_by found true same sorted h =
         made (cc) (sorted ∙ ap (λ (s : Sort). Ok s) ((compared found sort).0 same))
     found_by found false same sorted h = cc
 
     by : (r : Result Sort TermFlaw) → sort_in names ps body ≡ r
         → result_and_then r (λ found. cond (is_same_sort found sort) (Ok (definition x ps sort body))
-        (Err IllSorted)) ≡ Ok e → (definition x ps sort body ≡ e) × IsWellSorted theories earlier e
+        (Err IllSorted)) ≡ Ok e → (definition x ps sort body ≡ e) × IsWellSorted theories elements earlier e
     by (Err f) sorted h = cc
     by (Ok found) sorted h = found_by found (is_same_sort found sort) refl sorted h
 
@@ -124,7 +125,7 @@ well_sorted compared theories earlier x ps sort body e different h = by (sort_in
 pub record IsTaken (s : Signature) (x : List ℕ) (e : Entry) : Type 0 where
   pub free : is_taken (names_of s) x ≡ false
   pub named : e.name ≡ x
-  pub sorted : IsWellSorted s.theories s.entries e
+  pub sorted : IsWellSorted s.theories s.elements s.entries e
 
 pub IsTaken-defined : AreCompared
     → (s : Signature) (x : List ℕ) (params : List (List ℕ × Sexp)) (tree body : Sexp) (e : Entry)
@@ -133,7 +134,7 @@ IsTaken-defined compared s x params tree body e h = by (is_taken (names_of s) x)
     (parameters_named (sort_names_of s) [] params) refl (sort_named (sort_names_of s) tree) h
   where
     made : (ps : Params) (sort : Sort) → is_taken (names_of s) x ≡ false
-        → (definition x ps sort body ≡ e) × IsWellSorted s.theories s.entries e → IsTaken s x e
+        → (definition x ps sort body ≡ e) × IsWellSorted s.theories s.elements s.entries e → IsTaken s x e
     made ps sort free p = record { free = free; named = sym (ap (λ (d : Entry). d.name) p.0); sorted = p.1 }
 
     by : (b : Bool) → is_taken (names_of s) x ≡ b → (r : Result Params TermFlaw)
@@ -145,5 +146,5 @@ IsTaken-defined compared s x params tree body e h = by (is_taken (names_of s) x)
     by false free (Err f) bound q h = cc
     by false free (Ok ps) bound (Err f) h = cc
     by false free (Ok ps) bound (Ok sort) h = made ps sort free
-        (well_sorted compared s.theories s.entries x ps sort body e
+        (well_sorted compared s.theories s.elements s.entries x ps sort body e
         (different (sort_names_of s) [] params ps tt bound) h)

@@ -1,21 +1,25 @@
 -- Nodes stand for their terms in longer tables too.
 use Rattle.std.proofs.Common.{◌≡◌, ℕ, zero, suc, ◌+◌, Bool, true, false, cond, List, [], ◌∷◌, ◌++◌}
-use Rattle.std.proofs.Common.{length, slice_get, Option, Some, None, Result, Ok, Err, refl, ap, sym, ◌∙◌, subst}
+use Rattle.std.proofs.Common.{length, slice_get, Option, Some, None, option_map, Result, Ok, Err, refl, ap, sym, ◌∙◌, subst}
 use Rattle.std.proofs.Common.{◌≤◌, arith}
 use Rattle.std.specs.Prelude.{bytes_eq}
 use Rattle.smt_trees.specs.Sexp.{Sexp, Sexps, Atom, Reserved, Items, Nil, Cons, Numeral, Hexadecimal, Binary}
 use Rattle.smt_trees.specs.Sexp.{Symbol}
-use Rattle.smt_trees.specs.declared.reserved.Word.TheVariants.{Bang, Let, Underscore}
+use Rattle.smt_trees.specs.declared.reserved.Word.TheVariants.{As, Bang, Let, Underscore}
 use Rattle.smt_theory.specs.Operators.{op_by}
 use Rattle.smt_theory.specs.Words.{look_up}
 use Rattle.smt_theory.specs.declared.op.Op.{Op}
 use Rattle.smt_theory.specs.declared.op.OpFault.{OpFault}
+use Rattle.smt_theory.specs.declared.sort.Sort.{Sort}
+use Rattle.smt_forms.specs.ElementNames.{qualified_symbol}
+use Rattle.smt_terms.specs.Elements.{element_among}
 use Rattle.smt_forms.specs.Identifier.{Identifier, Plain, Indexed}
 use Rattle.smt_forms.specs.Labels.{labels_among}
 use Rattle.smt_nodes.specs.Node as node
 use Rattle.smt_nodes.specs.Node.{Node, Row}
 use Rattle.smt_terms.specs.Denotes.{AreBound, AreDenoted, Denotes, HasBodyBelow, Head, IsLonger, IsNameOf}
-use Rattle.smt_terms.specs.Denotes.{IsNode, IsRow, Slots, Table, UsesNone, applied_node, named_node, node_of}
+use Rattle.smt_terms.specs.Denotes.{IsNode, IsRow, Slots, Table, UsesNone, applied_node, element_node}
+use Rattle.smt_terms.specs.Denotes.{named_node, node_alone, node_of}
 use Rattle.smt_terms.specs.Denotes.{slots_bound, symbol_node, unless_labelled}
 
 -- ---- longer lists
@@ -42,6 +46,11 @@ slice_get-append (x ∷ xs) ys (suc i) a h = slice_get-append xs ys i a h
 pub no_row : (r : Option Row) (around : ℕ) → IsRow r around None → ⊥
 no_row None around h = h
 no_row (Some row) around h = h
+
+-- what is no element's has no node of one
+no_element : {B : Type 0} (x : List ℕ) (o : Option Sort) (n : Node) → o ≡ None → element_node x o ≡ Some n → B
+no_element x None n none some = cc
+no_element x (Some sort) n none some = cc
 
 -- ---- from a table to a longer one
 
@@ -103,10 +112,25 @@ module _ (t u : Table) (longer : IsLonger t u) where
   made_kept i around (Some k) m same h =
       subst (λ o. IsNode u around i o) (sym (same k refl)) (is_kept i around (Some k) h)
 
+  alone_kept : (x : List ℕ) (r : Result Op OpFault) (n : Node) → node_alone t x r (look_up t.heads x) ≡ Some n
+      → node_alone u x r (look_up u.heads x) ≡ Some n
+  alone_kept x (Ok op) n h = h
+  alone_kept x (Err fault) n h = by (look_up t.heads x) (look_up u.heads x) refl refl h
+    where
+      by : (o p : Option Head) → look_up t.heads x ≡ o → look_up u.heads x ≡ p
+          → node_alone t x (Err fault) o ≡ Some n → node_alone u x (Err fault) p ≡ Some n
+      by (Some head) p is now h =
+          ap (λ q. node_alone u x (Err fault) q) (sym now ∙ head_kept x head is) ∙ h
+      by None None is now h = ap (λ es. element_node x (element_among es x)) longer.elements ∙ h
+      by None (Some head) is now h =
+          no_element x (element_among t.elements x) n (longer.apart x head is now) h
+
   symbol_kept : (x : List ℕ) (o : Option ℕ) (n : Node) → symbol_node t x o ≡ Some n
       → symbol_node u x o ≡ Some n
   symbol_kept x (Some slot) n h = h
-  symbol_kept x None n h = node_kept (Plain x) [] n h
+  symbol_kept x None n h =
+      ap (λ ts. node_alone u x (op_by ts x []) (look_up u.heads x)) longer.theories
+      ∙ alone_kept x (op_by t.theories x []) n h
 
   annotated_kept : (slots : Slots) (next around i : ℕ) (term : Sexp) (labels : List (List ℕ))
       → (Denotes t slots next (around + 1) i term → Denotes u slots next (around + 1) i term)
@@ -143,6 +167,8 @@ module _ (t u : Table) (longer : IsLonger t u) where
     denotes_kept slots next around i (Atom Binary digits) d = is_kept i around (Some (node.Binary digits)) d
     denotes_kept slots next around i (Items (Cons (Reserved Underscore) parts)) d =
         (d.0, d.1, made_kept i around (node_of t d.0 []) (node_of u d.0 []) (node_kept d.0 []) d.2)
+    denotes_kept slots next around i (Items (Cons (Reserved As) parts)) d =
+        is_kept i around (option_map node.Element (qualified_symbol parts)) d
     denotes_kept slots next around i
         (Items (Cons (Reserved Let) (Cons (Items bindings) (Cons body Nil)))) d = (
           d.0,

@@ -8,7 +8,7 @@ use Rattle.std.proofs.lemmas.List.{length-append, map-append, take-append-drop}
 use Rattle.std.proofs.Math.Seq.{drop-append_seam, take-append-add, drop-append-add}
 use Rattle.smt_trees.specs.Sexp.{Sexp, Sexps, Atom, Reserved, Items, Nil, Cons, Symbol, Keyword, Numeral}
 use Rattle.smt_trees.specs.Sexp.{Decimal, Hexadecimal, Binary, Text}
-use Rattle.smt_trees.specs.declared.reserved.Word.TheVariants.{Bang, Let, Underscore}
+use Rattle.smt_trees.specs.declared.reserved.Word.TheVariants.{As, Bang, Let, Underscore}
 use Rattle.smt_theory.specs.Words.{look_up, result_and_then}
 use Rattle.smt_theory.specs.declared.sort.Sort.{Sort}
 use Rattle.smt_theory.specs.declared.sort.Sort.TheVariants.{Bool as Boolean}
@@ -37,7 +37,7 @@ use Rattle.smt_terms.specs.Internal.DraftView.{are_open, are_open_bindings, is_o
 use Rattle.smt_terms.specs.Internal.DraftView.{seen_by, sorts_of, sorts_outside, sorts_seen}
 use Rattle.smt_terms.specs.declared.library.draft.Bound.{Bound}
 use Rattle.smt_terms.specs.declared.library.draft.Draft.{Draft}
-use Rattle.smt_forms.specs.Heads.{begins_annotated, begins_indexed, begins_let}
+use Rattle.smt_forms.specs.Heads.{begins_annotated, begins_indexed, begins_let, begins_qualified}
 use Rattle.smt_terms.proofs.CheckerLemmas.{IsPlainHead, Scope}
 
 -- the names of variables
@@ -431,6 +431,7 @@ mutual
   closed_inside xs all ys some hides (Reserved word) h = refl
   closed_inside xs all ys some hides (Items Nil) h = refl
   closed_inside xs all ys some hides (Items (Cons (Reserved Underscore) parts)) h = refl
+  closed_inside xs all ys some hides (Items (Cons (Reserved As) parts)) h = refl
   closed_inside xs all ys some hides
       (Items (Cons (Reserved Let) (Cons (Items bindings) (Cons body Nil)))) h =
       let zs = map (λ b. b.0) (named_trees bindings) in
@@ -655,14 +656,15 @@ open_let d mid inner bindings args body bound b c kept within more base named sp
 pub open_args : (d : Draft) (head : Sexp) (args parts : Sexps) → parts ≡ Cons head args → IsPlainHead head
     → is_open d (Items parts) ≡ are_open d args
 open_args d head args parts split other =
-    ap (λ (ps : Sexps). is_open d (Items ps)) split ∙ by head other.no_index other.no_let other.no_bang
+    ap (λ (ps : Sexps). is_open d (Items ps)) split ∙ by head other.no_index other.no_let other.no_bang other.no_as
   where
     by : (h : Sexp) → begins_indexed h ≡ false → begins_let h ≡ false → begins_annotated h ≡ false
-        → is_open d (Items (Cons h args)) ≡ are_open d args
-    by (Reserved Underscore) i j k = cc
-    by (Reserved Let) i j k = cc
-    by (Reserved Bang) i j k = cc
-    by _ i j k = refl
+        → begins_qualified h ≡ false → is_open d (Items (Cons h args)) ≡ are_open d args
+    by (Reserved Underscore) i j k l = cc
+    by (Reserved As) i j k l = cc
+    by (Reserved Let) i j k l = cc
+    by (Reserved Bang) i j k l = cc
+    by _ i j k l = refl
 
 -- a body is checked over its parameters, and has no labels
 pub sort_over_parameters : (library : Library) (labels : Labels) (old new : Draft) (ps : Scope) (body : Sexp)

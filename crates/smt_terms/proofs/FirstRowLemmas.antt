@@ -5,7 +5,7 @@ use Rattle.std.specs.List.{All}
 use Rattle.std.proofs.lemmas.List.Elements.{All-head, All-tail}
 use Rattle.smt_trees.specs.Sexp.{Sexp, Sexps, Atom, Reserved, Items, Nil, Cons, Numeral, Hexadecimal, Binary}
 use Rattle.smt_trees.specs.Sexp.{Symbol}
-use Rattle.smt_trees.specs.declared.reserved.Word.TheVariants.{Bang, Let, Underscore}
+use Rattle.smt_trees.specs.declared.reserved.Word.TheVariants.{As, Bang, Let, Underscore}
 use Rattle.smt_forms.specs.Labels.{labels_among}
 use Rattle.smt_nodes.specs.Node as node
 use Rattle.smt_nodes.specs.Node.{Node, Row}
@@ -69,6 +69,7 @@ module _ (n : ℕ) (t : Table) where
     denotes_left slots next around i (Atom Binary digits) within d = is_left i around _ within d
     denotes_left slots next around i (Items (Cons (Reserved Underscore) parts)) within d =
         (d.0, d.1, is_left i around _ within d.2)
+    denotes_left slots next around i (Items (Cons (Reserved As) parts)) within d = is_left i around _ within d
     denotes_left slots next around i
         (Items (Cons (Reserved Let) (Cons (Items bindings) (Cons body Nil)))) within d = (
           d.0,
@@ -140,6 +141,7 @@ pub holds_left : (n : ℕ) (c : Contents) (s : Signature) → All (λ j. j < n) 
     → Holds (record c { rows = take n c.rows }) s
 holds_left n c s below stands = record {
   theories = stands.theories;
+  elements = stands.elements;
   distinct = stands.distinct;
   abbreviations = stands.abbreviations;
   ranks = stands.ranks;
@@ -147,6 +149,7 @@ holds_left n c s below stands = record {
   definitions = stands.definitions;
   terms = record {
     theories = stands.terms.theories;
+    elements = stands.terms.elements;
     heads = stands.terms.heads;
     free = stands.terms.free;
     names = stands.terms.names;

@@ -4,7 +4,7 @@ use Rattle.std.proofs.Common.{None, is_some, option_map, Result, Ok, Err, refl, 
 use Rattle.std.proofs.Common.{append-nil, ◌⊎◌, inl, inr}
 use Rattle.std.specs.Str.{bytes_eq}
 use Rattle.smt_trees.specs.Sexp.{Sexp, Sexps, Atom, Reserved, Items, Nil, Cons, Symbol}
-use Rattle.smt_trees.specs.declared.reserved.Word.TheVariants.{Bang, Let, Underscore}
+use Rattle.smt_trees.specs.declared.reserved.Word.TheVariants.{As, Bang, Let, Underscore}
 use Rattle.smt_theory.specs.Operators.{is_plain_operator}
 use Rattle.smt_theory.specs.Sort.{is_same_sort}
 use Rattle.smt_theory.specs.Words.{look_up, result_and_then}
@@ -20,7 +20,9 @@ use Rattle.smt_forms.specs.Identifier.{applied}
 use Rattle.smt_terms.specs.Labels.{Labels, Refused, Given, Unread, with_labels}
 use Rattle.smt_forms.specs.Variables.{is_among, uses_variable}
 use Rattle.smt_forms.specs.Labels.{labels_among, labels_in, labels_in_all, labels_in_bindings}
-use Rattle.smt_terms.specs.Freshness.{is_label_taken, is_taken}
+use Rattle.smt_terms.specs.Freshness.{is_element, is_label_taken, is_taken}
+use Rattle.smt_terms.specs.Elements.{element_among}
+use Rattle.smt_terms.specs.SortTrees.{SortNames}
 use Rattle.smt_terms.specs.Signature.{Entry, Names, Rank, Signature, behind, entry_named, in_assertion}
 use Rattle.smt_terms.specs.Signature.{names_of, rank_of_entry, ranks_of, unlabelled, unlabelled_over}
 use Rattle.smt_terms.specs.WellSorted.{AreIntroduced, Keeps}
@@ -145,6 +147,7 @@ mutual
   fit names scope (Reserved word) sort may h = tt
   fit names scope (Items Nil) sort may h = tt
   fit names scope (Items (Cons (Reserved Underscore) parts)) sort may h = tt
+  fit names scope (Items (Cons (Reserved As) parts)) sort may h = tt
   fit names scope (Items (Cons (Reserved Let) (Cons (Items bindings) (Cons body Nil)))) sort may h =
       let ls = labels_in_bindings bindings in
       let next = λ (bound : Scope). sort_in (behind ls names) (bound ++ scope) body in
@@ -247,16 +250,18 @@ some_or_none (Some r) = inr (r, refl)
 no_two : (o : Option Rank) (r q : Rank) → o ≡ Some r → o ≡ Some q → r ≡ q
 no_two o r q h i = cc
 
--- one more entry that is no operator's keeps sorts
-Keeps-entry : (names : Names) (theories : Theories) (earlier : List Entry) (e : Entry)
+-- one more entry that is no operator's and no element's keeps sorts
+Keeps-entry : (names : Names) (theories : Theories) (elements : Option SortNames) (earlier : List Entry) (e : Entry)
     → names.theories ≡ theories → is_plain_operator theories e.name ≡ false
-    → Keeps names (unlabelled_over theories earlier)
-    → Keeps names (unlabelled_over theories (earlier ++ e ∷ []))
-Keeps-entry names theories earlier e same free keeps = record {
+    → element_among names.elements e.name ≡ None → Keeps names (unlabelled_over theories elements earlier)
+    → Keeps names (unlabelled_over theories elements (earlier ++ e ∷ []))
+Keeps-entry names theories elements earlier e same free apart keeps = record {
   theories = keeps.theories;
+  elements = keeps.elements;
   ranks = λ x rank h. kept-rank earlier e x rank (keeps.ranks x rank h);
   labels = refl;
   fresh = λ x rank none some. by x rank none some (some_or_none (look_up (ranks_of earlier) x));
+  apart = λ x rank none some. aside x rank none some (some_or_none (look_up (ranks_of earlier) x));
 }
   where
     by : (x : List ℕ) (rank : Rank) → look_up names.ranks x ≡ None
@@ -266,6 +271,14 @@ Keeps-entry names theories earlier e same free keeps = record {
     by x rank none some (inr p) = keeps.fresh x p.0 none p.1
     by x rank none some (inl new) = ap (λ y. is_plain_operator names.theories y)
         (new-rank earlier e x rank new some) ∙ ap (λ ts. is_plain_operator ts e.name) same ∙ free
+
+    aside : (x : List ℕ) (rank : Rank) → look_up names.ranks x ≡ None
+        → look_up (ranks_of (earlier ++ e ∷ [])) x ≡ Some rank
+        → (look_up (ranks_of earlier) x ≡ None) ⊎ ((r : Rank) × (look_up (ranks_of earlier) x ≡ Some r))
+        → element_among names.elements x ≡ None
+    aside x rank none some (inr p) = keeps.apart x p.0 none p.1
+    aside x rank none some (inl new) =
+        ap (λ y. element_among names.elements y) (new-rank earlier e x rank new some) ∙ apart
 
 -- labels are given
 abbrev pub IsGivenList : Labels → Type 0
@@ -310,38 +323,40 @@ Covers-push names Refused earlier e is covers = absurd is
 Covers-push names Unread earlier e is covers = absurd is
 
 -- labels that fit are introduced
-introduced : (names : Names) (theories : Theories) (earlier : List Entry) (ls : Labelled)
+introduced : (names : Names) (theories : Theories) (elements : Option SortNames) (earlier : List Entry) (ls : Labelled)
     → names.theories ≡ theories → IsGivenList names.labels
-    → Keeps (unlabelled names) (unlabelled_over theories earlier) → Covers names names.labels earlier
-    → AreFit names ls
-    → AreIntroduced theories earlier (label_entries names ls)
-introduced names theories earlier [] same is keeps covers fits = tt
-introduced names theories earlier (l ∷ ls) same is keeps covers fits =
-    let n = neither (is_some (look_up names.ranks l.0)) (is_plain_operator names.theories l.0) fits.0.free in
+    → Keeps (unlabelled names) (unlabelled_over theories elements earlier) → Covers names names.labels earlier
+    → AreFit names ls → AreIntroduced theories elements earlier (label_entries names ls)
+introduced names theories elements earlier [] same is keeps covers fits = tt
+introduced names theories elements earlier (l ∷ ls) same is keeps covers fits =
+    let n = neither (is_element names l.0 || is_some (look_up names.ranks l.0)) (is_plain_operator names.theories l.0)
+    fits.0.free in
+    let m = neither (is_element names l.0) (is_some (look_up names.ranks l.0)) n.0 in
     let sort = fits.0.sorted.0 in
     let e = definition l.0 [] sort l.1 in
     let free = sym (ap (λ ts. is_plain_operator ts l.0) same) ∙ n.1 in
     let rest =
-    introduced (behind (l ∷ []) names) theories (earlier ++ e ∷ []) ls same
+    introduced (behind (l ∷ []) names) theories elements (earlier ++ e ∷ []) ls same
     (IsGivenList-behind (l.0 ∷ []) names.labels is)
-    (Keeps-entry (unlabelled names) theories earlier e same free keeps)
+    (Keeps-entry (unlabelled names) theories elements earlier e same free
+    (none_of (element_among names.elements l.0) m.0) keeps)
     (Covers-push names names.labels earlier e is covers) fits.1 in
-    subst (λ r. AreIntroduced theories earlier (label_or_none l r ++ label_entries names ls))
+    subst (λ r. AreIntroduced theories elements earlier (label_or_none l r ++ label_entries names ls))
     (sym fits.0.sorted.1) (
       record {
-        new = covers l.0 (none_of (look_up names.ranks l.0) n.0) fits.0.new;
+        new = covers l.0 (none_of (look_up names.ranks l.0) m.1) fits.0.new;
         free = free;
         sorted = record {
           counted = refl;
           different = tt;
-          sorted = kept-sort (unlabelled names) (unlabelled_over theories earlier) keeps
+          sorted = kept-sort (unlabelled names) (unlabelled_over theories elements earlier) keeps
               [] l.1 sort fits.0.sorted.1;
         };
       },
       rest,
     )
   where
-    none_of : (o : Option Rank) → is_some o ≡ false → o ≡ None
+    none_of : {A : Type 0} (o : Option A) → is_some o ≡ false → o ≡ None
     none_of None h = refl
     none_of (Some r) h = cc
 
@@ -354,22 +369,22 @@ entry_none es x h = by (entry_named es x) (sym (look_up-ranks es x) ∙ h)
 
 -- the labels of an assertion
 pub introduced-asserted : (s : Signature) (term : Sexp) (labels : List Entry)
-    → asserted_in (names_of s) term ≡ Ok labels → AreIntroduced s.theories s.entries labels
+    → asserted_in (names_of s) term ≡ Ok labels → AreIntroduced s.theories s.elements s.entries labels
 introduced-asserted s term labels h = by (sort_in names [] term) refl h
   where
     names : Names
     names = in_assertion (names_of s)
 
     all : (sort : Sort) → sort_in names [] term ≡ Ok sort
-        → AreIntroduced s.theories s.entries (label_entries (names_of s) (labels_in term))
-    all sort is = introduced names s.theories s.entries (labels_in term) refl tt
+        → AreIntroduced s.theories s.elements s.entries (label_entries (names_of s) (labels_in term))
+    all sort is = introduced names s.theories s.elements s.entries (labels_in term) refl tt
         (Keeps-unlabelled (unlabelled names)) (λ x none new. entry_none s.entries x none)
         (fit names [] term sort tt is)
 
     test : (sort : Sort) (b : Bool) → sort_in names [] term ≡ Ok sort
         → cond b (Ok (label_entries (names_of s) (labels_in term))) (Err IllSorted) ≡ Ok labels
-        → AreIntroduced s.theories s.entries labels
-    test sort true is g = subst (λ ls. AreIntroduced s.theories s.entries ls)
+        → AreIntroduced s.theories s.elements s.entries labels
+    test sort true is g = subst (λ ls. AreIntroduced s.theories s.elements s.entries ls)
         (of_ok (label_entries (names_of s) (labels_in term)) labels
         (Ok (label_entries (names_of s) (labels_in term))) refl g) (all sort is)
     test sort false is g = cc
@@ -377,6 +392,6 @@ introduced-asserted s term labels h = by (sort_in names [] term) refl h
     by : (r : Result Sort TermFlaw) → sort_in names [] term ≡ r
         → result_and_then r (λ sort. cond (is_same_sort sort Boolean)
         (Ok (label_entries (names_of s) (labels_in term))) (Err IllSorted)) ≡ Ok labels
-        → AreIntroduced s.theories s.entries labels
+        → AreIntroduced s.theories s.elements s.entries labels
     by (Err f) is g = cc
     by (Ok sort) is g = test sort (is_same_sort sort Boolean) is g

@@ -1,11 +1,10 @@
 -- Items, one step at a time.
 use Rattle.std.proofs.Common.{◌≡◌, ℕ, Bool, true, false, cond, not, ◌&&◌, ◌||◌, List, [], ◌∷◌, map, Option, Some}
-use Rattle.std.proofs.Common.{None, is_some, option_map, Result, Ok, Err, refl, ap, sym, ◌∙◌}
+use Rattle.std.proofs.Common.{None, is_some, option_map, Result, Ok, Err, refl, ap, sym, ◌∙◌, subst}
 use Rattle.std.proofs.lemmas.List.Elements.{All-head, All-tail}
 use Rattle.std.specs.List.{All}
 use Rattle.std.specs.Option.{option_and_then}
 use Rattle.std.specs.Prelude.{bytes_eq}
-use Rattle.smt_trees.specs.Sexp.{Sexp}
 use Rattle.smt_theory.specs.Operators.{is_plain_operator}
 use Rattle.smt_theory.specs.Ranks.{are_exactly}
 use Rattle.smt_theory.specs.Sort.{is_same_sort}
@@ -15,16 +14,18 @@ use Rattle.smt_theory.specs.declared.theories.Theories.{Theories}
 use Rattle.smt_names.specs.Entries.{entries_of}
 use Rattle.smt_terms.specs.Checking.{unless}
 use Rattle.smt_terms.specs.Definitions.{definition_in, parameters_named}
-use Rattle.smt_terms.specs.Internal.LibraryView.{names_of_library, places_of_library, sort_names}
+use Rattle.smt_terms.specs.Internal.LibraryView.{elements_lent, names_of_library, places_of_library, sort_names}
 use Rattle.smt_terms.specs.Internal.TableView.{head_of}
 use Rattle.smt_forms.specs.ItemForm.{ItemForm}
-use Rattle.smt_terms.specs.Freshness.{is_defined_before, is_taken, is_taken_undeclared, name_flaw}
+use Rattle.smt_terms.specs.Freshness.{is_defined_before, is_element, is_element_in, is_taken, is_taken_undeclared}
+use Rattle.smt_terms.specs.Freshness.{item_elements, name_flaw}
 use Rattle.smt_terms.specs.Items.{defined_as, form_in, has_rank_of, items_before}
 use Rattle.smt_terms.specs.Labels.{Refused}
-use Rattle.smt_terms.specs.Library.{HasTheoriesOf, StandsFor, is_declared}
+use Rattle.smt_terms.specs.Library.{Holds, ReadsModelsOf, StandsFor, is_declared}
+use Rattle.smt_terms.specs.Contents.{contents_of}
 use Rattle.smt_terms.specs.Signature as signature
-use Rattle.smt_terms.specs.Signature.{Entry, Names, Origin, Rank, Signature, declared_named, entry_named}
-use Rattle.smt_terms.specs.Signature.{if_declared, names_of, rank_of_entry, ranks_of, sort_names_of}
+use Rattle.smt_terms.specs.Signature.{Entry, Origin, Rank, Signature, declared_named, entry_named}
+use Rattle.smt_terms.specs.Signature.{if_declared, names_of, no_names, rank_of_entry, ranks_of, sort_names_of}
 use Rattle.smt_terms.specs.SortTrees.{sort_named}
 use Rattle.smt_faults.specs.declared.term_flaw.TermFlaw.{TermFlaw}
 use Rattle.smt_faults.specs.declared.term_flaw.TermFlaw.TheVariants.{BoundTwice, IllSorted, NotFresh}
@@ -36,19 +37,42 @@ use Rattle.smt_terms.proofs.EntryLemmas.{look_up-ranks}
 use Rattle.smt_terms.proofs.NameLemmas.{same_name}
 use Rattle.smt_terms.proofs.NameLookUps.{some_map}
 use Rattle.smt_terms.proofs.LibraryLemmas.{Pairs, viewed}
+use Rattle.smt_terms.proofs.StandsLemmas.{nothing_lent}
 use Rattle.smt_terms.proofs.PlaceLemmas.{declared_place, is_declared_place, places-heads, places_from, places_in}
 
 -- the names that a library holds are those of what it stands for
 pub names_as : (library : Library) (s : Signature) → StandsFor library s
     → names_of_library library ≡ names_of s
 names_as library s stands =
-    λ i. record { theories = stands.theories i; ranks = stands.ranks i; labels = Refused }
+    λ i. record {
+      theories = stands.theories i;
+      elements = stands.elements i;
+      ranks = stands.ranks i;
+      labels = Refused;
+    }
 
 -- and so are those of sorts
 pub sorts_as : (library : Library) (s : Signature) → StandsFor library s
     → sort_names library.sorts ≡ sort_names_of s
 sorts_as library s stands =
     λ i. record { theories = stands.theories i; abbreviations = stands.abbreviations i }
+
+-- and those whose elements the items of models may name
+pub lent_as : (library : Library) (s : Signature) → StandsFor library s → elements_lent library ≡ item_elements s
+lent_as library s stands =
+    λ i. cond (stands.theories i).wide
+    (Some (record { theories = stands.theories i; abbreviations = stands.abbreviations i })) None
+
+-- a library for the items of models, where it has no names
+pub for_items : (library new : Library) (s : Signature) → StandsFor library s
+    → Holds (contents_of new) (no_names library.sorts.theories)
+    → Holds (record (contents_of new) { elements = elements_lent library }) (items_before s [])
+for_items library new s stands empty =
+    subst (λ ts. Holds (record (contents_of new) { elements = elements_lent library })
+    (record (no_names ts) { elements = item_elements s })) stands.theories
+    (subst (λ es. Holds (record (contents_of new) { elements = elements_lent library })
+    (record (no_names library.sorts.theories) { elements = es })) (lent_as library s stands)
+    (nothing_lent (contents_of new) library.sorts.theories (elements_lent library) empty))
 
 -- a name stands where its entry does
 places_viewed : (es : Pairs Held) → places_in (viewed head_of es) ≡ viewed (λ e. e.place) es
@@ -61,11 +85,17 @@ places_as library s stands =
     sym (places_viewed (entries_of library.names)) ∙ ap places_in stands.terms.heads ∙ places-heads 0 0 s.entries
 
 -- those of what a model's library stands for are the ones that a body sees
-pub names_before : (library script : Library) (s m : Signature) → HasTheoriesOf library script
+pub names_before : (library script : Library) (s m : Signature) → ReadsModelsOf library script
     → StandsFor script s → StandsFor library m → names_of m ≡ names_of (items_before s m.entries)
 names_before library script s m same stands items =
-    ap (λ (t : Theories). record { theories = t; ranks = ranks_of m.entries; labels = Refused })
-    (sym items.theories ∙ same ∙ stands.theories)
+    let theories : m.theories ≡ s.theories = sym items.theories ∙ same.theories ∙ stands.theories in
+    let elements : m.elements ≡ item_elements s = sym items.elements ∙ same.elements ∙ lent_as script s stands in
+    λ i. record {
+      theories = theories i;
+      elements = elements i;
+      ranks = ranks_of m.entries;
+      labels = Refused;
+    }
 
 -- whether a name has an entry
 pub is_named : (es : List Entry) (x : List ℕ) → is_some (entry_named es x) ≡ is_some (look_up (ranks_of es) x)
@@ -152,7 +182,7 @@ item_ranked s es form ps sort b free bound sorted kept =
 
 -- what an item defines, where its name is fit, its sorts are known and it keeps the rank of its declaration
 pub item_step : (library script : Library) (s m : Signature) (form : ItemForm) (ps qs rs : Params)
-    (sort : Sort) (b : Bool) → HasTheoriesOf library script → StandsFor script s → StandsFor library m
+    (sort : Sort) (b : Bool) → ReadsModelsOf library script → StandsFor script s → StandsFor library m
     → name_flaw s m.entries form.name ≡ None
     → parameters_named (sort_names script.sorts) [] form.parameters ≡ Ok ps
     → Ok sort ≡ sort_named (sort_names script.sorts) form.sort
@@ -177,10 +207,11 @@ in_force library m x b c stands h i =
 
 -- the fault of a name by two tests
 pub name_flaw_by : (s : Signature) (es : List Entry) (x : List ℕ) (b c : Bool)
-    → is_defined_before es x ≡ b → c ≡ is_taken_undeclared s x
+    → is_defined_before es x ≡ b → c ≡ (is_element_in s x || is_taken_undeclared s x)
     → name_flaw s es x ≡ cond b (Some BoundTwice) (cond c (Some NotFresh) None)
 name_flaw_by s es x b c h i =
-    ap (λ d. cond d (Some BoundTwice) (cond (is_taken_undeclared s x) (Some NotFresh) None)) h
+    ap (λ d. cond d (Some BoundTwice) (cond (is_element_in s x || is_taken_undeclared s x) (Some NotFresh) None))
+    h
     ∙ ap (λ d. cond b (Some BoundTwice) (cond d (Some NotFresh) None)) (sym i)
 
 -- ## Names that are no operator's
@@ -208,28 +239,30 @@ item_free s x free fit = by (entry_named s.entries x) refl fit
   where
     by : (o : Option Entry) → entry_named s.entries x ≡ o
         → (not (is_some (option_and_then (λ e. if_declared e e.origin) o))
-        && (is_some (look_up (ranks_of s.entries) x) || is_plain_operator s.theories x)) ≡ false
-        → is_plain_operator s.theories x ≡ false
-    by None at h = (neither (is_some (look_up (ranks_of s.entries) x)) (is_plain_operator s.theories x) h).1
+        && is_taken (names_of s) x) ≡ false → is_plain_operator s.theories x ≡ false
+    by None at h = (neither (is_element (names_of s) x || is_some (look_up (ranks_of s.entries) x))
+        (is_plain_operator s.theories x) h).1
     by (Some e) at h = named_free s.theories s.entries x e free at
 
 -- so is the name of an item that has no flaw, over the theories of the script
-pub item_is_free : (library script : Library) (s m : Signature) (x : List ℕ) → HasTheoriesOf library script
+pub item_is_free : (library script : Library) (s m : Signature) (x : List ℕ) → ReadsModelsOf library script
     → StandsFor script s → StandsFor library m → name_flaw s m.entries x ≡ None
     → is_plain_operator m.theories x ≡ false
 item_is_free library script s m x same stands items none =
-    ap (λ ts. is_plain_operator ts x) (sym items.theories ∙ same ∙ stands.theories)
-    ∙ item_free s x stands.terms.free (by (is_defined_before m.entries x) (is_taken_undeclared s x) none)
+    ap (λ ts. is_plain_operator ts x) (sym items.theories ∙ same.theories ∙ stands.theories)
+    ∙ item_free s x stands.terms.free
+    (by (is_defined_before m.entries x) (is_element_in s x) (is_taken_undeclared s x) none)
   where
-    by : (b c : Bool) → cond b (Some BoundTwice) (cond c (Some NotFresh) None) ≡ None → c ≡ false
-    by true c h = cc
-    by false true h = cc
-    by false false h = refl
+    by : (b c d : Bool) → cond b (Some BoundTwice) (cond (c || d) (Some NotFresh) None) ≡ None → d ≡ false
+    by true c d h = cc
+    by false true d h = cc
+    by false false true h = cc
+    by false false false h = refl
 
 -- and a name that is not taken is none's
 pub not_operator : (library : Library) (s : Signature) (x : List ℕ) → StandsFor library s
     → is_taken (names_of_library library) x ≡ false → is_plain_operator s.theories x ≡ false
 not_operator library s x stands free =
     ap (λ ts. is_plain_operator ts x) (sym stands.theories)
-    ∙ (neither (is_some (look_up (names_of_library library).ranks x))
+    ∙ (neither (is_element (names_of_library library) x || is_some (look_up (names_of_library library).ranks x))
     (is_plain_operator library.sorts.theories x) free).1

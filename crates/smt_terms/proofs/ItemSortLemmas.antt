@@ -1,5 +1,5 @@
 -- What an item defines is well sorted, new among the items, and of the rank with which its name is declared.
-use Rattle.std.proofs.Common.{◌≡◌, ℕ, Bool, true, false, cond, not, ◌&&◌, List, [], map, Option, Some, None}
+use Rattle.std.proofs.Common.{◌≡◌, ℕ, Bool, true, false, cond, not, ◌&&◌, ◌||◌, List, [], map, Option, Some, None}
 use Rattle.std.proofs.Common.{is_some, Result, Ok, Err, refl, ap, sym, ◌∙◌, subst}
 use Rattle.std.proofs.lemmas.Slice.Eq.{slice_eq-Decides}
 use Rattle.smt_trees.specs.Sexp.{Sexp}
@@ -11,7 +11,7 @@ use Rattle.smt_terms.specs.Checking.{unless}
 use Rattle.smt_terms.specs.Definitions.{definition, definition_in, parameters_named}
 use Rattle.smt_forms.specs.ItemForm.{ItemForm}
 use Rattle.smt_terms.specs.Items.{defined_as, form_in, has_rank_of, item_in, items_before}
-use Rattle.smt_terms.specs.Freshness.{is_taken, is_taken_undeclared, name_flaw}
+use Rattle.smt_terms.specs.Freshness.{is_element_in, is_taken, is_taken_undeclared, item_elements, name_flaw}
 use Rattle.smt_terms.specs.Signature.{Entry, KeepsRank, Signature, declared_named, entry_named, names_of}
 use Rattle.smt_terms.specs.Signature.{sort_names_of}
 use Rattle.smt_terms.specs.SortTrees.{sort_named}
@@ -25,19 +25,20 @@ use Rattle.smt_terms.proofs.RepeatedLemmas.{taken_by}
 pub record IsItem (script : Signature) (earlier : List Entry) (e : Entry) : Type 0 where
   pub fresh : entry_named earlier e.name ≡ None
   pub fit : is_taken_undeclared script e.name ≡ false
-  pub sorted : IsWellSorted script.theories earlier e
+  pub sorted : IsWellSorted script.theories (item_elements script) earlier e
   pub ranked : has_rank_of (declared_named script.entries e.name) e.parameters e.sort ≡ true
 
 -- a name without a fault is new among the items, and fit
 pub no_fault : (script : Signature) (earlier : List Entry) (x : List ℕ) → name_flaw script earlier x ≡ None
     → (entry_named earlier x ≡ None) × (is_taken_undeclared script x ≡ false)
-no_fault script earlier x h = by (entry_named earlier x) (is_taken_undeclared script x) h
+no_fault script earlier x h = by (entry_named earlier x) (is_element_in script x) (is_taken_undeclared script x) h
   where
-    by : (o : Option Entry) (b : Bool)
-        → cond (is_some o) (Some BoundTwice) (cond b (Some NotFresh) None) ≡ None → (o ≡ None) × (b ≡ false)
-    by None false h = (refl, refl)
-    by None true h = cc
-    by (Some e) b h = cc
+    by : (o : Option Entry) (b c : Bool)
+        → cond (is_some o) (Some BoundTwice) (cond (b || c) (Some NotFresh) None) ≡ None → (o ≡ None) × (c ≡ false)
+    by None false false h = (refl, refl)
+    by None false true h = cc
+    by None true c h = cc
+    by (Some e) b c h = cc
 
 -- what is defined as an item is one
 IsItem-definition : AreCompared
@@ -50,7 +51,7 @@ IsItem-definition compared script earlier form ps sort e fresh fit different h =
     by (has_rank_of (declared_named script.entries form.name) (map (λ p. p.1) ps) sort) refl h
   where
     made : has_rank_of (declared_named script.entries form.name) (map (λ p. p.1) ps) sort ≡ true
-        → (definition form.name ps sort form.body ≡ e) × IsWellSorted script.theories earlier e
+        → (definition form.name ps sort form.body ≡ e) × IsWellSorted script.theories (item_elements script) earlier e
         → IsItem script earlier e
     made ranked p = record {
       fresh = subst (λ (d : Entry). entry_named earlier d.name ≡ None) p.0 fresh;
@@ -66,7 +67,7 @@ IsItem-definition compared script earlier form ps sort e fresh fit different h =
         → IsItem script earlier e
     by false ranked h = cc
     by true ranked h =
-        made ranked (well_sorted compared script.theories earlier form.name ps sort form.body e different h)
+        made ranked (well_sorted compared script.theories (item_elements script) earlier form.name ps sort form.body e different h)
 
 -- so is what parts of the right form define
 IsItem-form : AreCompared → (script : Signature) (earlier : List Entry) (form : ItemForm) (e : Entry)

@@ -5,23 +5,25 @@ use Rattle.std.specs.Option.{option_or}
 use Rattle.smt_trees.specs.Sexp as sexp
 use Rattle.smt_trees.specs.Sexp.{Sexp, Sexps, Atom, Reserved, Items, Nil, Cons, Symbol, Keyword, Numeral}
 use Rattle.smt_trees.specs.Sexp.{Hexadecimal, Binary}
-use Rattle.smt_trees.specs.declared.reserved.Word.TheVariants.{Bang, Let, Underscore}
+use Rattle.smt_trees.specs.declared.reserved.Word.TheVariants.{As, Bang, Let, Underscore}
 use Rattle.smt_theory.specs.Operators.{op_by, plain_op}
 use Rattle.smt_theory.specs.Width.{width_of}
 use Rattle.smt_theory.specs.Words.{look_up, result_and_then}
 use Rattle.smt_theory.specs.declared.op.Op.{Op}
+use Rattle.smt_theory.specs.declared.op.OpFault.{OpFault}
 use Rattle.smt_theory.specs.declared.op.OpFault.TheVariants as ops
 use Rattle.smt_theory.specs.declared.sort.Sort.{Sort}
 use Rattle.smt_forms.specs.Bindings.{are_attributes, are_bindings}
 use Rattle.smt_terms.specs.Checking.{bound_in, flaw_of_label, flaw_of_labels, sort_applied, sort_in}
 use Rattle.smt_terms.specs.Checking.{sort_of_call, sort_of_operator, sort_of_plain, sort_of_symbol}
-use Rattle.smt_terms.specs.Checking.{sort_unless_variable, sorts_in, unless}
+use Rattle.smt_terms.specs.Checking.{sort_alone, sort_unless_element, sort_unless_variable, sorts_in, unless}
+use Rattle.smt_terms.specs.Elements.{element_among, qualified_sort}
 use Rattle.smt_forms.specs.Identifier.{Identifier, Plain, Indexed, applied, indexed}
 use Rattle.smt_terms.specs.Labels.{Labels, Unread, with_labels}
 use Rattle.smt_forms.specs.Labels.{labels_among, labels_in, labels_in_bindings}
 use Rattle.smt_terms.specs.Signature.{Names, Rank, behind, unlabelled}
-use Rattle.smt_terms.specs.SortTrees.{bit_vectors, integers}
-use Rattle.smt_terms.specs.WellSorted.{Keeps}
+use Rattle.smt_terms.specs.SortTrees.{SortNames, bit_vectors, integers}
+use Rattle.smt_terms.specs.WellSorted.{Keeps, KeepsElements}
 use Rattle.smt_faults.specs.declared.term_flaw.TermFlaw.{TermFlaw}
 use Rattle.smt_faults.specs.declared.term_flaw.TermFlaw.TheVariants.{BoundTwice, Form}
 use Rattle.smt_terms.proofs.CheckerLemmas.{Scope}
@@ -81,9 +83,43 @@ kept-applied names more keeps (Plain f) args sort h =
 kept-applied names more keeps (Indexed f is) args sort h =
     ap (λ theories. sort_of_operator (op_by theories f is) args) keeps.theories ∙ h
 
+-- the sort of an operator stays where elements come, and that of an element where they stay
+pub kept-element : (elements more : Option SortNames) (x : List ℕ) (op : Result Op OpFault) (sort : Sort)
+    → KeepsElements elements more → sort_unless_element (element_among elements x) op ≡ Ok sort
+    → sort_unless_element (element_among more x) op ≡ Ok sort
+kept-element None more x op sort keeps h = by (element_among more x) op h
+  where
+    by : (o : Option Sort) (r : Result Op OpFault) → sort_of_operator r [] ≡ Ok sort
+        → sort_unless_element o r ≡ Ok sort
+    by None r h = h
+    by (Some s) (Ok op) h = h
+    by (Some s) (Err ops.Unknown) h = cc
+    by (Some s) (Err ops.Index) h = cc
+kept-element (Some sorts) more x op sort keeps h =
+    ap (λ es. sort_unless_element (element_among es x) op) keeps ∙ h
+
+kept-alone : (names more : Names) → Keeps names more → (x : List ℕ) (sort : Sort) (r q : Option Rank)
+    → look_up names.ranks x ≡ r → look_up more.ranks x ≡ q → sort_alone names x r ≡ Ok sort
+    → sort_alone more x q ≡ Ok sort
+kept-alone names more keeps x sort (Some rank) q is now h =
+    ap (λ (o : Option Rank). sort_alone more x o) (sym now ∙ keeps.ranks x rank is) ∙ h
+kept-alone names more keeps x sort None None is now h =
+    ap (λ theories. sort_unless_element (element_among more.elements x) (op_by theories x [])) keeps.theories
+    ∙ kept-element names.elements more.elements x (op_by names.theories x []) sort keeps.elements h
+kept-alone names more keeps x sort None (Some rank) is now h =
+    absurd (no_operator (plain_op names.theories x) [] sort (keeps.fresh x rank is now)
+    (sym (ap (λ o. sort_unless_element o (op_by names.theories x [])) (keeps.apart x rank is now)) ∙ h))
+
+-- an element with its sort
+pub kept-qualified : (elements more : Option SortNames) (parts : Sexps) (sort : Sort) → KeepsElements elements more
+    → qualified_sort elements parts ≡ Ok sort → qualified_sort more parts ≡ Ok sort
+kept-qualified None more parts sort keeps h = cc
+kept-qualified (Some sorts) more parts sort keeps h = ap (λ es. qualified_sort es parts) keeps ∙ h
+
 kept-symbol : (names more : Names) → Keeps names more → (x : List ℕ) (o : Option Sort) (sort : Sort)
     → sort_of_symbol names x o ≡ Ok sort → sort_of_symbol more x o ≡ Ok sort
-kept-symbol names more keeps x None sort h = kept-applied names more keeps (Plain x) [] sort h
+kept-symbol names more keeps x None sort h =
+    kept-alone names more keeps x sort (look_up names.ranks x) (look_up more.ranks x) refl refl h
 kept-symbol names more keeps x (Some s) sort h = h
 
 kept-unless : (o : Option Sort) (x y : Result Sort TermFlaw) (sort : Sort) → (x ≡ Ok sort → y ≡ Ok sort)
@@ -151,22 +187,30 @@ pub Keeps-behind : (names more : Names) (ls ks : List (List ℕ × Sexp)) → Ke
     → Keeps (behind ls names) (behind ks more)
 Keeps-behind names more ls ks keeps = record {
   theories = keeps.theories;
+  elements = keeps.elements;
   ranks = keeps.ranks;
   labels = Unread-behind ks more.labels keeps.labels;
   fresh = keeps.fresh;
+  apart = keeps.apart;
 }
 
 no_rank : (o : Option Rank) (rank : Rank) → o ≡ None → o ≡ Some rank → ⊥
 no_rank None rank h i = cc
 no_rank (Some r) rank h i = cc
 
+pub elements_stay : (elements : Option SortNames) → KeepsElements elements elements
+elements_stay None = tt
+elements_stay (Some sorts) = refl
+
 -- names are kept where labels are not looked at
 pub Keeps-unlabelled : (names : Names) → Keeps names (unlabelled names)
 Keeps-unlabelled names = record {
   theories = refl;
+  elements = elements_stay names.elements;
   ranks = λ x rank h. h;
   labels = refl;
   fresh = λ x rank none some. absurd (no_rank (look_up names.ranks x) rank none some);
+  apart = λ x rank none some. absurd (no_rank (look_up names.ranks x) rank none some);
 }
 
 mutual
@@ -187,6 +231,8 @@ mutual
   kept-sort names more keeps scope (Items (Cons (Reserved Underscore) parts)) sort h =
       kept-steps (indexed parts) (indexed parts) (λ f. sort_applied names f [])
       (λ f. sort_applied more f []) sort (λ f is. is) (λ f. kept-applied names more keeps f [] sort) h
+  kept-sort names more keeps scope (Items (Cons (Reserved As) parts)) sort h =
+      kept-qualified names.elements more.elements parts sort keeps.elements h
   kept-sort names more keeps scope
       (Items (Cons (Reserved Let) (Cons (Items bindings) (Cons body Nil)))) sort h =
       let ls = labels_in_bindings bindings in

@@ -12,10 +12,10 @@ use Rattle.smt_forms.specs.ScopeView.{scope_view}
 use Rattle.smt_forms.specs.declared.variable.Variable.{Variable}
 use Rattle.smt_terms.specs.Checking.{sort_in}
 use Rattle.smt_terms.specs.Contents.{Contents, contents_of}
-use Rattle.smt_terms.specs.Denotes.{Denotes, IsLonger, slots_from}
+use Rattle.smt_terms.specs.Denotes.{AreApart, Denotes, IsLonger, slots_from}
 use Rattle.smt_terms.specs.Internal.Growing.{Bodies, IsBodyUnder, KeepsNames, terms_under}
 use Rattle.smt_terms.specs.Internal.TableView.{names_of_definitions, table_with}
-use Rattle.smt_terms.specs.Internal.LibraryView.{names_for, names_of_library}
+use Rattle.smt_terms.specs.Internal.LibraryView.{elements_of_library, names_for, names_of_library}
 use Rattle.smt_terms.specs.Labels.{Labels, Refused}
 use Rattle.smt_terms.specs.declared.labels.Label.{Label}
 use Rattle.smt_terms.specs.declared.library.Library.{Library}
@@ -28,21 +28,23 @@ use Rattle.smt_terms.proofs.IntroducedLemmas.{no_labels_given}
 -- where a term was checked or refused, no name has come
 pub checked_keeps : {A E : Type 0} (r : Result A E) (old new : Library)
     → OnOk r (Goes (rows_of old.nodes) (rows_of new.nodes)) → OnErr r (rows_of new.nodes ≡ rows_of old.nodes)
-    → new.names ≡ old.names → new.sorts ≡ old.sorts → new.declared ≡ old.declared
+    → new.names ≡ old.names → new.sorts ≡ old.sorts → new.elements ≡ old.elements → new.declared ≡ old.declared
     → new.definitions ≡ old.definitions → new.bodies ≡ old.bodies → KeepsNames (contents_of old) (contents_of new)
-checked_keeps r old new grown unchanged names sorts declared definitions bodies =
-    keeps_names old new names sorts declared definitions bodies
+checked_keeps r old new grown unchanged names sorts elements declared definitions bodies =
+    keeps_names old new names sorts elements declared definitions bodies
     (more_rows r (rows_of old.nodes) (rows_of new.nodes) grown unchanged)
 
 -- the table that a term was checked over is the first part of a later one
 pub checked_longer : (old : Library) (now : Contents) (given : List Label) (rows : List Row) (bodies : Bodies)
-    → now.theories ≡ old.sorts.theories → Goes (contents_of old).heads now.heads
-    → Goes (names_of_definitions old.definitions.items ++ map (λ l. l.name.items) given) bodies.names
+    → now.theories ≡ old.sorts.theories → now.elements ≡ elements_of_library old → Goes (contents_of old).heads now.heads
+    → AreApart (elements_of_library old) (contents_of old).heads now.heads → Goes (names_of_definitions old.definitions.items ++ map (λ l. l.name.items) given) bodies.names
     → Goes (old.bodies.items ++ map (λ l. l.node) given) bodies.nodes → Goes rows now.rows
     → IsLonger (table_with old given rows) (terms_under bodies now)
-checked_longer old now given rows bodies theories heads names more grown = record {
+checked_longer old now given rows bodies theories elements heads apart names more grown = record {
   theories = theories;
+  elements = elements;
   heads = heads;
+  apart = apart;
   names = names;
   bodies = more;
   rows = grown;

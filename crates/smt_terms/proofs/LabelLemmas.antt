@@ -5,7 +5,7 @@ use Rattle.std.proofs.Common.{append-nil, inl, inr}
 use Rattle.std.specs.Option.{option_or}
 use Rattle.std.proofs.lemmas.List.{map-append}
 use Rattle.smt_trees.specs.Sexp.{Sexp, Sexps, Atom, Cons, Items, Keyword, Reserved}
-use Rattle.smt_trees.specs.declared.reserved.Word.TheVariants.{Bang, Let, Underscore}
+use Rattle.smt_trees.specs.declared.reserved.Word.TheVariants.{As, Bang, Let, Underscore}
 use Rattle.smt_trees.specs.View.{sexp_of}
 use Rattle.smt_theory.specs.Words.{look_up}
 use Rattle.smt_theory.specs.declared.sort.Sort.{Sort}
@@ -14,7 +14,7 @@ use Rattle.smt_terms.specs.Checking.{sort_unless_variable, sorts_in}
 use Rattle.smt_forms.specs.Heads.{begins_indexed}
 use Rattle.smt_forms.specs.Identifier.{Identifier, Plain, Indexed}
 use Rattle.smt_forms.specs.Labels.{label_of_tree}
-use Rattle.smt_forms.specs.Heads.{begins_annotated, begins_let}
+use Rattle.smt_forms.specs.Heads.{begins_annotated, begins_let, begins_qualified}
 use Rattle.smt_terms.specs.Internal.LabelsView.{AreGiven, AreSorted, given_names, given_terms, labels_view}
 use Rattle.smt_terms.specs.Internal.LibraryView.{names_for, names_of_library}
 use Rattle.smt_forms.specs.Identifier.{applied}
@@ -26,7 +26,7 @@ use Rattle.smt_terms.specs.Freshness.{is_label_taken}
 use Rattle.smt_terms.specs.Signature.{Names, Rank, behind, unlabelled}
 use Rattle.smt_faults.specs.declared.term_flaw.TermFlaw.{TermFlaw}
 use Rattle.smt_faults.specs.declared.term_flaw.TermFlaw.TheVariants.{Label as IsLabel, NotFresh}
-use Rattle.smt_terms.proofs.CheckerLemmas.{IsPlainHead, Scope, applied_ok, underscore_head}
+use Rattle.smt_terms.proofs.CheckerLemmas.{IsPlainHead, Scope, applied_ok, as_head, underscore_head}
 use Rattle.smt_terms.specs.declared.labels.Label.{Label}
 use Rattle.smt_terms.specs.declared.labels.Labels.{Labels}
 use Rattle.smt_terms.specs.declared.library.Library.{Library}
@@ -279,11 +279,13 @@ call_without_labels library labels scope (Indexed f is) args = refl
 
 -- a list with another head has the labels of its arguments
 other_labels : (head : Sexp) (args : Sexps) → begins_indexed head ≡ false → begins_let head ≡ false
-    → begins_annotated head ≡ false → labels_in (Items (Cons head args)) ≡ labels_in_all args
-other_labels (Reserved Underscore) args h i j = cc
-other_labels (Reserved Let) args h i j = cc
-other_labels (Reserved Bang) args h i j = cc
-other_labels _ args h i j = refl
+    → begins_annotated head ≡ false → begins_qualified head ≡ false
+    → labels_in (Items (Cons head args)) ≡ labels_in_all args
+other_labels (Reserved Underscore) args h i j k = cc
+other_labels (Reserved As) args h i j k = cc
+other_labels (Reserved Let) args h i j k = cc
+other_labels (Reserved Bang) args h i j k = cc
+other_labels _ args h i j k = refl
 
 -- the sort of a list is that of the call that it is
 pub called : (library : Library) (labels : spec.Labels) (scope : Scope) (head : Sexp) (args parts : Sexps)
@@ -303,7 +305,7 @@ given_by_args (Err e) names old new head args parts split other given = tt
 given_by_args (Ok v) names old new head args parts split other given =
     subst (AreGiven names old new)
     (sym (ap (λ ps. labels_in (Items ps)) split
-    ∙ other_labels head args other.no_index other.no_let other.no_bang)) given
+    ∙ other_labels head args other.no_index other.no_let other.no_bang other.no_as)) given
 
 -- an identifier alone gives none
 pub given_by_indexed : {T E : Type 0} (r : Result T E) (names : Names) (old new : Labels) (head : Sexp)
@@ -313,4 +315,14 @@ given_by_indexed (Err e) names old new head args parts split is same = tt
 given_by_indexed (Ok v) names old new head args parts split is same =
     subst (AreGiven names old new)
     (sym (ap (λ ps. labels_in (Items ps)) (split ∙ ap (λ h. Cons h args) (underscore_head head is))))
+    (subst (λ ls. AreGiven names old ls []) (sym same) (AreGiven-none names old))
+
+-- nor does an element with its sort
+pub given_by_qualified : {T E : Type 0} (r : Result T E) (names : Names) (old new : Labels) (head : Sexp)
+    (args parts : Sexps) → parts ≡ Cons head args → begins_qualified head ≡ true → new ≡ old
+    → OnOk r (AreGiven names old new (labels_in (Items parts)))
+given_by_qualified (Err e) names old new head args parts split is same = tt
+given_by_qualified (Ok v) names old new head args parts split is same =
+    subst (AreGiven names old new)
+    (sym (ap (λ ps. labels_in (Items ps)) (split ∙ ap (λ h. Cons h args) (as_head head is))))
     (subst (λ ls. AreGiven names old ls []) (sym same) (AreGiven-none names old))

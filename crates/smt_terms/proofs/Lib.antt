@@ -12,6 +12,8 @@ pub mod BinderLemmas
 pub mod NameLookUps
 pub mod DeclarationLemmas
 pub mod PlaceLemmas
+pub mod ApartLemmas
+pub mod ElementLemmas
 pub mod ContentsLemmas
 pub mod StandsLemmas
 pub mod ItemLemmas

@@ -12,10 +12,12 @@ pub is_ok_or : {A E : Type 0} (o : Option A) (e : E) → is_ok (ok_or o e) ≡ i
 is_ok_or None e = refl
 is_ok_or (Some a) e = refl
 
--- a name that is not taken stands for nothing
-pub not_taken : {A : Type 0} (o : Option A) (b : Bool) → is_some o || b ≡ false → o ≡ None
-not_taken None b h = refl
-not_taken (Some a) b h = cc
+-- a name that is not taken is no element's, and stands for nothing
+pub free_name : {A B : Type 0} (o : Option A) (p : Option B) (b : Bool) → (is_some o || is_some p) || b ≡ false
+    → (o ≡ None) × (p ≡ None)
+free_name None None b h = (refl, refl)
+free_name None (Some a) b h = cc
+free_name (Some a) p b h = cc
 
 -- something is found for the one where it is for the other
 pub same_some : {A B C : Type 0} (f : A → C) (g : B → C) (o : Option A) (r : Option B)
@@ -31,3 +33,24 @@ and_then a false c d h i j = cc
 pub and_else : (a b d : Bool) → a ≡ false → a ≡ b → a ≡ (b && d)
 and_else a true d h i = cc
 and_else a false d h i = i
+
+-- a disjunction that ends is true
+pub or_then : (a b d : Bool) → a ≡ true → a ≡ b → a ≡ (b || d)
+or_then true b d h i = ap (λ c. c || d) i
+or_then false b d h i = cc
+
+-- and one that goes on is its second part
+pub or_else : (a b c d : Bool) → a ≡ false → a ≡ b → c ≡ d → c ≡ (b || d)
+or_else true b c d h i j = cc
+or_else false b c d h i j = j ∙ ap (λ e. e || d) i
+
+-- what is true is not false
+pub never_then : {B : Type 0} (a : Bool) → a ≡ true → a ≡ false → B
+never_then true h i = cc
+never_then false h i = cc
+
+-- where a search for something fails, there is nothing
+pub none_found : {A : Type 0} (a : Bool) (o : Option A) → a ≡ false → a ≡ is_some o → o ≡ None
+none_found a None h i = refl
+none_found true (Some x) h i = cc
+none_found false (Some x) h i = cc

@@ -4,21 +4,22 @@ use Rattle.std.proofs.Common.{slice_get, Option, Some, None, Result, Ok, Err, re
 use Rattle.std.proofs.Common.{arith, cond, ◌==◌, IfOk}
 use Rattle.std.proofs.lemmas.List.{length-append}
 use Rattle.smt_trees.specs.Sexp.{Sexp, Sexps, Atom, Reserved, Items, Cons, Symbol}
-use Rattle.smt_trees.specs.declared.reserved.Word.TheVariants.{Bang, Let, Underscore}
+use Rattle.smt_trees.specs.declared.reserved.Word.TheVariants.{As, Bang, Let, Underscore}
 use Rattle.smt_theory.specs.Operators.{op_by}
 use Rattle.smt_theory.specs.Words.{look_up}
 use Rattle.smt_theory.specs.declared.op.Op.{Op}
 use Rattle.smt_theory.specs.declared.op.OpFault.{OpFault}
 use Rattle.smt_theory.specs.declared.sort.Sort.{Sort}
-use Rattle.smt_forms.specs.Heads.{begins_annotated, begins_indexed, begins_let}
+use Rattle.smt_forms.specs.Heads.{begins_annotated, begins_indexed, begins_let, begins_qualified}
 use Rattle.smt_forms.specs.Identifier.{Identifier, Plain, Indexed, applied, indexed}
 use Rattle.smt_nodes.specs.Node as node
 use Rattle.smt_nodes.specs.Node.{Node, Row}
 use Rattle.smt_nodes.specs.Nodes.{rows_of}
 use Rattle.smt_terms.specs.Denotes.{AreDenoted, Denotes, HasBodyBelow, Head, IsNode, IsRow, Slots, Table}
-use Rattle.smt_terms.specs.Denotes.{applied_node, named_node, node_at, node_of, symbol_node}
+use Rattle.smt_terms.specs.Denotes.{applied_node, element_node, named_node, node_alone, node_at, node_of, symbol_node}
+use Rattle.smt_terms.specs.Elements.{element_among}
 use Rattle.smt_terms.specs.Internal.DraftView.{IsPlaced, seen_by}
-use Rattle.smt_terms.specs.Internal.NodesView.{AddsApplied, AddsNode, GrowsTo, KeepsNamed, Stands, TermsStand}
+use Rattle.smt_terms.specs.Internal.NodesView.{AddsAlone, AddsApplied, AddsNode, GrowsTo, KeepsNamed, Stands, TermsStand}
 use Rattle.smt_terms.specs.Internal.NodesView.{row_with}
 use Rattle.smt_terms.specs.Internal.TableView.{HasBody, IsReady, places_seen, rows_in, slots_seen}
 use Rattle.smt_terms.specs.Internal.TableView.{table_in, table_of}
@@ -83,6 +84,18 @@ applied_body : (t : Table) (r : Result Op OpFault) (o : Option Head) (args : Lis
 applied_body t (Ok op) o args n bodied h =
     subst (λ (p : Option Node). HasBodyBelow t.bodies (length t.rows) p) h tt
 applied_body t (Err e) o args n bodied h = named_body t o args n bodied h
+
+alone_body : (t : Table) (x : List ℕ) (r : Result Op OpFault) (o : Option Head) (n : Node)
+    → ((head : Head) → o ≡ Some head → HasBody t head.place) → node_alone t x r o ≡ Some n
+    → HasBodyBelow t.bodies (length t.rows) (Some n)
+alone_body t x (Ok op) o n bodied h =
+    subst (λ (p : Option Node). HasBodyBelow t.bodies (length t.rows) p) h tt
+alone_body t x (Err fault) (Some head) n bodied h = named_body t (Some head) [] n bodied h
+alone_body t x (Err fault) None n bodied h = by (element_among t.elements x) h
+  where
+    by : (o : Option Sort) → element_node x o ≡ Some n → HasBodyBelow t.bodies (length t.rows) (Some n)
+    by None g = cc
+    by (Some sort) g = subst (λ (p : Option Node). HasBodyBelow t.bodies (length t.rows) p) g tt
 
 pub has_body : (t : Table) (f : Identifier) (args : List ℕ) (n : Node) → IsReady t → node_of t f args ≡ Some n
     → HasBodyBelow t.bodies (length t.rows) (Some n)
@@ -176,13 +189,30 @@ applied_stands library old mid new around term f sorts args c first named second
 
 -- a symbol that is no variable
 pub symbol_stands : (library : Library) (old new : Draft) (around : ℕ) (x : List ℕ) (c : CheckedTerm)
-    → look_up (seen_by old) x ≡ None → GrowsTo old new → AddsApplied library old new around (Plain x) [] [] c
+    → look_up (seen_by old) x ≡ None → GrowsTo old new → AddsAlone library old new around x c
     → Stands library old new around (Atom Symbol x) c
 symbol_stands library old new around x c none longer adds =
-    applied_stands library old old new around (Atom Symbol x) (Plain x) [] [] c (grows_itself old)
-    (keeps_itself library old) longer adds refl
-    (λ ready closed is. subst (λ (o : Option ℕ). IsNode (table_in library new) around (length (rows_in library old))
-    (symbol_node (table_in library new) x o)) (sym (slot_none (seen_by old) old.base x none)) is)
+    made_stands library old old new around (Atom Symbol x) adds.node c (grows_itself old) (keeps_itself library old)
+    longer adds.added
+    (λ ready closed.
+    let at : alone (table_of library) ≡ Some adds.node = adds.is ready.free in (
+      alone_body (table_in library old) x (op_by library.sorts.theories x []) (look_up (table_of library).heads x)
+          adds.node (ready.bodied x)
+          (same old (op_by library.sorts.theories x []) (look_up (table_of library).heads x) ∙ at),
+      λ is. subst (λ (o : Option ℕ). IsNode (table_in library new) around (length (rows_in library old))
+          (symbol_node (table_in library new) x o)) (sym (slot_none (seen_by old) old.base x none))
+          (subst (λ (o : Option Node). IsNode (table_in library new) around (length (rows_in library old)) o)
+          (sym (same new (op_by library.sorts.theories x []) (look_up (table_of library).heads x) ∙ at)) is),
+    ))
+  where
+    alone : Table → Option Node
+    alone t = node_alone t x (op_by library.sorts.theories x []) (look_up (table_of library).heads x)
+
+    same : (d : Draft) (r : Result Op OpFault) (o : Option Head)
+        → node_alone (table_in library d) x r o ≡ node_alone (table_of library) x r o
+    same d (Ok op) o = refl
+    same d (Err fault) (Some head) = refl
+    same d (Err fault) None = refl
 
 -- an identifier with indexes alone
 pub indexed_stands : (library : Library) (old new : Draft) (around : ℕ) (head : Sexp) (args parts : Sexps)
@@ -201,14 +231,15 @@ other_denotes : (t : Table) (slots : Slots) (next around i : ℕ) (head : Sexp) 
     → (f : Identifier) (js : List ℕ) → applied head args ≡ Ok f → IsNode t around i (node_of t f js)
     → AreDenoted t slots next i js args → Denotes t slots next around i (Items (Cons head args))
 other_denotes t slots next around i head args other f js is made all =
-    by head other.no_index other.no_let other.no_bang is
+    by head other.no_index other.no_let other.no_bang other.no_as is
   where
     by : (h : Sexp) → begins_indexed h ≡ false → begins_let h ≡ false → begins_annotated h ≡ false
-        → applied h args ≡ Ok f → Denotes t slots next around i (Items (Cons h args))
-    by (Reserved Underscore) k l m g = cc
-    by (Reserved Let) k l m g = cc
-    by (Reserved Bang) k l m g = cc
-    by _ k l m g = (f, js, g, made, all)
+        → begins_qualified h ≡ false → applied h args ≡ Ok f → Denotes t slots next around i (Items (Cons h args))
+    by (Reserved Underscore) k l m n g = cc
+    by (Reserved As) k l m n g = cc
+    by (Reserved Let) k l m n g = cc
+    by (Reserved Bang) k l m n g = cc
+    by _ k l m n g = (f, js, g, made, all)
 
 -- an application to arguments that stand for theirs
 pub call_stands : (library : Library) (old mid new : Draft) (around : ℕ) (head : Sexp) (args parts : Sexps)

@@ -1,11 +1,11 @@
--- What a term comes to does not hang on whether the profile is the wide one, nor what an item defines.
-use Rattle.std.proofs.Common.{◌≡◌, ℕ, ◌*◌, Bool, true, false, cond, not, ◌&&◌, ◌||◌, List, [], ◌∷◌, ◌++◌, map}
-use Rattle.std.proofs.Common.{length, Option, Some, None, is_some, Result, Ok, Err, refl, ap, sym, ◌∙◌}
+-- A term that has a sort without the wide profile has it there too, and an item defines the same.
+use Rattle.std.proofs.Common.{◌≡◌, ℕ, Bool, true, false, cond, not, ◌&&◌, ◌||◌, List, [], ◌∷◌, ◌++◌, map}
+use Rattle.std.proofs.Common.{Option, Some, None, is_some, Result, Ok, Err, refl, ap, sym, ◌∙◌, subst}
 use Rattle.std.specs.Option.{option_or}
 use Rattle.smt_trees.specs.Sexp as sexp
 use Rattle.smt_trees.specs.Sexp.{Sexp, Sexps, Atom, Reserved, Items, Nil, Cons, Symbol, Keyword, Numeral}
 use Rattle.smt_trees.specs.Sexp.{Hexadecimal, Binary}
-use Rattle.smt_trees.specs.declared.reserved.Word.TheVariants.{Bang, Let, Underscore}
+use Rattle.smt_trees.specs.declared.reserved.Word.TheVariants.{As, Bang, Let, Underscore}
 use Rattle.smt_theory.specs.Operators.{is_plain_operator}
 use Rattle.smt_theory.specs.Sort.{is_same_sort}
 use Rattle.smt_theory.specs.Words.{look_up, result_and_then}
@@ -14,26 +14,31 @@ use Rattle.smt_forms.specs.Bindings.{are_attributes, are_bindings}
 use Rattle.smt_forms.specs.Identifier.{Identifier, Plain, Indexed, applied, indexed}
 use Rattle.smt_forms.specs.ItemForm.{ItemForm}
 use Rattle.smt_forms.specs.Labels.{labels_among, labels_in, labels_in_bindings}
-use Rattle.smt_terms.specs.Checking.{bound_in, flaw_of_label, flaw_of_labels, sort_applied, sort_in}
-use Rattle.smt_terms.specs.Checking.{sort_of_call, sort_unless_variable, sorts_in, unless}
+use Rattle.smt_terms.specs.Checking.{bound_in, flaw_of_label, flaw_of_labels, sort_alone, sort_applied, sort_in}
+use Rattle.smt_terms.specs.Checking.{sort_of_call, sort_of_symbol, sort_unless_variable, sorts_in, unless}
+use Rattle.smt_terms.specs.Labels.{Labels, Refused, with_labels}
+use Rattle.smt_terms.specs.WellSorted.{KeepsElements}
+use Rattle.smt_theory.specs.Operators.{op_by}
 use Rattle.smt_terms.specs.Definitions.{definition, definition_in, parameters_named}
-use Rattle.smt_terms.specs.Freshness.{is_bound, is_taken, name_flaw}
+use Rattle.smt_terms.specs.Freshness.{is_bound, is_element, is_element_in, is_taken_undeclared, item_elements, name_flaw}
 use Rattle.smt_terms.specs.Items.{form_in, has_rank_of, is_defined_in, item_in, items_before}
 use Rattle.smt_terms.specs.Repeated.{widened}
-use Rattle.smt_terms.specs.Signature.{Entry, Names, Signature, behind, declared_named, entry_named, names_of}
+use Rattle.smt_terms.specs.Signature.{Entry, Names, Rank, Signature, behind, declared_named, entry_named, names_of}
 use Rattle.smt_terms.specs.Signature.{ranks_of, sort_names_of}
 use Rattle.smt_terms.specs.SortTrees.{SortNames, sort_named}
 use Rattle.smt_faults.specs.declared.term_flaw.TermFlaw.{TermFlaw}
-use Rattle.smt_faults.specs.declared.term_flaw.TermFlaw.TheVariants.{BoundTwice, Form, IllSorted}
+use Rattle.smt_faults.specs.declared.term_flaw.TermFlaw.TheVariants.{BoundTwice, Form, IllSorted, NotFresh}
 use Rattle.smt_terms.proofs.CheckerLemmas.{Scope}
 use Rattle.smt_terms.proofs.ItemLemmas.{is_named, item_behind}
 use Rattle.smt_terms.proofs.ItemSortLemmas.{no_fault}
-use Rattle.smt_terms.proofs.KeptLemmas.{unless-none}
+use Rattle.smt_terms.proofs.KeptLemmas.{kept-element, kept-else, kept-qualified, kept-steps, kept-then, unless-none}
+use Rattle.smt_terms.proofs.WrittenLemmas.{form_defined}
 use Rattle.smt_terms.proofs.RepeatedLemmas.{item_kept, taken_by}
 
--- the same names in the wide profile
-abbrev wide_names : Names → Names
-wide_names names = record names { theories = record names.theories { wide = true } }
+-- these names in the wide profile, where terms may name these elements
+abbrev wider : Names → Option SortNames → Names
+wider names elements =
+    record names { theories = record names.theories { wide = true }; elements = elements }
 
 abbrev wide_sorts : SortNames → SortNames
 wide_sorts names = record names { theories = record names.theories { wide = true } }
@@ -43,99 +48,149 @@ same-steps : {A B : Type 0} (r s : Result A TermFlaw) (next more : A → Result 
 same-steps (Ok x) s next more e h = h x ∙ ap (λ q. result_and_then q more) e
 same-steps (Err f) s next more e h = ap (λ q. result_and_then q more) e
 
-same-faults : (names : Names) (scope : Scope) (term : Sexp) (xs : List (List ℕ))
-    → flaw_of_labels (wide_names names) scope term xs ≡ flaw_of_labels names scope term xs
-same-faults names scope term [] = refl
-same-faults names scope term (x ∷ xs) =
-    ap (option_or (flaw_of_label names names.labels scope term x))
-    (same-faults (behind ((x, term) ∷ []) names) scope term xs)
+-- ## Terms
 
-same-applied : (names : Names) (f : Identifier) (args : List Sort)
-    → sort_applied (wide_names names) f args ≡ sort_applied names f args
-same-applied names (Plain f) args = refl
-same-applied names (Indexed f indexes) args = refl
+-- where no label may be given, its fault does not hang on the names
+refused-fault : (names : Names) (elements : Option SortNames) (labels : Labels) (scope : Scope) (term : Sexp)
+    (x : List ℕ) → labels ≡ Refused
+    → flaw_of_label (wider names elements) labels scope term x ≡ flaw_of_label names labels scope term x
+refused-fault names elements labels scope term x refused =
+    ap (λ ls. flaw_of_label (wider names elements) ls scope term x) refused
+    ∙ ap (λ ls. flaw_of_label names ls scope term x) (sym refused)
 
-same-call : (names : Names) (scope : Scope) (f : Identifier) (args : List Sort)
-    → sort_of_call (wide_names names) scope f args ≡ sort_of_call names scope f args
-same-call names scope (Plain f) args =
-    ap (sort_unless_variable (look_up scope f)) (same-applied names (Plain f) args)
-same-call names scope (Indexed f indexes) args = same-applied names (Indexed f indexes) args
+refused-behind : (ls : List (List ℕ × Sexp)) (labels : Labels) → labels ≡ Refused
+    → with_labels (map (λ l. l.0) ls) labels ≡ Refused
+refused-behind ls labels refused = ap (λ ks. with_labels (map (λ l. l.0) ls) ks) refused
 
-same-application : (names : Names) (scope : Scope) (head : Sexp) (args : Sexps)
-    → sorts_in (wide_names names) scope args ≡ sorts_in names scope args
-    → result_and_then (applied head args)
-    (λ f. result_and_then (sorts_in (wide_names names) scope args)
-    (λ ss. sort_of_call (wide_names names) scope f ss))
-    ≡ result_and_then (applied head args)
-    (λ f. result_and_then (sorts_in names scope args) (λ ss. sort_of_call names scope f ss))
-same-application names scope head args h =
-    same-steps (applied head args) (applied head args)
-    (λ f. result_and_then (sorts_in (wide_names names) scope args)
-    (λ ss. sort_of_call (wide_names names) scope f ss))
-    (λ f. result_and_then (sorts_in names scope args) (λ ss. sort_of_call names scope f ss)) refl
-    (λ f. same-steps (sorts_in (wide_names names) scope args) (sorts_in names scope args)
-    (λ ss. sort_of_call (wide_names names) scope f ss) (λ ss. sort_of_call names scope f ss) h
-    (λ ss. same-call names scope f ss))
+refused-faults : (names : Names) (elements : Option SortNames) (scope : Scope) (term : Sexp) (xs : List (List ℕ))
+    → names.labels ≡ Refused
+    → flaw_of_labels (wider names elements) scope term xs ≡ flaw_of_labels names scope term xs
+refused-faults names elements scope term [] refused = refl
+refused-faults names elements scope term (x ∷ xs) refused =
+    ap (λ o. option_or o (flaw_of_labels (behind ((x, term) ∷ []) (wider names elements)) scope term xs))
+    (refused-fault names elements names.labels scope term x refused)
+    ∙ ap (option_or (flaw_of_label names names.labels scope term x))
+    (refused-faults (behind ((x, term) ∷ []) names) elements scope term xs
+    (refused-behind ((x, term) ∷ []) names.labels refused))
 
+-- more elements change no sort of a symbol
+wide-symbol : (names : Names) (elements : Option SortNames) → KeepsElements names.elements elements → (x : List ℕ)
+    (o : Option Sort) (r : Option Rank) (sort : Sort) → look_up names.ranks x ≡ r
+    → sort_of_symbol names x o ≡ Ok sort → sort_of_symbol (wider names elements) x o ≡ Ok sort
+wide-symbol names elements keeps x (Some s) r sort is h = h
+wide-symbol names elements keeps x None (Some rank) sort is h =
+    ap (λ q. sort_alone (wider names elements) x q) is ∙ sym (ap (λ q. sort_alone names x q) is) ∙ h
+wide-symbol names elements keeps x None None sort is h =
+    ap (λ q. sort_alone (wider names elements) x q) is
+    ∙ kept-element names.elements elements x (op_by names.theories x []) sort keeps
+    (sym (ap (λ q. sort_alone names x q) is) ∙ h)
+
+same-applied : (names : Names) (elements : Option SortNames) (f : Identifier) (args : List Sort)
+    → sort_applied (wider names elements) f args ≡ sort_applied names f args
+same-applied names elements (Plain f) args = refl
+same-applied names elements (Indexed f indexes) args = refl
+
+same-call : (names : Names) (elements : Option SortNames) (scope : Scope) (f : Identifier) (args : List Sort)
+    → sort_of_call (wider names elements) scope f args ≡ sort_of_call names scope f args
+same-call names elements scope (Plain f) args =
+    ap (sort_unless_variable (look_up scope f)) (same-applied names elements (Plain f) args)
+same-call names elements scope (Indexed f indexes) args = same-applied names elements (Indexed f indexes) args
+
+-- a term keeps its sort where no label may be given
 mutual
-  same-sort : (names : Names) (scope : Scope) (t : Sexp)
-      → sort_in (wide_names names) scope t ≡ sort_in names scope t
-  same-sort names scope (Atom Symbol x) = refl
-  same-sort names scope (Atom Numeral x) = refl
-  same-sort names scope (Atom Hexadecimal x) = refl
-  same-sort names scope (Atom Binary x) = refl
-  same-sort names scope (Atom sexp.Decimal x) = refl
-  same-sort names scope (Atom sexp.Text x) = refl
-  same-sort names scope (Atom Keyword x) = refl
-  same-sort names scope (Reserved word) = refl
-  same-sort names scope (Items Nil) = refl
-  same-sort names scope (Items (Cons (Reserved Underscore) parts)) =
-      same-steps (indexed parts) (indexed parts) (λ f. sort_applied (wide_names names) f [])
-      (λ f. sort_applied names f []) refl (λ f. same-applied names f [])
-  same-sort names scope (Items (Cons (Reserved Let) (Cons (Items bindings) (Cons body Nil)))) =
+  wide-sort : (names : Names) (elements : Option SortNames) → KeepsElements names.elements elements
+      → names.labels ≡ Refused → (scope : Scope) (t : Sexp) (sort : Sort)
+      → sort_in names scope t ≡ Ok sort → sort_in (wider names elements) scope t ≡ Ok sort
+  wide-sort names elements keeps refused scope (Atom Symbol x) sort h =
+      wide-symbol names elements keeps x (look_up scope x) (look_up names.ranks x) sort refl h
+  wide-sort names elements keeps refused scope (Atom Numeral x) sort h = h
+  wide-sort names elements keeps refused scope (Atom Hexadecimal x) sort h = h
+  wide-sort names elements keeps refused scope (Atom Binary x) sort h = h
+  wide-sort names elements keeps refused scope (Atom sexp.Decimal x) sort h = cc
+  wide-sort names elements keeps refused scope (Atom sexp.Text x) sort h = cc
+  wide-sort names elements keeps refused scope (Atom Keyword x) sort h = cc
+  wide-sort names elements keeps refused scope (Reserved word) sort h = cc
+  wide-sort names elements keeps refused scope (Items Nil) sort h = cc
+  wide-sort names elements keeps refused scope (Items (Cons (Reserved Underscore) parts)) sort h =
+      same-steps (indexed parts) (indexed parts) (λ f. sort_applied (wider names elements) f [])
+      (λ f. sort_applied names f []) refl (λ f. same-applied names elements f []) ∙ h
+  wide-sort names elements keeps refused scope (Items (Cons (Reserved As) parts)) sort h =
+      kept-qualified names.elements elements parts sort keeps h
+  wide-sort names elements keeps refused scope
+      (Items (Cons (Reserved Let) (Cons (Items bindings) (Cons body Nil)))) sort h =
       let ls = labels_in_bindings bindings in
-      ap (λ r. cond (are_bindings bindings) r (Err Form))
-      (same-steps (bound_in (wide_names names) scope [] bindings) (bound_in names scope [] bindings)
-      (λ bound. sort_in (behind ls (wide_names names)) (bound ++ scope) body)
+      kept-then (are_bindings bindings)
+      (result_and_then (bound_in names scope [] bindings)
+      (λ bound. sort_in (behind ls names) (bound ++ scope) body))
+      (result_and_then (bound_in (wider names elements) scope [] bindings)
+      (λ bound. sort_in (behind ls (wider names elements)) (bound ++ scope) body)) Form sort
+      (kept-steps (bound_in names scope [] bindings) (bound_in (wider names elements) scope [] bindings)
       (λ bound. sort_in (behind ls names) (bound ++ scope) body)
-      (same-bound names scope [] bindings) (λ bound. same-sort (behind ls names) (bound ++ scope) body))
-  same-sort names scope (Items (Cons (Reserved Let) args)) = refl
-  same-sort names scope (Items (Cons (Reserved Bang) (Cons term attributes))) =
+      (λ bound. sort_in (behind ls (wider names elements)) (bound ++ scope) body) sort
+      (wide-bound names elements keeps refused scope [] bindings)
+      (λ bound. wide-sort (behind ls names) elements keeps (refused-behind ls names.labels refused)
+      (bound ++ scope) body sort)) h
+  wide-sort names elements keeps refused scope (Items (Cons (Reserved Let) args)) sort h = cc
+  wide-sort names elements keeps refused scope (Items (Cons (Reserved Bang) (Cons term attributes))) sort h =
       let ls = labels_in term in
       let xs = labels_among attributes in
-      ap (λ r. cond (are_attributes attributes) r (Err Form))
-      (same-steps (sort_in (wide_names names) scope term) (sort_in names scope term)
-      (λ s. unless (flaw_of_labels (behind ls (wide_names names)) scope term xs) (Ok s))
+      kept-then (are_attributes attributes)
+      (result_and_then (sort_in names scope term)
+      (λ s. unless (flaw_of_labels (behind ls names) scope term xs) (Ok s)))
+      (result_and_then (sort_in (wider names elements) scope term)
+      (λ s. unless (flaw_of_labels (behind ls (wider names elements)) scope term xs) (Ok s))) Form sort
+      (kept-steps (sort_in names scope term) (sort_in (wider names elements) scope term)
       (λ s. unless (flaw_of_labels (behind ls names) scope term xs) (Ok s))
-      (same-sort names scope term)
-      (λ s. ap (λ o. unless o (Ok s)) (same-faults (behind ls names) scope term xs)))
-  same-sort names scope (Items (Cons (Reserved Bang) args)) = refl
-  same-sort names scope (Items (Cons head args)) =
-      same-application names scope head args (same-sorts names scope args)
+      (λ s. unless (flaw_of_labels (behind ls (wider names elements)) scope term xs) (Ok s)) sort
+      (wide-sort names elements keeps refused scope term)
+      (λ s i. ap (λ o. unless o (Ok s))
+      (refused-faults (behind ls names) elements scope term xs (refused-behind ls names.labels refused)) ∙ i)) h
+  wide-sort names elements keeps refused scope (Items (Cons (Reserved Bang) args)) sort h = cc
+  wide-sort names elements keeps refused scope (Items (Cons head args)) sort h =
+      kept-steps (applied head args) (applied head args)
+      (λ f. result_and_then (sorts_in names scope args) (λ ss. sort_of_call names scope f ss))
+      (λ f. result_and_then (sorts_in (wider names elements) scope args)
+      (λ ss. sort_of_call (wider names elements) scope f ss)) sort
+      (λ f is. is)
+      (λ f. kept-steps (sorts_in names scope args) (sorts_in (wider names elements) scope args)
+      (λ ss. sort_of_call names scope f ss) (λ ss. sort_of_call (wider names elements) scope f ss) sort
+      (wide-sorts names elements keeps refused scope args)
+      (λ ss i. same-call names elements scope f ss ∙ i)) h
 
-  same-sorts : (names : Names) (scope : Scope) (ts : Sexps)
-      → sorts_in (wide_names names) scope ts ≡ sorts_in names scope ts
-  same-sorts names scope Nil = refl
-  same-sorts names scope (Cons x xs) =
+  wide-sorts : (names : Names) (elements : Option SortNames) → KeepsElements names.elements elements
+      → names.labels ≡ Refused → (scope : Scope) (ts : Sexps) (sorts : List Sort)
+      → sorts_in names scope ts ≡ Ok sorts → sorts_in (wider names elements) scope ts ≡ Ok sorts
+  wide-sorts names elements keeps refused scope Nil sorts h = h
+  wide-sorts names elements keeps refused scope (Cons x xs) sorts h =
       let ls = labels_in x in
-      same-steps (sort_in (wide_names names) scope x) (sort_in names scope x)
-      (λ s. result_and_then (sorts_in (behind ls (wide_names names)) scope xs) (λ ss. Ok (s ∷ ss)))
+      kept-steps (sort_in names scope x) (sort_in (wider names elements) scope x)
       (λ s. result_and_then (sorts_in (behind ls names) scope xs) (λ ss. Ok (s ∷ ss)))
-      (same-sort names scope x)
-      (λ s. ap (λ r. result_and_then r (λ ss. Ok (s ∷ ss))) (same-sorts (behind ls names) scope xs))
+      (λ s. result_and_then (sorts_in (behind ls (wider names elements)) scope xs) (λ ss. Ok (s ∷ ss))) sorts
+      (wide-sort names elements keeps refused scope x)
+      (λ s. kept-steps (sorts_in (behind ls names) scope xs) (sorts_in (behind ls (wider names elements)) scope xs)
+      (λ ss. Ok (s ∷ ss)) (λ ss. Ok (s ∷ ss)) sorts
+      (wide-sorts (behind ls names) elements keeps (refused-behind ls names.labels refused) scope xs)
+      (λ ss i. i)) h
 
-  same-bound : (names : Names) (scope bound : Scope) (bs : Sexps)
-      → bound_in (wide_names names) scope bound bs ≡ bound_in names scope bound bs
-  same-bound names scope bound Nil = refl
-  same-bound names scope bound (Cons (Items (Cons (Atom Symbol x) (Cons term Nil))) rest) =
+  wide-bound : (names : Names) (elements : Option SortNames) → KeepsElements names.elements elements
+      → names.labels ≡ Refused → (scope bound : Scope) (bs : Sexps) (vs : Scope)
+      → bound_in names scope bound bs ≡ Ok vs → bound_in (wider names elements) scope bound bs ≡ Ok vs
+  wide-bound names elements keeps refused scope bound Nil vs h = h
+  wide-bound names elements keeps refused scope bound
+      (Cons (Items (Cons (Atom Symbol x) (Cons term Nil))) rest) vs h =
       let ls = labels_in term in
-      ap (λ r. cond (is_bound bound x) (Err BoundTwice) r)
-      (same-steps (sort_in (wide_names names) scope term) (sort_in names scope term)
-      (λ s. bound_in (behind ls (wide_names names)) scope (bound ++ (x, s) ∷ []) rest)
+      kept-else (is_bound bound x)
+      (result_and_then (sort_in names scope term)
+      (λ s. bound_in (behind ls names) scope (bound ++ (x, s) ∷ []) rest))
+      (result_and_then (sort_in (wider names elements) scope term)
+      (λ s. bound_in (behind ls (wider names elements)) scope (bound ++ (x, s) ∷ []) rest)) BoundTwice vs
+      (kept-steps (sort_in names scope term) (sort_in (wider names elements) scope term)
       (λ s. bound_in (behind ls names) scope (bound ++ (x, s) ∷ []) rest)
-      (same-sort names scope term)
-      (λ s. same-bound (behind ls names) scope (bound ++ (x, s) ∷ []) rest))
-  same-bound names scope bound _ = refl
+      (λ s. bound_in (behind ls (wider names elements)) scope (bound ++ (x, s) ∷ []) rest) vs
+      (wide-sort names elements keeps refused scope term)
+      (λ s. wide-bound (behind ls names) elements keeps (refused-behind ls names.labels refused) scope
+      (bound ++ (x, s) ∷ []) rest vs)) h
+  wide-bound names elements keeps refused scope bound _ vs h = cc
 
 -- ## Items
 
@@ -155,55 +210,87 @@ same-parameters sorts earlier (p ∷ ps) =
     same-named : (t : Sexp) → sort_named (wide_sorts sorts) t ≡ sort_named sorts t
     same-named t = refl
 
-same-definition : (names : Names) (x : List ℕ) (ps : Scope) (sort : Sort) (body : Sexp)
-    → definition_in (wide_names names) x ps sort body ≡ definition_in names x ps sort body
-same-definition names x ps sort body =
-    ap (λ r. result_and_then r
-    (λ found. cond (is_same_sort found sort) (Ok (definition x ps sort body)) (Err IllSorted)))
-    (same-sort names ps body)
+-- a definition stays where elements may be named
+wide-definition : (names : Names) (elements : Option SortNames) (x : List ℕ) (ps : Scope) (sort : Sort) (body : Sexp)
+    (e : Entry) → KeepsElements names.elements elements → names.labels ≡ Refused
+    → definition_in names x ps sort body ≡ Ok e → definition_in (wider names elements) x ps sort body ≡ Ok e
+wide-definition names elements x ps sort body e keeps refused =
+    kept-steps (sort_in names ps body) (sort_in (wider names elements) ps body)
+    (λ found. cond (is_same_sort found sort) (Ok (definition x ps sort body)) (Err IllSorted))
+    (λ found. cond (is_same_sort found sort) (Ok (definition x ps sort body)) (Err IllSorted)) e
+    (wide-sort names elements keeps refused ps body) (λ found h. h)
 
-same-form : (script : Signature) (earlier : List Entry) (form : ItemForm)
-    → form_in (widened script) earlier form ≡ form_in script earlier form
-same-form script earlier form =
+-- no element's name comes where the profile is not the wide one
+none_lent : (script : Signature) (more : Option SortNames) → script.theories.wide ≡ false
+    → KeepsElements (item_elements script) more
+none_lent script more narrow =
+    subst (λ b. KeepsElements (cond b (Some (sort_names_of script)) None) more) (sym narrow) tt
+
+-- what an item of these parts defines
+wide-form : (script : Signature) (earlier : List Entry) (form : ItemForm) (e : Entry)
+    → script.theories.wide ≡ false → is_element_in (widened script) form.name ≡ false
+    → form_in script earlier form ≡ Ok e → form_in (widened script) earlier form ≡ Ok e
+wide-form script earlier form e narrow apart h =
     let names = names_of (items_before script earlier) in
+    let wide = names_of (items_before (widened script) earlier) in
     let fits = λ (ps : Scope) (s : Sort). has_rank_of (declared_named script.entries form.name)
     (map (λ p. p.1) ps) s in
-    ap (unless (name_flaw script earlier form.name))
-    (same-steps (parameters_named (sort_names_of (widened script)) [] form.parameters)
-    (parameters_named (sort_names_of script) [] form.parameters)
-    (λ ps. result_and_then (sort_named (sort_names_of (widened script)) form.sort)
-    (λ s. cond (not (fits ps s)) (Err IllSorted)
-    (definition_in (wide_names names) form.name ps s form.body)))
+    let n = unless-none (name_flaw script earlier form.name) (item_behind script earlier form) e h in
+    let fit = no_fault script earlier form.name n.0 in
+    let flaw : name_flaw (widened script) earlier form.name ≡ None =
+    ap (λ o. cond (is_some o) (Some BoundTwice)
+    (cond (is_element_in (widened script) form.name || is_taken_undeclared script form.name) (Some NotFresh) None)) fit.0
+    ∙ ap (λ b. cond (b || is_taken_undeclared script form.name) (Some NotFresh) None) apart
+    ∙ ap (λ b. cond b (Some NotFresh) None) fit.1 in
+    ap (λ o. unless o (item_behind (widened script) earlier form)) flaw
+    ∙ kept-steps (parameters_named (sort_names_of script) [] form.parameters)
+    (parameters_named (sort_names_of (widened script)) [] form.parameters)
     (λ ps. result_and_then (sort_named (sort_names_of script) form.sort)
     (λ s. cond (not (fits ps s)) (Err IllSorted) (definition_in names form.name ps s form.body)))
-    (same-parameters (sort_names_of script) [] form.parameters)
-    (λ ps. same-steps (sort_named (sort_names_of (widened script)) form.sort)
-    (sort_named (sort_names_of script) form.sort)
-    (λ s. cond (not (fits ps s)) (Err IllSorted)
-    (definition_in (wide_names names) form.name ps s form.body))
+    (λ ps. result_and_then (sort_named (sort_names_of (widened script)) form.sort)
+    (λ s. cond (not (fits ps s)) (Err IllSorted) (definition_in wide form.name ps s form.body))) e
+    (λ ps is. same-parameters (sort_names_of script) [] form.parameters ∙ is)
+    (λ ps. kept-steps (sort_named (sort_names_of script) form.sort)
+    (sort_named (sort_names_of (widened script)) form.sort)
     (λ s. cond (not (fits ps s)) (Err IllSorted) (definition_in names form.name ps s form.body))
-    refl
-    (λ s. ap (cond (not (fits ps s)) (Err IllSorted)) (same-definition names form.name ps s form.body))))
+    (λ s. cond (not (fits ps s)) (Err IllSorted) (definition_in wide form.name ps s form.body)) e
+    (λ s is. is)
+    (λ s. kept-else (not (fits ps s)) (definition_in names form.name ps s form.body)
+    (definition_in wide form.name ps s form.body) IllSorted e
+    (wide-definition names (item_elements (widened script)) form.name ps s form.body e
+    (none_lent script (item_elements (widened script)) narrow) refl))) n.1
 
 -- a name that is fit for an item is no definition's
-undefined : (n d l p : Bool) → n ≡ l → (not d && (l || p)) ≡ false → (n && not d) ≡ false
-undefined true true l p e h = refl
-undefined false d l p e h = refl
-undefined true false true p e h = cc
-undefined true false false p e h = cc
+undefined : (n d k l p : Bool) → n ≡ l → (not d && ((k || l) || p)) ≡ false → (n && not d) ≡ false
+undefined true true k l p e h = refl
+undefined false d k l p e h = refl
+undefined true false true l p e h = cc
+undefined true false false true p e h = cc
+undefined true false false false p e h = cc
 
 not_defined : (script : Signature) (earlier : List Entry) (form : ItemForm) (e : Entry)
     → form_in script earlier form ≡ Ok e → is_defined_in script form.name ≡ false
 not_defined script earlier form e h =
     undefined (is_some (entry_named script.entries form.name))
-    (is_some (declared_named script.entries form.name))
+    (is_some (declared_named script.entries form.name)) (is_element (names_of script) form.name)
     (is_some (look_up (ranks_of script.entries) form.name)) (is_plain_operator script.theories form.name)
     (is_named script.entries form.name)
     (no_fault script earlier form.name (unless-none (name_flaw script earlier form.name) (item_behind script earlier form) e h).0).1
 
+-- where the profile is the wide one already, nothing changes
+already_wide : (script : Signature) → script.theories.wide ≡ true → widened script ≡ script
+already_wide script is = λ i. record script { theories = record script.theories { wide = sym is i } }
+
 pub same_item : (script : Signature) (earlier : List Entry) (tree : Sexp) (e : Entry)
-    → item_in script earlier tree ≡ Ok (Some e) → item_in (widened script) earlier tree ≡ Ok (Some e)
-same_item script earlier tree e h =
-    let t = taken_by script earlier tree e h in
-    item_kept (widened script) earlier tree t.0 t.1 (not_defined script earlier t.0 e t.2)
-    ∙ ap (λ r. result_and_then r (λ d. Ok (Some d))) (same-form script earlier t.0 ∙ t.2)
+    → item_in script earlier tree ≡ Ok (Some e) → is_element_in (widened script) e.name ≡ false
+    → item_in (widened script) earlier tree ≡ Ok (Some e)
+same_item script earlier tree e h apart = by script.theories.wide refl
+  where
+    by : (b : Bool) → script.theories.wide ≡ b → item_in (widened script) earlier tree ≡ Ok (Some e)
+    by true is = ap (λ s. item_in s earlier tree) (already_wide script is) ∙ h
+    by false is =
+        let t = taken_by script earlier tree e h in
+        item_kept (widened script) earlier tree t.0 t.1 (not_defined script earlier t.0 e t.2)
+        ∙ ap (λ r. result_and_then r (λ d. Ok (Some d)))
+        (wide-form script earlier t.0 e is
+        (ap (is_element_in (widened script)) (sym (form_defined script earlier t.0 e t.2).name) ∙ apart) t.2)

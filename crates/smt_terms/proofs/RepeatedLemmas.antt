@@ -1,14 +1,19 @@
 -- Items that are set aside, and those that are not.
-use Rattle.std.proofs.Common.{◌≡◌, inl, inr, ℕ, Bool, true, false, cond, List, [], map, Option, Some, None}
+use Rattle.std.proofs.Common.{◌≡◌, inl, inr, ℕ, Bool, true, false, cond, List, [], map, Option, Some, None, unwrap_or}
 use Rattle.std.proofs.Common.{Result, Ok, Err, refl, ap, sym, ◌∙◌}
-use Rattle.smt_trees.specs.Sexp.{Sexp}
+use Rattle.smt_trees.specs.Sexp.{Sexp, Sexps, Atom, Reserved, Items, Nil, Cons, Symbol}
+use Rattle.smt_trees.specs.declared.reserved.Word.TheVariants.{DeclareFun, DeclareSort, Forall}
+use Rattle.smt_theory.specs.Sort.{is_same_sort}
 use Rattle.smt_theory.specs.Words.{result_and_then}
 use Rattle.smt_theory.specs.declared.sort.Sort.{Sort}
 use Rattle.smt_forms.specs.ItemForm.{ItemForm, item_form}
 use Rattle.smt_terms.specs.Definitions.{parameters_named}
 use Rattle.smt_terms.specs.Internal.LibraryView.{sort_names}
 use Rattle.smt_terms.specs.Library.{StandsFor}
-use Rattle.smt_terms.specs.Items.{form_in, has_rank_of, is_set_aside, item_by, item_in, repeated_in}
+use Rattle.smt_terms.specs.Items.{declared_item, element_told, form_in, has_rank_of, is_set_aside, item_by, item_in}
+use Rattle.smt_terms.specs.Items.{repeated_in, told_in, told_item, told_sort}
+use Rattle.smt_terms.specs.Elements.{element_among}
+use Rattle.smt_terms.specs.Freshness.{item_elements}
 use Rattle.smt_terms.specs.Signature.{Entry, Signature, entry_named, sort_names_of}
 use Rattle.smt_terms.specs.SortTrees.{sort_named}
 use Rattle.smt_faults.specs.Outcome.{Tells}
@@ -47,13 +52,66 @@ some_of : (r : Result Entry TermFlaw) (e : Entry) → result_and_then r (λ d. O
 some_of (Ok d) e h = cc
 some_of (Err f) e h = cc
 
+-- ---- items that tell of elements
+
+-- they define nothing
+tells_nothing : (script : Signature) (parts : Sexps) (e : Entry) → declared_item script parts ≡ Ok (Some e) → ⊥
+tells_nothing script (Cons (Atom Symbol x) (Cons (Items Nil) (Cons sort Nil))) e h =
+    by (element_among (item_elements script) x) h
+  where
+    test : (b : Bool) → by_test b ≡ Ok (Some e) → ⊥
+    test true g = cc
+    test false g = cc
+
+    step : (element : Sort) (r : Result Sort TermFlaw) → result_and_then r (told_sort element) ≡ Ok (Some e) → ⊥
+    step element (Err f) g = cc
+    step element (Ok s) g = test (is_same_sort element s) g
+
+    by : (o : Option Sort) → element_told script o sort ≡ Ok (Some e) → ⊥
+    by None g = cc
+    by (Some element) g = step element (sort_named (sort_names_of script) sort) g
+tells_nothing script _ e h = cc
+
+-- so what defines something is none
+untold : (script : Signature) (tree : Sexp) (e : Entry) (rest : Result (Option Entry) TermFlaw)
+    → unwrap_or (told_item script tree) rest ≡ Ok (Some e) → rest ≡ Ok (Some e)
+untold script tree e rest h = by script.theories.wide h
+  where
+    in_wide : (t : Sexp) → unwrap_or (told_in script t) rest ≡ Ok (Some e) → rest ≡ Ok (Some e)
+    in_wide (Items (Cons (Reserved Forall) parts)) g = cc
+    in_wide (Items (Cons (Reserved DeclareSort) parts)) g = cc
+    in_wide (Items (Cons (Reserved DeclareFun) parts)) g = absurd (tells_nothing script parts e g)
+    in_wide _ g = g
+
+    by : (b : Bool) → unwrap_or (cond b (told_in script tree) None) rest ≡ Ok (Some e) → rest ≡ Ok (Some e)
+    by true g = in_wide tree g
+    by false g = g
+
+-- and what has the form of a definition is none
+form_tells_nothing : (script : Signature) (tree : Sexp) (form : ItemForm) → item_form tree ≡ Ok form
+    → told_in script tree ≡ None
+form_tells_nothing script (Items (Cons (Reserved Forall) parts)) form h = cc
+form_tells_nothing script (Items (Cons (Reserved DeclareSort) parts)) form h = cc
+form_tells_nothing script (Items (Cons (Reserved DeclareFun) parts)) form h = cc
+form_tells_nothing script _ form h = refl
+
+none_either : {A : Type 0} (b : Bool) (o : Option A) → o ≡ None → cond b o None ≡ None
+none_either true o h = h
+none_either false o h = refl
+
+told_none : (script : Signature) (tree : Sexp) (form : ItemForm) → item_form tree ≡ Ok form
+    → told_item script tree ≡ None
+told_none script tree form is =
+    none_either script.theories.wide (told_in script tree) (form_tells_nothing script tree form is)
+
 -- what an item defines is what its parts define, and it is not set aside
 pub taken_by : (script : Signature) (earlier : List Entry) (tree : Sexp) (e : Entry)
     → item_in script earlier tree ≡ Ok (Some e)
     → (form : ItemForm) × (item_form tree ≡ Ok form) × (form_in script earlier form ≡ Ok e)
     × (is_set_aside script form.name ≡ false)
 taken_by script earlier tree e h =
-    let a = answered (item_form tree) (item_by script earlier) (Some e) h in
+    let a = answered (item_form tree) (item_by script earlier) (Some e)
+    (untold script tree e (result_and_then (item_form tree) (item_by script earlier)) h) in
     let b = by a.0 (is_set_aside script a.0.name) refl a.2 in
     (a.0, a.1, b.0, b.1)
   where
@@ -63,19 +121,34 @@ taken_by script earlier tree e h =
     by form true is h = absurd (never_some script form e h)
     by form false is h = (some_of (form_in script earlier form) e h, is)
 
+-- an item that tells of no elements
+pub item_untold : (s : Signature) (es : List Entry) (t : Sexp) → told_item s t ≡ None
+    → item_in s es t ≡ result_and_then (item_form t) (item_by s es)
+item_untold s es t is = ap (λ o. unwrap_or o (result_and_then (item_form t) (item_by s es))) is
+
 -- an item of these parts, by whether it is set aside
+pub parts_aside : (s : Signature) (es : List Entry) (t : Sexp) (form : ItemForm) → item_form t ≡ Ok form
+    → is_set_aside s form.name ≡ true → result_and_then (item_form t) (item_by s es) ≡ repeated_in s form
+parts_aside s es t form is aside =
+    ap (λ r. result_and_then r (item_by s es)) is
+    ∙ ap (λ b. cond b (repeated_in s form) (result_and_then (form_in s es form) (λ e. Ok (Some e)))) aside
+
 pub item_aside : (s : Signature) (es : List Entry) (t : Sexp) (form : ItemForm) → item_form t ≡ Ok form
     → is_set_aside s form.name ≡ true → item_in s es t ≡ repeated_in s form
 item_aside s es t form is aside =
+    item_untold s es t (told_none s t form is) ∙ parts_aside s es t form is aside
+
+pub parts_kept : (s : Signature) (es : List Entry) (t : Sexp) (form : ItemForm) → item_form t ≡ Ok form
+    → is_set_aside s form.name ≡ false
+    → result_and_then (item_form t) (item_by s es) ≡ result_and_then (form_in s es form) (λ e. Ok (Some e))
+parts_kept s es t form is kept =
     ap (λ r. result_and_then r (item_by s es)) is
-    ∙ ap (λ b. cond b (repeated_in s form) (result_and_then (form_in s es form) (λ e. Ok (Some e)))) aside
+    ∙ ap (λ b. cond b (repeated_in s form) (result_and_then (form_in s es form) (λ e. Ok (Some e)))) kept
 
 pub item_kept : (s : Signature) (es : List Entry) (t : Sexp) (form : ItemForm) → item_form t ≡ Ok form
     → is_set_aside s form.name ≡ false
     → item_in s es t ≡ result_and_then (form_in s es form) (λ e. Ok (Some e))
-item_kept s es t form is kept =
-    ap (λ r. result_and_then r (item_by s es)) is
-    ∙ ap (λ b. cond b (repeated_in s form) (result_and_then (form_in s es form) (λ e. Ok (Some e)))) kept
+item_kept s es t form is kept = item_untold s es t (told_none s t form is) ∙ parts_kept s es t form is kept
 
 -- a fault of the parts is the item's
 pub same_refusal : (r : Result Entry TermFlaw) (f : TermFault) → Tells r f

@@ -1,10 +1,9 @@
--- Items that are set aside are those that repeat a definition.
+-- Items that are set aside are those that repeat a definition, or tell of elements.
 use Rattle.std.proofs.Common.{◌≡◌, ◌↔◌, ℕ, Bool, true, false, cond, not, ◌&&◌, List, [], map, Option, Some}
-use Rattle.std.proofs.Common.{None, is_some, Result, Ok, Err, refl, ap, sym, ◌∙◌, subst}
+use Rattle.std.proofs.Common.{None, is_some, Result, Ok, Err, refl, ap, sym, ◌∙◌, ◌⊎◌, inl, inr, unwrap_or}
 use Rattle.std.specs.Option.{option_and_then}
 use Rattle.std.proofs.lemmas.Slice.Eq.{slice_eq-Decides}
-use Rattle.smt_trees.specs.Sexp.{Sexp, Atom, Reserved, Items, Nil, Cons, Symbol}
-use Rattle.smt_trees.specs.declared.reserved.Word.TheVariants.{DefineFun}
+use Rattle.smt_trees.specs.Sexp.{Sexp}
 use Rattle.smt_theory.specs.Ranks.{are_exactly}
 use Rattle.smt_theory.specs.Sort.{is_same_sort}
 use Rattle.smt_theory.specs.Words.{result_and_then}
@@ -13,9 +12,9 @@ use Rattle.smt_forms.specs.Bindings.{named_trees}
 use Rattle.smt_forms.specs.ItemForm.{ItemForm, item_form}
 use Rattle.smt_terms.specs.Definitions.{parameters_named}
 use Rattle.smt_terms.specs.Items.{form_in, has_rank_of, is_defined_in, is_set_aside, item_by, item_in}
-use Rattle.smt_terms.specs.Items.{repeated_in}
+use Rattle.smt_terms.specs.Items.{repeated_in, told_item}
 use Rattle.smt_terms.specs.Repeated.{IsRepeated}
-use Rattle.smt_terms.specs.Signature.{Entry, Origin, Declared, Defined, Signature, declared_named, entry_named}
+use Rattle.smt_terms.specs.Signature.{Entry, Origin, Declared, Defined, Signature, entry_named}
 use Rattle.smt_terms.specs.Signature.{if_declared, is_declared, sort_names_of}
 use Rattle.smt_terms.specs.SortTrees.{sort_named}
 use Rattle.smt_faults.specs.declared.term_flaw.TermFlaw.{TermFlaw}
@@ -118,7 +117,7 @@ repeated compared script tree form is a =
     }
 
 pub set_aside : AreCompared → (script : Signature) (earlier : List Entry) (tree : Sexp)
-    → (item_in script earlier tree ≡ Ok None) ↔ IsRepeated script tree
+    → (item_in script earlier tree ≡ Ok None) ↔ (IsRepeated script tree ⊎ (told_item script tree ≡ Some (Ok None)))
 set_aside compared script earlier tree = (there, back)
   where
     by : (form : ItemForm) → item_form tree ≡ Ok form → (b : Bool) → is_set_aside script form.name ≡ b
@@ -128,10 +127,18 @@ set_aside compared script earlier tree = (there, back)
         repeated compared script tree form (form_of tree form is) (aside script form set h)
     by form is false set h = absurd (no_none (form_in script earlier form) h)
 
-    there : item_in script earlier tree ≡ Ok None → IsRepeated script tree
-    there h =
-        let a = answered (item_form tree) (item_by script earlier) None h in
-        by a.0 a.1 (is_set_aside script a.0.name) refl a.2
+    whole : Result (Option Entry) TermFlaw
+    whole = result_and_then (item_form tree) (item_by script earlier)
+
+    there : item_in script earlier tree ≡ Ok None → IsRepeated script tree ⊎ (told_item script tree ≡ Some (Ok None))
+    there h = told (told_item script tree) refl h
+      where
+        told : (o : Option (Result (Option Entry) TermFlaw)) → told_item script tree ≡ o
+            → unwrap_or o whole ≡ Ok None → IsRepeated script tree ⊎ (told_item script tree ≡ Some (Ok None))
+        told None is g =
+            let a = answered (item_form tree) (item_by script earlier) None g in
+            inl (by a.0 a.1 (is_set_aside script a.0.name) refl a.2)
+        told (Some r) is g = inr (is ∙ ap (λ q. Some q) g)
 
     parts : IsRepeated script tree → ItemForm
     parts r = record {
@@ -141,8 +148,9 @@ set_aside compared script earlier tree = (there, back)
       body = r.body;
     }
 
-    back : IsRepeated script tree → item_in script earlier tree ≡ Ok None
-    back r =
+    back : IsRepeated script tree ⊎ (told_item script tree ≡ Some (Ok None)) → item_in script earlier tree ≡ Ok None
+    back (inr told) = ap (λ o. unwrap_or o whole) told
+    back (inl r) =
         let form = parts r in
         let is : item_form tree ≡ Ok form = ap item_form r.printed
         ∙ ap (λ b. cond b (Ok form) (Err Form)) r.named in

@@ -14,7 +14,9 @@ use Rattle.smt_theory.specs.Operators.{is_plain_operator}
 use Rattle.smt_theory.specs.declared.theories.Theories.{Theories}
 use Rattle.smt_terms.specs.Contents.{Contents, Declaration, terms_in}
 use Rattle.smt_terms.specs.Definitions.{definition}
-use Rattle.smt_terms.specs.Denotes.{Denotes, Head, IsLonger, slots_from}
+use Rattle.smt_terms.specs.Denotes.{AreApart, Denotes, Head, IsLonger, slots_from}
+use Rattle.smt_terms.specs.Elements.{element_among}
+use Rattle.smt_terms.specs.SortTrees.{SortNames}
 use Rattle.smt_terms.specs.Internal.Growing.{Bodies, HoldsUnder, IsBodyUnder, KeepsNames, bodies_in, terms_under}
 use Rattle.smt_terms.specs.Internal.TableView.{names_of_definitions}
 use Rattle.smt_terms.specs.Library.{AreDefinitions, Holds, IsDefinitionOf, declaration_at}
@@ -27,6 +29,7 @@ use Rattle.smt_terms.specs.declared.library.Definition.{Definition}
 use Rattle.smt_terms.specs.TermsOf.{AreBodies, IsBody, first_heads, heads_from, heads_of, place_behind}
 use Rattle.smt_terms.specs.TermsOf.{with_declared, with_defined}
 use Rattle.smt_terms.specs.declared.library.Found.TheVariants as place
+use Rattle.smt_terms.proofs.ApartLemmas.{apart_one, apart_same}
 use Rattle.smt_terms.proofs.BodyLemmas.{IsLastBody, bodies_longer, bodies_push, heads-push}
 use Rattle.smt_terms.proofs.ContentsLemmas.{Goes, nothing_more}
 use Rattle.smt_terms.proofs.DenotesLemmas.{denotes_kept}
@@ -97,11 +100,13 @@ length-declarations n (e ∷ es) = by e.origin (length-declarations (n + 1) es)
     by (signature.Defined ps body) rest = rest
 
 -- contents without names
-pub nothing_stands : (c : Contents) (theories : Theories) → c.theories ≡ theories → c.abbreviations ≡ []
+pub nothing_stands : (c : Contents) (theories : Theories) → c.theories ≡ theories → c.elements ≡ None
+    → c.abbreviations ≡ []
     → c.ranks ≡ [] → c.heads ≡ [] → c.declared ≡ [] → c.definitions ≡ [] → c.bodies ≡ []
     → Holds c (no_names theories)
-nothing_stands c theories same abbreviations ranks heads declared definitions bodies = record {
+nothing_stands c theories same elements abbreviations ranks heads declared definitions bodies = record {
   theories = same;
+  elements = elements;
   distinct = tt;
   abbreviations = abbreviations;
   ranks = ranks;
@@ -109,10 +114,32 @@ nothing_stands c theories same abbreviations ranks heads declared definitions bo
   definitions = subst (λ ds. AreDefinitions ds []) (sym definitions) tt;
   terms = record {
     theories = same;
+    elements = elements;
     heads = heads;
     free = All-nil (λ e. is_plain_operator theories e.name ≡ false);
     names = ap names_of_definitions definitions;
     bodies = bodies;
+  };
+}
+
+-- with elements that terms may name
+pub nothing_lent : (c : Contents) (theories : Theories) (elements : Option SortNames) → Holds c (no_names theories)
+    → Holds (record c { elements = elements }) (record (no_names theories) { elements = elements })
+nothing_lent c theories elements stands = record {
+  theories = stands.theories;
+  elements = refl;
+  distinct = stands.distinct;
+  abbreviations = stands.abbreviations;
+  ranks = stands.ranks;
+  declared = stands.declared;
+  definitions = stands.definitions;
+  terms = record {
+    theories = stands.terms.theories;
+    elements = refl;
+    heads = stands.terms.heads;
+    free = stands.terms.free;
+    names = stands.terms.names;
+    bodies = stands.terms.bodies;
   };
 }
 
@@ -122,6 +149,7 @@ nothing_stands c theories same abbreviations ranks heads declared definitions bo
 pub under : (c : Contents) (s : Signature) → Holds c s → HoldsUnder (bodies_in c) c s
 under c s stands = record {
   theories = stands.theories;
+  elements = stands.elements;
   distinct = stands.distinct;
   abbreviations = stands.abbreviations;
   ranks = stands.ranks;
@@ -136,6 +164,7 @@ pub whole : (bodies : Bodies) (c : Contents) (s : Signature) → c.bodies ≡ bo
     → names_of_definitions c.definitions ≡ bodies.names → HoldsUnder bodies c s → Holds c s
 whole bodies c s same named stands = record {
   theories = stands.theories;
+  elements = stands.elements;
   distinct = stands.distinct;
   abbreviations = stands.abbreviations;
   ranks = stands.ranks;
@@ -143,6 +172,7 @@ whole bodies c s same named stands = record {
   definitions = stands.definitions;
   terms = record {
     theories = stands.theories;
+    elements = stands.elements;
     heads = stands.heads;
     free = stands.free;
     names = defined_names c.definitions (defined_among s.entries) stands.definitions;
@@ -162,6 +192,7 @@ pub under_more : (bodies : Bodies) (names : List (List ℕ)) (nodes : List ℕ) 
     → HoldsUnder bodies c s → HoldsUnder (and_more bodies names nodes) c s
 under_more bodies names nodes c s stands = record {
   theories = stands.theories;
+  elements = stands.elements;
   distinct = stands.distinct;
   abbreviations = stands.abbreviations;
   ranks = stands.ranks;
@@ -172,7 +203,9 @@ under_more bodies names nodes c s stands = record {
   seen = bodies_longer (terms_under bodies c) (terms_under (and_more bodies names nodes) c) 0 c.bodies s.entries
       (record {
         theories = refl;
+        elements = refl;
         heads = nothing_more _ _ refl;
+        apart = apart_same c.elements c.heads c.heads refl;
         names = (names, refl);
         bodies = (nodes, refl);
         rows = nothing_more _ _ refl;
@@ -181,11 +214,13 @@ under_more bodies names nodes c s stands = record {
 
 -- the table over the same bodies, as names and nodes come
 pub under_longer : (bodies : Bodies) (old new : Contents) → new.theories ≡ old.theories
-    → Goes old.heads new.heads → Goes old.rows new.rows
+    → new.elements ≡ old.elements → Goes old.heads new.heads → AreApart old.elements old.heads new.heads → Goes old.rows new.rows
     → IsLonger (terms_under bodies old) (terms_under bodies new)
-under_longer bodies old new theories heads rows = record {
+under_longer bodies old new theories elements heads apart rows = record {
   theories = theories;
+  elements = elements;
   heads = heads;
+  apart = apart;
   names = nothing_more _ _ refl;
   bodies = nothing_more _ _ refl;
   rows = rows;
@@ -196,6 +231,7 @@ pub stands_kept : (bodies : Bodies) (old new : Contents) (s : Signature) → Kee
     → HoldsUnder bodies old s → HoldsUnder bodies new s
 stands_kept bodies old new s kept stands = record {
   theories = kept.theories ∙ stands.theories;
+  elements = kept.elements ∙ stands.elements;
   distinct = stands.distinct;
   abbreviations = kept.abbreviations ∙ stands.abbreviations;
   ranks = kept.ranks ∙ stands.ranks;
@@ -205,7 +241,8 @@ stands_kept bodies old new s kept stands = record {
   heads = kept.heads ∙ stands.heads;
   free = stands.free;
   seen = bodies_longer (terms_under bodies old) (terms_under bodies new) 0 new.bodies s.entries
-      (under_longer bodies old new kept.theories (nothing_more _ _ kept.heads) kept.rows)
+      (under_longer bodies old new kept.theories kept.elements (nothing_more _ _ kept.heads)
+      (apart_same old.elements old.heads new.heads kept.heads) kept.rows)
       (subst (λ bs. AreBodies (terms_under bodies old) 0 bs s.entries) (sym kept.bodies) stands.seen);
 }
 
@@ -216,33 +253,39 @@ stands_still old new s kept stands =
 
 -- an abbreviation has come
 pub stands_abbreviated : (old new : Contents) (s : Signature) (x : List ℕ) (sort : Sort)
-    → new.theories ≡ old.theories → new.abbreviations ≡ old.abbreviations ++ (x, sort) ∷ []
+    → new.theories ≡ old.theories → new.elements ≡ old.elements
+    → new.abbreviations ≡ old.abbreviations ++ (x, sort) ∷ []
     → new.ranks ≡ old.ranks → new.heads ≡ old.heads
     → new.declared ≡ old.declared → new.definitions ≡ old.definitions → new.bodies ≡ old.bodies
     → new.rows ≡ old.rows → Holds old s → Holds new (with_abbreviation s x sort)
-stands_abbreviated old new s x sort theories abbreviations ranks heads declared definitions bodies rows stands = record {
-  theories = theories ∙ stands.theories;
-  distinct = stands.distinct;
-  abbreviations =
-      abbreviations ∙ ap (λ (ss : List (List ℕ × Sort)). ss ++ (x, sort) ∷ []) stands.abbreviations;
-  ranks = ranks ∙ stands.ranks;
-  declared = declared ∙ stands.declared;
-  definitions = subst (λ ds. AreDefinitions ds (defined_among s.entries)) (sym definitions)
-      stands.definitions;
-  terms = record {
-    theories = theories ∙ stands.theories;
-    heads = heads ∙ stands.terms.heads;
-    free = stands.terms.free;
-    names = ap names_of_definitions definitions ∙ stands.terms.names;
-    bodies = bodies_longer (terms_in old) (terms_in new) 0 new.bodies s.entries (record {
-      theories = theories;
-      heads = nothing_more _ _ heads;
-      names = nothing_more _ _ (ap names_of_definitions definitions);
-      bodies = nothing_more _ _ bodies;
-      rows = nothing_more _ _ rows;
-    }) (subst (λ bs. AreBodies (terms_in old) 0 bs s.entries) (sym bodies) stands.terms.bodies);
-  };
-}
+stands_abbreviated old new s x sort theories elements abbreviations ranks heads declared definitions bodies rows
+    stands = record {
+      theories = theories ∙ stands.theories;
+      elements = elements ∙ stands.elements;
+      distinct = stands.distinct;
+      abbreviations =
+          abbreviations ∙ ap (λ (ss : List (List ℕ × Sort)). ss ++ (x, sort) ∷ []) stands.abbreviations;
+      ranks = ranks ∙ stands.ranks;
+      declared = declared ∙ stands.declared;
+      definitions = subst (λ ds. AreDefinitions ds (defined_among s.entries)) (sym definitions)
+          stands.definitions;
+      terms = record {
+        theories = theories ∙ stands.theories;
+        elements = elements ∙ stands.elements;
+        heads = heads ∙ stands.terms.heads;
+        free = stands.terms.free;
+        names = ap names_of_definitions definitions ∙ stands.terms.names;
+        bodies = bodies_longer (terms_in old) (terms_in new) 0 new.bodies s.entries (record {
+          theories = theories;
+          elements = elements;
+          heads = nothing_more _ _ heads;
+          apart = apart_same old.elements old.heads new.heads heads;
+          names = nothing_more _ _ (ap names_of_definitions definitions);
+          bodies = nothing_more _ _ bodies;
+          rows = nothing_more _ _ rows;
+        }) (subst (λ bs. AreBodies (terms_in old) 0 bs s.entries) (sym bodies) stands.terms.bodies);
+      };
+    }
 
 -- the ranks with one more
 ranks-push : (es : List Entry) (e : Entry) (ranks : List (List ℕ × Rank)) → ranks ≡ ranks_of es
@@ -282,15 +325,15 @@ heads-next es e heads m n is declared defined =
 
 -- and so the bodies with what one more entry has
 seen-next : (bodies : Bodies) (more : List ℕ) (old new : Contents) (es : List Entry) (e : Entry)
-    → new.theories ≡ old.theories → Goes old.heads new.heads → Goes old.rows new.rows
-    → new.bodies ≡ old.bodies ++ more → AreBodies (terms_under bodies old) 0 old.bodies es
+    → new.theories ≡ old.theories → new.elements ≡ old.elements → Goes old.heads new.heads
+    → AreApart old.elements old.heads new.heads → Goes old.rows new.rows → new.bodies ≡ old.bodies ++ more → AreBodies (terms_under bodies old) 0 old.bodies es
     → IsLastBody (terms_under bodies new) (length es) e more
     → AreBodies (terms_under bodies new) 0 new.bodies (es ++ e ∷ [])
-seen-next bodies more old new es e theories heads rows is seen last =
+seen-next bodies more old new es e theories elements heads apart rows is seen last =
     subst (λ bs. AreBodies (terms_under bodies new) 0 bs (es ++ e ∷ [])) (sym is)
     (bodies_push (terms_under bodies new) 0 old.bodies es e more
     (bodies_longer (terms_under bodies old) (terms_under bodies new) 0 old.bodies es
-    (under_longer bodies old new theories heads rows) seen)
+    (under_longer bodies old new theories elements heads apart rows) seen)
     (let same : length es ≡ 0 + length es = omega arith in
     subst (λ (n : ℕ). IsLastBody (terms_under bodies new) n e more) same last))
 
@@ -306,7 +349,8 @@ free-push theories es e all free =
 -- a declared name has come
 pub stands_declared : (old new : Contents) (s : Signature) (x : List ℕ) (d : Declaration)
     → look_up old.ranks x ≡ None → is_plain_operator old.theories x ≡ false
-    → d.name ≡ length old.ranks → new.theories ≡ old.theories
+    → element_among old.elements x ≡ None → d.name ≡ length old.ranks → new.theories ≡ old.theories
+    → new.elements ≡ old.elements
     → new.abbreviations ≡ old.abbreviations
     → new.ranks ≡ old.ranks ++ (x, record { parameters = d.parameters; sort = d.sort }) ∷ []
     → new.heads ≡ old.heads ++ (
@@ -321,8 +365,8 @@ pub stands_declared : (old new : Contents) (s : Signature) (x : List ℕ) (d : D
     → Holds old s
     → Holds new (with_entry s
     (declaration x d.command (record { parameters = d.parameters; sort = d.sort })))
-stands_declared old new s x d absent free next theories abbreviations ranks heads declared definitions bodies
-    rows stands =
+stands_declared old new s x d absent free apart next theories elements abbreviations ranks heads declared definitions
+    bodies rows stands =
     let e : Entry = declaration x d.command (record { parameters = d.parameters; sort = d.sort }) in
     let counted : length old.declared ≡ length (declared_among s.entries) =
     ap (λ (ds : List Declaration). length ds) stands.declared ∙ length-declarations 0 s.entries in
@@ -333,6 +377,7 @@ stands_declared old new s x d absent free next theories abbreviations ranks head
     filter-append _ s.entries (e ∷ []) ∙ append-nil (defined_among s.entries) in
     whole (bodies_in old) new (with_entry s e) bodies (ap names_of_definitions definitions) (record {
       theories = theories ∙ stands.theories;
+      elements = elements ∙ stands.elements;
       distinct =
           distinct-push s.entries e stands.distinct (absent_entry s.entries x old.ranks stands.ranks absent);
       abbreviations = abbreviations ∙ stands.abbreviations;
@@ -351,7 +396,8 @@ stands_declared old new s x d absent free next theories abbreviations ranks head
       heads = heads ∙ heads-next s.entries e old.heads (length old.declared) _ stands.terms.heads counted refl;
       free = free-push s.theories s.entries e stands.terms.free
           (ap (λ ts. is_plain_operator ts x) (sym stands.theories) ∙ free);
-      seen = seen-next (bodies_in old) [] old new s.entries e theories (_, heads) rows
+      seen = seen-next (bodies_in old) [] old new s.entries e theories elements (_, heads)
+          (apart_one old.elements old.heads new.heads x _ heads apart) rows
           (bodies ∙ sym (append-nil old.bodies)) stands.terms.bodies refl;
     })
 
@@ -377,18 +423,20 @@ length-heads m n (e ∷ es) = ap suc (length-heads (with_declared m e.origin) (w
 
 -- a body that sees all names is one for the next entry
 body-next : (bodies : Bodies) (old new : Contents) (es : List Entry) (ps : List (List ℕ × Sort)) (t : Sexp)
-    (j : ℕ) → new.theories ≡ old.theories → Goes old.heads new.heads → Goes old.rows new.rows
+    (j : ℕ) → new.theories ≡ old.theories → new.elements ≡ old.elements → Goes old.heads new.heads → Goes old.rows new.rows
     → old.heads ≡ heads_of es → IsBodyUnder bodies old ps j t
     → IsBody (terms_under bodies new) (length es) (length (map (λ p. p.1) ps)) (map (λ p. p.0) ps) t j
-body-next bodies old new es ps t j theories heads rows are node =
+body-next bodies old new es ps t j theories elements heads rows are node =
     let count : length es ≡ length old.heads =
     sym (length-heads 0 0 es) ∙ ap (λ (hs : List (List ℕ × Head)). length hs) (sym are) in
     let names : length (map (λ (p : List ℕ × Sort). p.0) ps) ≡ length ps = length-map ps (λ p. p.0) in
+    let front : take (length es) new.heads ≡ old.heads = ap (λ (n : ℕ). take n new.heads) count
+    ∙ ap (λ (hs : List (List ℕ × Head)). take (length old.heads) hs) heads.1 ∙ take_front old.heads heads.0 in
     let first : IsLonger (terms_under bodies old) (first_heads (length es) (terms_under bodies new)) = record {
       theories = theories;
-      heads = nothing_more _ _ (ap (λ (n : ℕ). take n new.heads) count
-          ∙ ap (λ (hs : List (List ℕ × Head)). take (length old.heads) hs) heads.1
-          ∙ take_front old.heads heads.0);
+      elements = elements;
+      heads = nothing_more _ _ front;
+      apart = apart_same old.elements old.heads (take (length es) new.heads) front;
       names = nothing_more _ _ refl;
       bodies = nothing_more _ _ refl;
       rows = rows;
@@ -404,9 +452,9 @@ body-next bodies old new es ps t j theories heads rows are node =
 -- a definition has come
 pub stands_defined : (bodies : Bodies) (old new : Contents) (s : Signature) (x : List ℕ)
     (ps : List (List ℕ × Sort)) (d : Definition) (t : Sexp) (j : ℕ) → look_up old.ranks x ≡ None
-    → is_plain_operator s.theories x ≡ false → d.name.items ≡ x → parameters_of d ≡ ps
-    → IsBodyUnder bodies old ps j t
-    → new.theories ≡ old.theories → new.abbreviations ≡ old.abbreviations
+    → is_plain_operator s.theories x ≡ false → element_among old.elements x ≡ None → d.name.items ≡ x
+    → parameters_of d ≡ ps → IsBodyUnder bodies old ps j t
+    → new.theories ≡ old.theories → new.elements ≡ old.elements → new.abbreviations ≡ old.abbreviations
     → new.ranks ≡ old.ranks ++ (x, record { parameters = map (λ p. p.1) ps; sort = d.result }) ∷ []
     → new.heads ≡ old.heads ++ (
       x,
@@ -419,8 +467,8 @@ pub stands_defined : (bodies : Bodies) (old new : Contents) (s : Signature) (x :
     → new.bodies ≡ old.bodies ++ j ∷ [] → Goes old.rows new.rows
     → HoldsUnder bodies old s
     → HoldsUnder bodies new (with_entry s (definition x ps d.result t))
-stands_defined bodies old new s x ps d t j absent free named bound node theories abbreviations ranks heads
-    declared definitions joined rows stands =
+stands_defined bodies old new s x ps d t j absent free apart named bound node theories elements abbreviations ranks
+    heads declared definitions joined rows stands =
     let e : Entry = definition x ps d.result t in
     let counted : length old.definitions ≡ length (defined_among s.entries) =
     length-definitions old.definitions (defined_among s.entries) stands.definitions in
@@ -439,6 +487,7 @@ stands_defined bodies old new s x ps d t j absent free named bound node theories
     } in
     record {
       theories = theories ∙ stands.theories;
+      elements = elements ∙ stands.elements;
       distinct =
           distinct-push s.entries e stands.distinct (absent_entry s.entries x old.ranks stands.ranks absent);
       abbreviations = abbreviations ∙ stands.abbreviations;
@@ -451,8 +500,9 @@ stands_defined bodies old new s x ps d t j absent free named bound node theories
           (definitions-push old.definitions (defined_among s.entries) d e stands.definitions is));
       heads = heads ∙ heads-next s.entries e old.heads _ (length old.definitions) stands.heads refl counted;
       free = free-push s.theories s.entries e stands.free free;
-      seen = seen-next bodies (j ∷ []) old new s.entries e theories (_, heads) rows joined stands.seen
-          (body-next bodies old new s.entries ps t j theories (_, heads) rows stands.heads node, refl);
+      seen = seen-next bodies (j ∷ []) old new s.entries e theories elements (_, heads)
+          (apart_one old.elements old.heads new.heads x _ heads apart) rows joined stands.seen
+          (body-next bodies old new s.entries ps t j theories elements (_, heads) rows stands.heads node, refl);
     }
 
 -- what stands at this place is the declaration of the entry

@@ -7,7 +7,7 @@ use Rattle.smt_nodes.specs.Node.{Row}
 use Rattle.smt_nodes.specs.Nodes.{rows_of}
 use Rattle.smt_theory.specs.Operators.{is_plain_operator}
 use Rattle.smt_theory.specs.Words.{look_up}
-use Rattle.smt_terms.specs.Denotes.{IsLonger, Table}
+use Rattle.smt_terms.specs.Denotes.{AreApart, IsLonger, Table}
 use Rattle.smt_terms.specs.Internal.Calls.{SeesTheSame}
 use Rattle.smt_terms.specs.Internal.DraftView.{Variables, inside, seen_by}
 use Rattle.smt_terms.specs.Internal.LabelsView.{given_names}
@@ -20,6 +20,7 @@ use Rattle.smt_terms.specs.declared.library.Found.{Found}
 use Rattle.smt_terms.specs.declared.library.Found.TheVariants as place
 use Rattle.smt_terms.specs.declared.library.Library.{Library}
 use Rattle.smt_terms.specs.declared.library.draft.Draft.{Draft}
+use Rattle.smt_terms.proofs.ApartLemmas.{apart_on, apart_same}
 use Rattle.smt_terms.proofs.DenotesLemmas.{body_kept, denotes_kept}
 
 -- ## Longer tables
@@ -27,7 +28,9 @@ use Rattle.smt_terms.proofs.DenotesLemmas.{body_kept, denotes_kept}
 pub longer_itself : (t : Table) → IsLonger t t
 longer_itself t = record {
   theories = refl;
+  elements = refl;
   heads = ([], sym (append-nil t.heads));
+  apart = apart_same t.elements t.heads t.heads refl;
   names = ([], sym (append-nil t.names));
   bodies = ([], sym (append-nil t.bodies));
   rows = ([], sym (append-nil t.rows));
@@ -41,6 +44,9 @@ behind_behind xs ys zs more rest first second =
 pub longer_on : (t u v : Table) → IsLonger t u → IsLonger u v → IsLonger t v
 longer_on t u v first second = record {
   theories = second.theories ∙ first.theories;
+  elements = second.elements ∙ first.elements;
+  apart = apart_on t.elements t.heads u.heads v.heads first.apart
+      (subst (λ es. AreApart es u.heads v.heads) first.elements second.apart);
   heads = (
     first.heads.0 ++ second.heads.0,
     behind_behind t.heads u.heads v.heads first.heads.0 second.heads.0 first.heads.1 second.heads.1,
@@ -88,7 +94,9 @@ grows_on a b c first second library =
 pub grows_same : (old new : Draft) → new.labels ≡ old.labels → new.nodes ≡ old.nodes → GrowsTo old new
 grows_same old new labels nodes library = record {
   theories = refl;
+  elements = refl;
   heads = ([], sym (append-nil (table_in library old).heads));
+  apart = apart_same (table_in library old).elements (table_in library old).heads (table_in library old).heads refl;
   names = (
     [],
     ap (λ (ls : Labels). names_of_definitions library.definitions.items ++ given_names ls) labels
@@ -116,7 +124,9 @@ pub grows_given : (old new : Draft) (more : List Label) → new.nodes ≡ old.no
     → new.labels.given.items ≡ old.labels.given.items ++ more → GrowsTo old new
 grows_given old new more nodes given library = record {
   theories = refl;
+  elements = refl;
   heads = ([], sym (append-nil (table_in library old).heads));
+  apart = apart_same (table_in library old).elements (table_in library old).heads (table_in library old).heads refl;
   names = map_behind (names_of_definitions library.definitions.items) (λ l. l.name.items) old.labels.given.items
       new.labels.given.items more given;
   bodies = map_behind library.bodies.items (λ l. l.node) old.labels.given.items new.labels.given.items more given;
@@ -141,7 +151,9 @@ pub grows_rows : (old new : Draft) (more : List Row) → new.labels ≡ old.labe
     → rows_of new.nodes ≡ rows_of old.nodes ++ more → GrowsTo old new
 grows_rows old new more labels rows library = record {
   theories = refl;
+  elements = refl;
   heads = ([], sym (append-nil (table_in library old).heads));
+  apart = apart_same (table_in library old).elements (table_in library old).heads (table_in library old).heads refl;
   names = (
     [],
     ap (λ (ls : Labels). names_of_definitions library.definitions.items ++ given_names ls) labels

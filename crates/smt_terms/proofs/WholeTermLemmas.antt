@@ -4,7 +4,7 @@ use Rattle.std.proofs.Common.{drop, Result, Ok, Err, IfOk, OnOk, append-nil, ref
 use Rattle.std.proofs.lemmas.List.{length-append}
 use Rattle.smt_trees.specs.Sexp.{Sexp, Sexps, Atom, Reserved, Items, Nil, Cons, Symbol, Keyword, Numeral}
 use Rattle.smt_trees.specs.Sexp.{Decimal, Hexadecimal, Binary, Text}
-use Rattle.smt_trees.specs.declared.reserved.Word.TheVariants.{Bang, Let, Underscore}
+use Rattle.smt_trees.specs.declared.reserved.Word.TheVariants.{As, Bang, Let, Underscore}
 use Rattle.smt_forms.specs.Bindings.{named_trees}
 use Rattle.smt_forms.specs.Variables.{any_uses_outer, bindings_use_outer, is_among, uses_outer}
 use Rattle.smt_terms.specs.Checking.{sort_in}
@@ -41,6 +41,7 @@ mutual
   none_used xs (Reserved word) = refl
   none_used xs (Items Nil) = refl
   none_used xs (Items (Cons (Reserved Underscore) parts)) = refl
+  none_used xs (Items (Cons (Reserved As) parts)) = refl
   none_used xs (Items (Cons (Reserved Let) (Cons (Items bindings) (Cons body Nil)))) =
       ap (λ (b : Bool). b || uses_outer (map (λ t. t.0) (named_trees bindings) ++ xs) [] body)
       (none_bound xs bindings) ∙ none_used (map (λ t. t.0) (named_trees bindings) ++ xs) body

@@ -167,7 +167,7 @@ form_of (Items (Cons (Reserved DefineFun)
         (record { parameters = parameters; printed = refl; named = is; same = refl })
 form_of _ form h = cc
 
-form_defined : (script : Signature) (earlier : List Entry) (form : ItemForm) (e : Entry)
+pub form_defined : (script : Signature) (earlier : List Entry) (form : ItemForm) (e : Entry)
     → form_in script earlier form ≡ Ok e
     → IsDefinedAs (sort_names_of script) form.name form.parameters form.sort form.body e
 form_defined script earlier form e h =

@@ -6,7 +6,7 @@ use Rattle.std.specs.Option.{option_or}
 use Rattle.smt_trees.specs.Sexp as sexp
 use Rattle.smt_trees.specs.Sexp.{Sexp, Sexps, Atom, Reserved, Items, Nil, Cons, Symbol, Keyword, Numeral}
 use Rattle.smt_trees.specs.Sexp.{Hexadecimal, Binary}
-use Rattle.smt_trees.specs.declared.reserved.Word.TheVariants.{Bang, Let, Underscore}
+use Rattle.smt_trees.specs.declared.reserved.Word.TheVariants.{As, Bang, Let, Underscore}
 use Rattle.smt_theory.specs.Operators.{op_by}
 use Rattle.smt_theory.specs.Ranks.{are_exactly, rank_of}
 use Rattle.smt_theory.specs.Width.{width_of}
@@ -17,6 +17,7 @@ use Rattle.smt_theory.specs.declared.op.OpFault.TheVariants as ops
 use Rattle.smt_theory.specs.declared.sort.Sort.{Sort}
 use Rattle.smt_forms.specs.Bindings.{are_attributes, are_bindings}
 use Rattle.smt_forms.specs.Identifier.{Identifier, Plain, Indexed, applied, indexed}
+use Rattle.smt_terms.specs.Elements.{element_among, qualified_sort}
 use Rattle.smt_terms.specs.Labels.{Labels, Refused, Given, Unread}
 use Rattle.smt_forms.specs.Variables.{uses_variable}
 use Rattle.smt_forms.specs.Labels.{labels_among, labels_in, labels_in_bindings}
@@ -51,9 +52,20 @@ abbrev pub sort_applied : Names → Identifier → List Sort → Result Sort Ter
 sort_applied names (Plain f) args = sort_of_plain names f (look_up names.ranks f) args
 sort_applied names (Indexed f indexes) args = sort_of_operator (op_by names.theories f indexes) args
 
--- the sort of a symbol alone: that of a variable, or of a name without arguments
+-- that of a symbol alone that is no name in force: an operator's, or else the element's that it may be
+abbrev pub sort_unless_element : Option Sort → Result Op OpFault → Result Sort TermFlaw
+sort_unless_element None op = sort_of_operator op []
+sort_unless_element (Some sort) (Err ops.Unknown) = Ok sort
+sort_unless_element (Some sort) op = sort_of_operator op []
+
+-- that of a symbol alone that is no variable
+abbrev pub sort_alone : Names → List ℕ → Option Rank → Result Sort TermFlaw
+sort_alone names x (Some rank) = sort_of_name rank []
+sort_alone names x None = sort_unless_element (element_among names.elements x) (op_by names.theories x [])
+
+-- the sort of a symbol alone: that of a variable, or else of a name without arguments
 abbrev pub sort_of_symbol : Names → List ℕ → Option Sort → Result Sort TermFlaw
-sort_of_symbol names x None = sort_applied names (Plain x) []
+sort_of_symbol names x None = sort_alone names x (look_up names.ranks x)
 sort_of_symbol names x (Some sort) = Ok sort
 
 -- the sort of an identifier applied to arguments: a variable takes none
@@ -101,6 +113,7 @@ abbrev mutual
   sort_in names scope (Items Nil) = Err Form
   sort_in names scope (Items (Cons (Reserved Underscore) parts)) =
       result_and_then (indexed parts) (λ f. sort_applied names f [])
+  sort_in names scope (Items (Cons (Reserved As) parts)) = qualified_sort names.elements parts
   sort_in names scope (Items (Cons (Reserved Let) (Cons (Items bindings) (Cons body Nil)))) =
       if are_bindings bindings
       then result_and_then (bound_in names scope [] bindings)

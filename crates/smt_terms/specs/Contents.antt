@@ -1,14 +1,15 @@
 -- What a library holds, as plain lists, and its beginnings.
-use Rattle.std.specs.Prelude.{◌≡◌, ◌≤◌, ℕ, List, ◌++◌, length, map, max, take}
+use Rattle.std.specs.Prelude.{◌≡◌, ◌≤◌, ℕ, List, ◌++◌, length, map, max, Option, take}
 use Rattle.smt_theory.specs.declared.sort.Sort.{Sort}
 use Rattle.smt_theory.specs.declared.theories.Theories.{Theories}
 use Rattle.smt_nodes.specs.Node.{Row}
 use Rattle.smt_nodes.specs.Nodes.{rows_of}
-use Rattle.smt_terms.specs.Denotes.{Head, Table}
+use Rattle.smt_terms.specs.Denotes.{AreApart, Head, Table}
 use Rattle.smt_terms.specs.Ends.{end_of}
-use Rattle.smt_terms.specs.Internal.LibraryView.{abbreviations_of, ranks_of_library}
+use Rattle.smt_terms.specs.Internal.LibraryView.{abbreviations_of, elements_of_library, ranks_of_library}
 use Rattle.smt_terms.specs.Internal.TableView.{heads_of_library, names_of_definitions}
 use Rattle.smt_terms.specs.Signature.{Rank}
+use Rattle.smt_terms.specs.SortTrees.{SortNames}
 use Rattle.smt_terms.specs.declared.library.Declared.{Declared}
 use Rattle.smt_terms.specs.declared.library.Definition.{Definition}
 use Rattle.smt_terms.specs.declared.library.Library.{Library}
@@ -25,11 +26,12 @@ abbrev pub declaration_view : Declared → Declaration
 declaration_view d =
     record { name = d.name; parameters = d.params.items; sort = d.result; command = d.command }
 
--- the theories; the abbreviations, and the names with their ranks and with where they stand; the
--- declarations, the definitions and the nodes of their bodies; the nodes of terms; each in the order in which
--- they came
+-- the theories, and the sorts whose elements terms may name; the abbreviations, and the names with their ranks and
+-- with where they stand; the declarations, the definitions and the nodes of their bodies; the nodes of terms; each
+-- in the order in which they came
 pub record Contents : Type 0 where
   pub theories : Theories
+  pub elements : Option SortNames
   pub abbreviations : List (List ℕ × Sort)
   pub ranks : List (List ℕ × Rank)
   pub heads : List (List ℕ × Head)
@@ -41,6 +43,7 @@ pub record Contents : Type 0 where
 abbrev pub contents_of : Library → Contents
 contents_of library = record {
   theories = library.sorts.theories;
+  elements = elements_of_library library;
   abbreviations = abbreviations_of library.sorts;
   ranks = ranks_of_library library;
   heads = heads_of_library library;
@@ -54,6 +57,7 @@ contents_of library = record {
 abbrev pub terms_in : Contents → Table
 terms_in c = record {
   theories = c.theories;
+  elements = c.elements;
   heads = c.heads;
   names = names_of_definitions c.definitions;
   bodies = c.bodies;
@@ -66,6 +70,7 @@ terms_in c = record {
 abbrev pub first_of : Mark → Contents → Contents
 first_of mark c = record {
   theories = c.theories;
+  elements = c.elements;
   abbreviations = take mark.abbreviations c.abbreviations;
   ranks = take mark.names c.ranks;
   heads = take mark.names c.heads;
@@ -97,12 +102,14 @@ pub record IsBelow (mark later : Mark) : Type 0 where
   pub definitions : mark.definitions ≤ later.definitions
   pub nodes : mark.nodes ≤ later.nodes
 
--- the second contents are the first, and perhaps more of each behind them
+-- the second contents are the first, and perhaps more of each behind them; no name that is new is an element's
 pub record Extends (c d : Contents) : Type 0 where
   pub theories : d.theories ≡ c.theories
+  pub elements : d.elements ≡ c.elements
   pub abbreviations : (more : List (List ℕ × Sort)) × (d.abbreviations ≡ c.abbreviations ++ more)
   pub ranks : (more : List (List ℕ × Rank)) × (d.ranks ≡ c.ranks ++ more)
   pub heads : (more : List (List ℕ × Head)) × (d.heads ≡ c.heads ++ more)
+  pub apart : AreApart c.elements c.heads d.heads
   pub declared : (more : List Declaration) × (d.declared ≡ c.declared ++ more)
   pub definitions : (more : List Definition) × (d.definitions ≡ c.definitions ++ more)
   pub bodies : (more : List ℕ) × (d.bodies ≡ c.bodies ++ more)

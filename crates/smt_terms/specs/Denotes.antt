@@ -1,21 +1,25 @@
 -- SMT-LIB 2.6, section 3.6: when a node of a table stands for a term. Nothing here knows a sort or a value.
 use Rattle.std.specs.Prelude.{◌≡◌, ℕ, ◌+◌, ◌<◌, List, [], ◌∷◌, ◌++◌, ◌==◌, length, map, slice_get, false}
-use Rattle.std.specs.Prelude.{Option, Some, None, Result, Ok, Err, if◌then◌else◌}
+use Rattle.std.specs.Prelude.{Option, Some, None, option_map, Result, Ok, Err, if◌then◌else◌}
 use Rattle.smt_trees.specs.Sexp.{Sexp, Sexps, Atom, Reserved, Items, Nil, Cons, Numeral, Hexadecimal, Binary}
 use Rattle.smt_trees.specs.Sexp.{Symbol}
-use Rattle.smt_trees.specs.declared.reserved.Word.TheVariants.{Bang, Let, Underscore}
+use Rattle.smt_trees.specs.declared.reserved.Word.TheVariants.{As, Bang, Let, Underscore}
 use Rattle.smt_theory.specs.Operators.{op_by}
 use Rattle.smt_theory.specs.Words.{look_up}
 use Rattle.smt_theory.specs.declared.op.Op.{Op}
 use Rattle.smt_theory.specs.declared.op.OpFault.{OpFault}
+use Rattle.smt_theory.specs.declared.sort.Sort.{Sort}
 use Rattle.smt_theory.specs.declared.sort.Sort.TheVariants.{Bool as Boolean}
 use Rattle.smt_theory.specs.declared.theories.Theories.{Theories}
 use Rattle.smt_forms.specs.Bindings.{named_trees}
+use Rattle.smt_forms.specs.ElementNames.{qualified_symbol}
 use Rattle.smt_forms.specs.Identifier.{Identifier, Plain, Indexed, applied, indexed}
 use Rattle.smt_forms.specs.Labels.{labels_among}
 use Rattle.smt_forms.specs.Variables.{uses_variable}
 use Rattle.smt_nodes.specs.Node as node
 use Rattle.smt_nodes.specs.Node.{Node, Row}
+use Rattle.smt_terms.specs.Elements.{element_among}
+use Rattle.smt_terms.specs.SortTrees.{SortNames}
 use Rattle.smt_terms.specs.declared.library.Found.{Found}
 use Rattle.smt_terms.specs.declared.library.Found.TheVariants as place
 
@@ -24,10 +28,11 @@ pub record Head : Type 0 where
   pub place : Found
   pub arity : ℕ
 
--- A table of terms: its theories, the names in force, the name of each definition and the node that is its body,
--- by its place, and the nodes, by their numbers.
+-- A table of terms: its theories, the sorts whose elements terms may name, the names in force, the name of each
+-- definition and the node that is its body, by its place, and the nodes, by their numbers.
 pub record Table : Type 0 where
   pub theories : Theories
+  pub elements : Option SortNames
   pub heads : List (List ℕ × Head)
   pub names : List (List ℕ)
   pub bodies : List ℕ
@@ -54,10 +59,21 @@ abbrev pub node_of : Table → Identifier → List ℕ → Option Node
 node_of t (Plain f) args = applied_node (op_by t.theories f []) (look_up t.heads f) args
 node_of t (Indexed f indexes) args = applied_node (op_by t.theories f indexes) None args
 
+-- that of the element that a symbol is, if it is one
+abbrev pub element_node : List ℕ → Option Sort → Option Node
+element_node x None = None
+element_node x (Some sort) = Some (node.Element x)
+
+-- that of a symbol alone that is no variable: of an operator, of a name in force, or else of an element
+abbrev pub node_alone : Table → List ℕ → Result Op OpFault → Option Head → Option Node
+node_alone t x (Ok op) head = Some (node.Apply op [])
+node_alone t x (Err fault) (Some head) = named_node (Some head) []
+node_alone t x (Err fault) None = element_node x (element_among t.elements x)
+
 -- that of a symbol alone: of a variable with this place, or else of a name without arguments
 abbrev pub symbol_node : Table → List ℕ → Option ℕ → Option Node
 symbol_node t x (Some slot) = Some (node.Slot slot)
-symbol_node t x None = node_of t (Plain x) []
+symbol_node t x None = node_alone t x (op_by t.theories x []) (look_up t.heads x)
 
 -- a row is this node, with so many annotations directly round it
 abbrev pub IsRow : Option Row → ℕ → Option Node → Type 0
@@ -120,6 +136,8 @@ abbrev mutual
   Denotes t slots next around i (Atom Binary digits) = IsNode t around i (Some (node.Binary digits))
   Denotes t slots next around i (Items (Cons (Reserved Underscore) parts)) =
       (f : Identifier) × (indexed parts ≡ Ok f) × IsNode t around i (node_of t f [])
+  Denotes t slots next around i (Items (Cons (Reserved As) parts)) =
+      IsNode t around i (option_map node.Element (qualified_symbol parts))
   Denotes t slots next around i (Items (Cons (Reserved Let) (Cons (Items bindings) (Cons body Nil)))) =
       (js : List ℕ) × (j : ℕ) × IsNode t around i (Some (node.Let js j))
       × AreBound t slots next i js bindings × (j < i)
@@ -148,10 +166,18 @@ abbrev mutual
 
 -- ---- longer tables
 
--- the second table is the first, and perhaps more names, bodies and nodes behind
+-- no name that has a head among the second alone is an element's
+abbrev pub AreApart : Option SortNames → (heads more : List (List ℕ × Head)) → Type 0
+AreApart elements heads more = (x : List ℕ) (head : Head) → look_up heads x ≡ None
+    → look_up more x ≡ Some head → element_among elements x ≡ None
+
+-- the second table is the first, and perhaps more names, bodies and nodes behind; no name that is new is an
+-- element's
 pub record IsLonger (t u : Table) : Type 0 where
   pub theories : u.theories ≡ t.theories
+  pub elements : u.elements ≡ t.elements
   pub heads : (more : List (List ℕ × Head)) × (u.heads ≡ t.heads ++ more)
+  pub apart : AreApart t.elements t.heads u.heads
   pub names : (more : List (List ℕ)) × (u.names ≡ t.names ++ more)
   pub bodies : (more : List ℕ) × (u.bodies ≡ t.bodies ++ more)
   pub rows : (more : List Row) × (u.rows ≡ t.rows ++ more)

@@ -6,15 +6,22 @@ use Rattle.smt_theory.specs.Operators.{is_plain_operator}
 use Rattle.smt_theory.specs.Words.{look_up}
 use Rattle.smt_theory.specs.declared.sort.Sort.{Sort}
 use Rattle.smt_forms.specs.Variables.{is_among}
+use Rattle.smt_terms.specs.Elements.{element_among}
 use Rattle.smt_terms.specs.Signature.{Entry, Names, Signature, declared_named, entry_named, names_of}
+use Rattle.smt_terms.specs.Signature.{sort_names_of}
 use Rattle.smt_terms.specs.SortTrees.{SortNames}
 use Rattle.smt_faults.specs.declared.term_flaw.TermFlaw.{TermFlaw}
 use Rattle.smt_faults.specs.declared.term_flaw.TermFlaw.TheVariants.{BoundTwice, NotFresh}
 
--- whether a name may not be declared or defined: it stands for something, or is a plain operator of the
--- theories
+-- whether a name is that of an element that terms may name
+abbrev pub is_element : Names → List ℕ → Bool
+is_element names x = is_some (element_among names.elements x)
+
+-- whether a name may not be declared or defined: it is an element's, stands for something, or is a plain operator of
+-- the theories
 abbrev pub is_taken : Names → List ℕ → Bool
-is_taken names x = is_some (look_up names.ranks x) || is_plain_operator names.theories x
+is_taken names x =
+    is_element names x || is_some (look_up names.ranks x) || is_plain_operator names.theories x
 
 -- whether a name may not label a term: it is taken, or a label that was given before in the same assertion
 abbrev pub is_label_taken : Names → List (List ℕ) → List ℕ → Bool
@@ -32,6 +39,14 @@ is_bound earlier x = is_some (look_up earlier x)
 -- whether an earlier item of the same model has the name
 abbrev pub is_defined_before : List Entry → List ℕ → Bool
 is_defined_before earlier x = is_some (entry_named earlier x)
+
+-- the sorts whose elements the items of a model may name: in the wide profile those of the script
+abbrev pub item_elements : Signature → Option SortNames
+item_elements script = if script.theories.wide then Some (sort_names_of script) else None
+
+-- whether items may name an element so
+abbrev pub is_element_in : Signature → List ℕ → Bool
+is_element_in script x = is_some (element_among (item_elements script) x)
 
 -- whether no item of a model may have the name: it is taken in the script, and not declared there
 abbrev pub is_taken_undeclared : Signature → List ℕ → Bool
@@ -59,7 +74,7 @@ where_fresh (NewAbbreviation sorts) x refuse next = if is_sort_taken sorts x the
 where_fresh (NewVariable earlier) x refuse next = if is_bound earlier x then refuse BoundTwice else next
 where_fresh (NewItem script earlier) x refuse next =
     if is_defined_before earlier x then refuse BoundTwice
-    else if is_taken_undeclared script x then refuse NotFresh else next
+    else if is_element_in script x || is_taken_undeclared script x then refuse NotFresh else next
 
 -- what is wrong with the name of an item
 abbrev pub name_flaw : Signature → List Entry → List ℕ → Option TermFlaw

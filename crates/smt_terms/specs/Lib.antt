@@ -1,5 +1,6 @@
 pub mod SortTrees
 pub mod Labels
+pub mod Elements
 pub mod Signature
 pub mod Freshness
 pub mod Declarations

@@ -7,7 +7,7 @@ use Rattle.smt_nodes.specs.Nodes.{rows_of}
 use Rattle.smt_trees.specs.Sexp.{Sexp}
 use Rattle.smt_terms.specs.Contents.{Contents, Declaration, contents_of, terms_in}
 use Rattle.smt_terms.specs.Denotes.{Denotes, Table}
-use Rattle.smt_terms.specs.Internal.LibraryView.{ranks_of_library}
+use Rattle.smt_terms.specs.Internal.LibraryView.{elements_lent, elements_of_library, ranks_of_library}
 use Rattle.smt_terms.specs.Signature as signature
 pub use Rattle.smt_terms.specs.Signature.{declared_among, defined_among, is_declared}
 use Rattle.smt_terms.specs.Signature.{AreDistinct, Entry, Origin, Signature, ranks_of}
@@ -81,10 +81,11 @@ IsFound (place.Defined n) entries e = slice_get (defined_among entries) n ≡ So
 abbrev pub name_count : Library → ℕ
 name_count library = length (ranks_of_library library)
 
--- the contents are the theories, the abbreviations, the names, the declarations and the definitions of the
--- signature, in which no name stands twice, and their table is the signature's
+-- the contents are the theories, the elements, the abbreviations, the names, the declarations and the definitions of
+-- the signature, in which no name stands twice, and their table is the signature's
 pub record Holds (c : Contents) (s : Signature) : Type 0 where
   pub theories : c.theories ≡ s.theories
+  pub elements : c.elements ≡ s.elements
   pub distinct : AreDistinct s.entries
   pub abbreviations : c.abbreviations ≡ s.abbreviations
   pub ranks : c.ranks ≡ ranks_of s.entries
@@ -99,6 +100,8 @@ StandsFor library s = Holds (contents_of library) s
 abbrev pub IsUnchanged : (old new : Library) → Type 0
 IsUnchanged old new = (s : Signature) → StandsFor old s → StandsFor new s
 
--- a library of the same theories
-abbrev pub HasTheoriesOf : Library → Library → Type 0
-HasTheoriesOf library script = library.sorts.theories ≡ script.sorts.theories
+-- a library for the items of a model of the script's names: it has the theories of the script, and its terms may name
+-- the elements that items may name
+pub record ReadsModelsOf (library script : Library) : Type 0 where
+  pub theories : library.sorts.theories ≡ script.sorts.theories
+  pub elements : elements_of_library library ≡ elements_lent script

@@ -21,19 +21,23 @@ pub record Entry : Type 0 where
   pub sort : Sort
   pub origin : Origin
 
--- the theories, and the abbreviations and the names in force, in order
+-- the theories, and the abbreviations and the names in force, in order. The definitions of a model have besides
+-- the sorts whose elements a body may name
 pub record Signature : Type 0 where
   pub theories : Theories
   pub abbreviations : List (List ℕ × Sort)
+  pub elements : Option SortNames
   pub entries : List Entry
 
--- what the sort checker needs: the theories, the names with their ranks, and which labels a term may have
+-- what the sort checker needs: the theories, the sorts whose elements a term may name, the names with their
+-- ranks, and which labels a term may have
 pub record Rank : Type 0 where
   pub parameters : List Sort
   pub sort : Sort
 
 pub record Names : Type 0 where
   pub theories : Theories
+  pub elements : Option SortNames
   pub ranks : List (List ℕ × Rank)
   pub labels : Labels
 
@@ -45,7 +49,8 @@ ranks_of entries = map (λ e. (e.name, rank_of_entry e)) entries
 
 -- those of a signature, without labels
 abbrev pub names_of : Signature → Names
-names_of s = record { theories = s.theories; ranks = ranks_of s.entries; labels = Refused }
+names_of s =
+    record { theories = s.theories; elements = s.elements; ranks = ranks_of s.entries; labels = Refused }
 
 -- the same in an assertion, before any label; and where no label is looked at
 abbrev pub in_assertion : Names → Names
@@ -55,8 +60,9 @@ abbrev pub unlabelled : Names → Names
 unlabelled names = record names { labels = Unread }
 
 -- the names without labels that these entries give
-abbrev pub unlabelled_over : Theories → List Entry → Names
-unlabelled_over theories entries = record { theories = theories; ranks = ranks_of entries; labels = Unread }
+abbrev pub unlabelled_over : Theories → Option SortNames → List Entry → Names
+unlabelled_over theories elements entries =
+    record { theories = theories; elements = elements; ranks = ranks_of entries; labels = Unread }
 
 -- the names behind more labels, each with its term
 abbrev pub behind : List (List ℕ × Sexp) → Names → Names
@@ -80,7 +86,7 @@ with_abbreviation s x sort = record s { abbreviations = s.abbreviations ++ (x, s
 
 -- no names
 abbrev pub no_names : Theories → Signature
-no_names theories = record { theories = theories; abbreviations = []; entries = [] }
+no_names theories = record { theories = theories; abbreviations = []; elements = None; entries = [] }
 
 -- the entry of a name
 abbrev pub entry_named : List Entry → List ℕ → Option Entry

@@ -61,10 +61,11 @@ AreBodies t n bodies [] = bodies ≡ []
 AreBodies t n bodies (e ∷ es) =
     IsNextBody t n (length e.parameters) e.origin bodies (λ rest. AreBodies t (n + 1) rest es)
 
--- the table has the theories, the names and the definitions of the signature, in which no name is a plain
--- operator's
+-- the table has the theories, the elements, the names and the definitions of the signature, in which no name is a
+-- plain operator's
 pub record AreTermsOf (t : Table) (s : Signature) : Type 0 where
   pub theories : t.theories ≡ s.theories
+  pub elements : t.elements ≡ s.elements
   pub heads : t.heads ≡ heads_of s.entries
   pub free : All (λ e. is_plain_operator s.theories e.name ≡ false) s.entries
   pub names : t.names ≡ names_of_defined s.entries

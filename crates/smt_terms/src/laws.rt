@@ -3,7 +3,7 @@
 pub mod first_faults;
 
 ghost use Rattle.std.specs.List.{All};
-ghost use Rattle.std.specs.Prelude.{◌≡◌, ◌≢◌, ◌<◌, ◌↔◌, ◌∷◌, ◌++◌, ℕ, List, [], Some, None, true, false, Ok};
+ghost use Rattle.std.specs.Prelude.{◌≡◌, ◌≢◌, ◌<◌, ◌↔◌, ◌⊎◌, ◌∷◌, ◌++◌, ℕ, List, [], Some, None, true, false, Ok};
 ghost use Rattle.std.specs.Prelude.{bytes_eq, length};
 ghost use Rattle.smt_trees.specs.Sexp.{Sexp, Sexps};
 ghost use Rattle.smt_nodes.specs.Node.{Row};
@@ -18,12 +18,12 @@ ghost use Rattle.smt_terms.specs.Denotes.{Denotes, IsLonger, Slots, Table};
 ghost use Rattle.smt_forms.specs.Labels.{labels_in};
 ghost use Rattle.smt_terms.specs.Repeated.{IsRepeated, widened};
 ghost use Rattle.smt_terms.specs.Library.{Holds, IsTerm, IsTermOf, StandsFor, terms_of};
-ghost use Rattle.smt_terms.specs.Items.{item_in};
+ghost use Rattle.smt_terms.specs.Items.{item_in, told_item};
 ghost use Rattle.smt_terms.specs.Declarations.{declared_in};
 ghost use Rattle.smt_terms.specs.Signature.{Entry, KeepsRank, Names, Signature, declared_named, entry_named};
 ghost use Rattle.smt_terms.specs.Signature.{names_of, no_names, sort_names_of};
 ghost use Rattle.smt_terms.specs.TermsOf.{AreTermsOf};
-ghost use Rattle.smt_terms.specs.Freshness.{is_taken};
+ghost use Rattle.smt_terms.specs.Freshness.{is_element_in, is_taken, item_elements};
 ghost use Rattle.smt_terms.specs.WellSorted.{AreIntroduced, IsWellSorted, Keeps};
 ghost use Rattle.smt_terms.specs.Written.{AreLabelsOf, IsDeclaredAs, IsDefinedAs, IsPrintedAs};
 ghost use Rattle.smt_terms.specs.declared.library.Library.{Library};
@@ -35,7 +35,7 @@ use smt_theory::laws::sorts_are_compared;
 /// name, which meant nothing before and is no plain operator's.
 pub fn definitions_are_well_sorted()
     ensures sorted { (s : Signature) (x : List ℕ) (parameters : List (List ℕ × Sexp)) (sort body : Sexp)
-        (e : Entry) → defined_in s x parameters sort body ≡ Ok e → IsWellSorted s.theories s.entries e }
+        (e : Entry) → defined_in s x parameters sort body ≡ Ok e → IsWellSorted s.theories s.elements s.entries e }
     ensures named { (s : Signature) (x : List ℕ) (parameters : List (List ℕ × Sexp)) (sort body : Sexp)
         (e : Entry) → defined_in s x parameters sort body ≡ Ok e → e.name ≡ x }
     ensures free { (s : Signature) (x : List ℕ) (parameters : List (List ℕ × Sexp)) (sort body : Sexp)
@@ -49,7 +49,7 @@ pub fn definitions_are_well_sorted()
 /// is free in the script.
 pub fn items_are_well_sorted()
     ensures sorted { (script : Signature) (earlier : List Entry) (tree : Sexp) (e : Entry)
-        → item_in script earlier tree ≡ Ok (Some e) → IsWellSorted script.theories earlier e }
+        → item_in script earlier tree ≡ Ok (Some e) → IsWellSorted script.theories (item_elements script) earlier e }
     ensures fresh { (script : Signature) (earlier : List Entry) (tree : Sexp) (e : Entry)
         → item_in script earlier tree ≡ Ok (Some e) → entry_named earlier e.name ≡ None }
     ensures ranked { (script : Signature) (earlier : List Entry) (tree : Sexp) (e d : Entry)
@@ -62,19 +62,23 @@ pub fn items_are_well_sorted()
     sorts_are_compared();
 }
 
-/// An item is set aside exactly where, in the wide profile, it repeats a definition or a label of the script: its
-/// name and its rank, with any body. This is a choice of this project.
+/// An item is set aside exactly where, in the wide profile, it repeats a definition or a label of the script, its
+/// name and its rank, with any body; or it tells of elements of declared sorts as `told_item` says. This is a choice
+/// of this project.
 pub fn repeated_items_are_set_aside()
     ensures { (script : Signature) (earlier : List Entry) (tree : Sexp)
-        → (item_in script earlier tree ≡ Ok None) ↔ IsRepeated script tree }
+        → (item_in script earlier tree ≡ Ok None)
+        ↔ (IsRepeated script tree ⊎ (told_item script tree ≡ Some (Ok None))) }
 {
     sorts_are_compared();
 }
 
-/// An item that defines a name without the wide profile defines the same in the wide profile.
+/// An item that defines a name without the wide profile defines the same in the wide profile, unless its name is there
+/// that of an element of a declared sort.
 pub fn items_are_the_same_in_the_wide_profile()
     ensures { (script : Signature) (earlier : List Entry) (tree : Sexp) (e : Entry)
-        → item_in script earlier tree ≡ Ok (Some e) → item_in (widened script) earlier tree ≡ Ok (Some e) }
+        → item_in script earlier tree ≡ Ok (Some e) → is_element_in (widened script) e.name ≡ false
+        → item_in (widened script) earlier tree ≡ Ok (Some e) }
 {}
 
 /// A term keeps its sort over more names, if none of them hides an operator and labels are left out of account.
@@ -87,7 +91,7 @@ pub fn sorts_are_kept()
 /// is no operator's name, and is well sorted over them.
 pub fn labels_are_introduced()
     ensures { (s : Signature) (term : Sexp) (labels : List Entry) → asserted_in (names_of s) term ≡ Ok labels
-        → AreIntroduced s.theories s.entries labels }
+        → AreIntroduced s.theories s.elements s.entries labels }
 {}
 
 /// A declaration brings what its command says (SMT-LIB 2.6, section 4.2.3): the name, with the sorts that the trees
@@ -188,6 +192,7 @@ pub fn needed_nodes_are_enough()
 pub fn no_names_have_no_bodies()
     ensures { (theories : Theories) (rows : List Row) → AreTermsOf (record {
       theories = theories;
+      elements = None;
       heads = [];
       names = [];
       bodies = [];

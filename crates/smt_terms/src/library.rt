@@ -13,12 +13,14 @@ mod binders;
 mod checker;
 mod definitions;
 mod draft;
+mod elements;
 mod freshness;
 mod items;
 mod marks;
 mod params;
 mod repeated;
 mod scope;
+mod told;
 mod transient;
 mod whole_terms;
 
@@ -80,9 +82,11 @@ pub struct Definition {
 /// The names of a signature in order of insertion, abbreviations of sorts, and terms over the names. No name
 /// occurs twice.
 #[derive(Drop)]
-pub struct Library {
+pub struct Library<'s> {
     alloc: Global,
     sorts: SortNames,
+    /// The sorts whose elements terms may name, in a library for a model; none in one for a script.
+    elements: Option<&'s SortNames>,
     names: NameMap<Entry>,
     declared: Vec<Declared>,
     definitions: Vec<Definition>,
@@ -97,7 +101,7 @@ pub struct Library {
     ghost ended: { ends.items ≡ ends_from 0 bodies.items } by { Prim.hlevel props },
 }
 
-impl Library {
+impl Library<'_> {
     ghost use Rattle.smt_names.specs.Entries.{entries_of};
     ghost use Rattle.std.specs.Prelude.{◌≡◌, ◌<◌, ◌∷◌, ◌++◌, [], map, slice_get, option_copied, option_map};
     ghost use Rattle.std.specs.Prelude.{Some, None, Ok, Err, MatchOption, MatchResult, OnOk, OnErr, IfOk};
@@ -110,6 +114,7 @@ impl Library {
     ghost use Rattle.smt_trees.specs.View.{sexp_of, sexps_of};
     ghost use Rattle.smt_theory.specs.Words.{look_up};
     ghost use Rattle.smt_terms.specs.Checking.{sort_in};
+    ghost use Rattle.smt_terms.specs.Elements.{element_among};
     ghost use Rattle.smt_terms.specs.Contents.{Extends, contents_of, declaration_view};
     ghost use Rattle.smt_terms.specs.Internal.LibraryView.{names_of_library, places_of_library, rank_of};
     ghost use Rattle.smt_terms.specs.Internal.LibraryView.{ranks_of_library, sort_names};
@@ -119,6 +124,7 @@ impl Library {
     ghost use Rattle.smt_terms.specs.Library.{defined_among, definitions_of, name_count};
     ghost use Rattle.smt_terms.specs.Signature as signature;
     ghost use Rattle.smt_terms.specs.Declarations.{abbreviated_in, declaration, declared_in, rank_named};
+    ghost use Rattle.smt_terms.specs.Declarations.{sort_declared_in};
     ghost use Rattle.smt_terms.specs.Signature.{Signature, entry_named, names_of, no_names, sort_names_of};
     ghost use Rattle.smt_terms.specs.Signature.{with_abbreviation, with_entry};
     ghost use Rattle.smt_theory.specs.declared.sort.Sort.{Sort};
@@ -133,6 +139,7 @@ impl Library {
         Library {
             alloc,
             sorts: SortNames::new(alloc, theories),
+            elements: None,
             names: NameMap::new(alloc),
             declared: Vec::new(alloc),
             definitions: Vec::new(alloc),
@@ -240,6 +247,25 @@ impl Library {
         ensures transient { transient_of self.new ≡ transient_of self.old }
     {
         self.sorts.abbreviate(self.alloc, name, sort)
+    }
+
+    /// Declares a sort by the command of this number, from 1 (SMT-LIB 2.6, section 4.2.3, `declare-sort` without
+    /// parameters). No other command declares the same sort, even by the same name.
+    ///
+    /// It refuses a name that abbreviates a sort or is that of one, `Bool` and `Int` (`NotFresh`). Then, and where
+    /// memory is refused (`Memory`), nothing changes.
+    pub fn declare_sort(&mut self, command: u32, name: &[u8]) -> Result<(), TermFault>
+        ensures declared { OnOk result ((s : Signature) → StandsFor self.old s → (found : Sort)
+            × (sort_declared_in (sort_names_of s) command name.now ≡ Ok found)
+            × StandsFor self.new (with_abbreviation s name.now found)) }
+        ensures refused { IfErr result (λ fault. (s : Signature) → StandsFor self.old s
+            → Tells (sort_declared_in (sort_names_of s) command name.now) fault) }
+        ensures unchanged { OnErr result (IsUnchanged self.old self.new) }
+        ensures restored { OnErr result (contents_of self.new ≡ contents_of self.old) }
+        ensures grown { Extends (contents_of self.old) (contents_of self.new) }
+        ensures transient { transient_of self.new ≡ transient_of self.old }
+    {
+        self.sorts.declare(command, name)
     }
 
     /// Checks a term without labels over the names (SMT-LIB 2.6, sections 3.6 and 5.2). It returns the number of the
@@ -369,6 +395,7 @@ impl Library {
     #[tactic(auto, using(crate::proofs::ContentsLemmas::extends_itself))]
     fn add_declared(&mut self, name: &[u8], declared: Declared) -> Result<(), Memory>
         requires absent { look_up (names_of_library self.old).ranks name.now ≡ None }
+        requires apart { element_among (names_of_library self.old).elements name.now ≡ None }
         requires free { is_plain_operator self.old.sorts.theories name.now ≡ false }
         requires next { declared.name ≡ name_count self.old }
         ensures added { OnOk result ((s : Signature) → StandsFor self.old s
@@ -406,6 +433,7 @@ impl Library {
             ((ranks_of_library self.new ≡ ranks_of_library self.old)
             × (heads_of_library self.new ≡ heads_of_library self.old)) }
         ensures sorts { self.new.sorts ≡ self.old.sorts }
+        ensures elements { self.new.elements ≡ self.old.elements }
         ensures declared { self.new.declared.items ≡ self.old.declared.items }
         ensures definitions { self.new.definitions.items ≡ self.old.definitions.items }
         ensures bodies { self.new.bodies.items ≡ self.old.bodies.items }

@@ -7,13 +7,15 @@ ghost use Rattle.smt_theory.specs.Sort.{is_same_sort};
 ghost use Rattle.smt_theory.specs.Width.{width_of};
 ghost use Rattle.smt_theory.specs.Words.{look_up};
 ghost use Rattle.smt_terms.specs.Freshness.{is_sort_taken};
-ghost use Rattle.smt_terms.specs.Declarations.{abbreviated_in};
+ghost use Rattle.smt_terms.specs.Declarations.{abbreviated_in, sort_declared_in};
+ghost use Rattle.smt_forms.specs.ElementNames.{begins_at};
+ghost use Rattle.smt_terms.specs.Elements as elements;
 ghost use Rattle.smt_terms.specs.SortTrees.{sort_named, sorts_named};
 ghost use Rattle.smt_faults.specs.Outcome.{IsOutcome, Tells};
 ghost use Rattle.smt_terms.specs.SortTrees as sorts;
 
 use smt_faults::{TermFault, TermFlaw};
-use smt_forms::are_indexes;
+use smt_forms::{are_indexes, sort_of_element};
 use smt_names::NameMap;
 use smt_theory::{Sort, Theories, Width, number};
 use smt_trees::{Tree, Trees, Word};
@@ -88,6 +90,55 @@ impl SortNames {
         }
         let sort = self.sort_of(tree)?;
         Ok(self.abbreviations.insert(name, sort)?)
+    }
+
+    /// Makes a name that of the sort that the command of this number declares. It refuses a name that is already
+    /// that of a sort. On any error it changes nothing.
+    pub(crate) fn declare(&mut self, command: u32, name: &[u8]) -> Result<(), TermFault>
+        ensures declared { OnOk result
+            ((sort : Sort) × (sort_declared_in (sort_names self.old) command name.now ≡ Ok sort)
+            × (abbreviations_of self.new ≡ abbreviations_of self.old ++ (name.now, sort) ∷ [])) }
+        ensures refused { IfErr result
+            (λ fault. Tells (sort_declared_in (sort_names self.old) command name.now) fault) }
+        ensures unchanged { OnErr result (abbreviations_of self.new ≡ abbreviations_of self.old) }
+        ensures theories { self.new.theories ≡ self.old.theories }
+    {
+        if self.is_taken(name) {
+            return Err(TermFault::NotFresh);
+        }
+        Ok(self.abbreviations.insert(name, Sort::Free(command))?)
+    }
+
+    /// The declared sort of which a symbol is an element, as solvers print elements.
+    pub(crate) fn element_sort(&self, symbol: &[u8]) -> Option<Sort>
+        ensures { result ≡ elements.element_sort (sort_names self.now) symbol.now }
+    {
+        let Some(name) = sort_of_element(symbol) else {
+            return None;
+        };
+        match self.get(name) {
+            Some(sort) => if_free(sort),
+            None => None,
+        }
+    }
+
+    /// The sort of `(as symbol sort)`, from the parts after the `as`; or what is wrong with it: `Unsupported` for
+    /// other parts and for a symbol that does not begin with `@`, the fault of the sort, or `IllSorted` for a sort
+    /// that no command declares.
+    pub(crate) fn qualified_sort(&self, parts: Trees<'_>) -> Result<Sort, TermFlaw>
+        ensures { result ≡ elements.qualified_in (sort_names self.now) (sexps_of parts.entry) }
+    {
+        let Some((Tree::Symbol(symbol), rest)) = parts.split_first() else {
+            return Err(TermFlaw::Unsupported);
+        };
+        let Some((tree, rest)) = rest.split_first() else {
+            return Err(TermFlaw::Unsupported);
+        };
+        if rest.split_first().is_some() || !begins_at(symbol) {
+            return Err(TermFlaw::Unsupported);
+        }
+        let sort = self.sort_of(tree)?;
+        if_free(sort).ok_or(TermFlaw::IllSorted)
     }
 
     // The sort that an abbreviation stands for.
@@ -208,6 +259,26 @@ fn numeral_width(digits: &[u8]) -> Option<Width>
         Width::new(bits as u64)
     } else {
         None
+    }
+}
+
+// The sort, if a command declared it.
+fn if_free(sort: Sort) -> Option<Sort>
+    ensures { result ≡ elements.if_free sort }
+{
+    match sort {
+        Sort::Free(_) => Some(sort),
+        _ => None,
+    }
+}
+
+// Whether a symbol begins with `@`, as those do that solvers may give to elements.
+fn begins_at(symbol: &[u8]) -> bool
+    ensures { result ≡ begins_at symbol.now }
+{
+    match symbol {
+        [first, ..] => *first == b'@',
+        [] => false,
     }
 }
 

@@ -17,7 +17,7 @@ use Rattle.smt_theory.specs.declared.op.BitsOp.TheVariants.{Constant, Concat, Ex
 use Rattle.smt_theory.specs.declared.op.BitsOp.TheVariants.{Comparison, Comp, Repeat, ZeroExtend, SignExtend}
 use Rattle.smt_theory.specs.declared.op.BitsOp.TheVariants.{RotateLeft, RotateRight}
 use Rattle.smt_theory.specs.declared.sort.Sort.{Sort}
-use Rattle.smt_theory.specs.declared.sort.Sort.TheVariants.{Bool as Boolean, Int, Bits}
+use Rattle.smt_theory.specs.declared.sort.Sort.TheVariants.{Bool as Boolean, Int, Bits, Free}
 
 -- ---- the widths of the arguments
 
@@ -25,6 +25,7 @@ one_width-is : (args : List Sort) (m : ℕ) → (one_width args ≡ Some m) ↔ 
 one_width-is [] m = (λ h. cc, λ h. cc)
 one_width-is (Boolean ∷ args) m = (λ h. cc, λ h. cc)
 one_width-is (Int ∷ args) m = (λ h. cc, λ h. cc)
+one_width-is (Free f ∷ args) m = (λ h. cc, λ h. cc)
 one_width-is (Bits n ∷ []) m = (λ h. cc, λ h. cc)
 one_width-is (Bits n ∷ a ∷ args) m = (λ h. cc, λ h. cc)
 
@@ -32,9 +33,11 @@ two_width-is : (args : List Sort) (m : ℕ) → (two_width args ≡ Some m) ↔ 
 two_width-is [] m = (λ h. cc, λ h. cc)
 two_width-is (Boolean ∷ args) m = (λ h. cc, λ h. cc)
 two_width-is (Int ∷ args) m = (λ h. cc, λ h. cc)
+two_width-is (Free f ∷ args) m = (λ h. cc, λ h. cc)
 two_width-is (Bits n ∷ []) m = (λ h. cc, λ h. cc)
 two_width-is (Bits n ∷ Boolean ∷ args) m = (λ h. cc, λ h. cc)
 two_width-is (Bits n ∷ Int ∷ args) m = (λ h. cc, λ h. cc)
+two_width-is (Bits n ∷ Free f ∷ args) m = (λ h. cc, λ h. cc)
 two_width-is (Bits n ∷ Bits k ∷ a ∷ args) m = (λ h. cc, λ h. cc)
 two_width-is (Bits n ∷ Bits k ∷ []) m = by (n == k) (Decides-eqb n k)
   where
@@ -53,6 +56,7 @@ several_width-is [] m = (λ h. cc, λ h. absurd (none h.0))
     none h = omega arith
 several_width-is (Boolean ∷ args) m = (λ h. cc, λ h. let e = first_of_several (Bits m) Boolean args h in cc)
 several_width-is (Int ∷ args) m = (λ h. cc, λ h. let e = first_of_several (Bits m) Int args h in cc)
+several_width-is (Free f ∷ args) m = (λ h. cc, λ h. let e = first_of_several (Bits m) (Free f) args h in cc)
 several_width-is (Bits n ∷ args) m =
     by (are_several (Bits n) (Bits n ∷ args)) (are_several-Decides (Bits n) (Bits n ∷ args))
   where
@@ -160,6 +164,7 @@ width_behind-own [] before width h = (
 )
 width_behind-own (Boolean ∷ args) before width h = cc
 width_behind-own (Int ∷ args) before width h = cc
+width_behind-own (Free f ∷ args) before width h = cc
 width_behind-own (Bits m ∷ args) before width h = by (nat_le (before + m) 128)
     (nat_le-Decides (before + m) 128).0 (width_behind-own args (before + m) width) h
   where
@@ -195,9 +200,11 @@ concat-own : (args : List Sort) (width : ℕ) → concat_width args ≡ Some wid
 concat-own [] width h = cc
 concat-own (Boolean ∷ args) width h = cc
 concat-own (Int ∷ args) width h = cc
+concat-own (Free f ∷ args) width h = cc
 concat-own (Bits m ∷ []) width h = cc
 concat-own (Bits m ∷ Boolean ∷ args) width h = cc
 concat-own (Bits m ∷ Int ∷ args) width h = cc
+concat-own (Bits m ∷ Free f ∷ args) width h = cc
 concat-own (Bits m ∷ Bits n ∷ args) width h = by (nat_le (m + n) 128) (nat_le-Decides (m + n) 128).0 h
   where
     by : (b : Bool) → (b ≡ true → m + n ≤ 128)

@@ -18,18 +18,25 @@ use Rattle.smt_theory.specs.declared.op.CoreOp.TheVariants.{Distinct, Ite}
 use Rattle.smt_theory.specs.declared.op.IntsOp.{IntsOp}
 use Rattle.smt_theory.specs.declared.op.IntsOp.TheVariants.{Arithmetic, Comparison, Mod, Abs, Divisible}
 use Rattle.smt_theory.specs.declared.sort.Sort.{Sort}
-use Rattle.smt_theory.specs.declared.sort.Sort.TheVariants.{Bool as Boolean, Int, Bits}
+use Rattle.smt_theory.specs.declared.sort.Sort.TheVariants.{Bool as Boolean, Int, Bits, Free}
 
 pub is_same_sort-Decides : (a b : Sort) → Decides (is_same_sort a b) (a ≡ b)
 is_same_sort-Decides Boolean Boolean = (λ _. refl, λ _. refl)
 is_same_sort-Decides Boolean Int = (λ h. cc, λ h. cc)
 is_same_sort-Decides Boolean (Bits n) = (λ h. cc, λ h. cc)
+is_same_sort-Decides Boolean (Free n) = (λ h. cc, λ h. cc)
 is_same_sort-Decides Int Boolean = (λ h. cc, λ h. cc)
 is_same_sort-Decides Int Int = (λ _. refl, λ _. refl)
 is_same_sort-Decides Int (Bits n) = (λ h. cc, λ h. cc)
+is_same_sort-Decides Int (Free n) = (λ h. cc, λ h. cc)
 is_same_sort-Decides (Bits m) Boolean = (λ h. cc, λ h. cc)
 is_same_sort-Decides (Bits m) Int = (λ h. cc, λ h. cc)
 is_same_sort-Decides (Bits m) (Bits n) = (λ h. ap Bits ((Decides-eqb m n).0 h), λ h. (Decides-eqb m n).1 (cc))
+is_same_sort-Decides (Bits m) (Free n) = (λ h. cc, λ h. cc)
+is_same_sort-Decides (Free m) Boolean = (λ h. cc, λ h. cc)
+is_same_sort-Decides (Free m) Int = (λ h. cc, λ h. cc)
+is_same_sort-Decides (Free m) (Bits n) = (λ h. cc, λ h. cc)
+is_same_sort-Decides (Free m) (Free n) = (λ h. ap Free ((Decides-eqb m n).0 h), λ h. (Decides-eqb m n).1 (cc))
 
 pub are_exactly-Decides : (sorts args : List Sort) → Decides (are_exactly sorts args) (args ≡ sorts)
 are_exactly-Decides sorts args =

@@ -9,4 +9,6 @@ pub enum Sort {
     Int,
     /// `(_ BitVec n)`.
     Bits(Width),
+    /// The sort that the command of this number declared (section 4.2.3).
+    Free(u32),
 }

@@ -26,7 +26,7 @@ use Rattle.smt_theory.specs.declared.sort.Sort.{Sort}
 use Rattle.smt_theory.specs.declared.sort.Sort.TheVariants.{Bool as Boolean, Int, Bits as BitsSort}
 use Rattle.smt_values.proofs.BitSortLemmas.{one, sum-cons, two, vector_is}
 use Rattle.smt_values.specs.BitOperations.{folded_vector}
-use Rattle.smt_values.specs.Element.{Element, Truth, Integer, Vector, IsOfSort, AreOfSorts}
+use Rattle.smt_values.specs.Element.{Element, Truth, Integer, Vector, Abstract, IsOfSort, AreOfSorts}
 use Rattle.smt_values.specs.KnownBitOperations.{known_bits, known_folded}
 use Rattle.smt_values.specs.KnownOperations.{as_disjunction, decided, is_known, known_core, known_integers}
 use Rattle.smt_values.specs.KnownOperations.{known_step, known_truth, known_vectors}
@@ -61,12 +61,14 @@ truths [] h = refl
 truths (Truth b ∷ es) h = ap (option_map (λ bs. b ∷ bs)) (truths es h.1)
 truths (Integer z ∷ es) h = absurd h.0
 truths (Vector v ∷ es) h = absurd h.0
+truths (Abstract name ∷ es) h = absurd h.0
 
 integers : (es : List Element) → AreAll Int es → known_integers (map Some es) ≡ Some (map integer_of es)
 integers [] h = refl
 integers (Integer z ∷ es) h = ap (option_map (λ zs. z ∷ zs)) (integers es h.1)
 integers (Truth b ∷ es) h = absurd h.0
 integers (Vector v ∷ es) h = absurd h.0
+integers (Abstract name ∷ es) h = absurd h.0
 
 -- each of a sort of bit vectors
 abbrev AreVectors : List Sort → Type 0
@@ -86,6 +88,7 @@ vectors (s ∷ sorts) (e ∷ es) each h =
         → known_vectors (map Some (e ∷ es)) ≡ Some (map vector_of (e ∷ es))
     by (Truth b) h rest = absurd h
     by (Integer z) h rest = absurd h
+    by (Abstract name) h rest = absurd h
     by (Vector v) h rest = ap (option_map (λ vs. v ∷ vs)) rest
 
 several_vectors : (m : ℕ) (sorts : List Sort) → All (λ s. s ≡ BitsSort m) sorts → AreVectors sorts
@@ -122,6 +125,7 @@ decided_known d es h =
     by false (Truth false ∷ es) h = inl refl
     by d (Integer z ∷ es) h = absurd h.0
     by d (Vector v ∷ es) h = absurd h.0
+    by d (Abstract name ∷ es) h = absurd h.0
 
 -- what `=>` makes of its arguments are truth values too
 disjunction : (es : List Element) → AreAll Boolean es
@@ -133,6 +137,7 @@ disjunction (Truth b ∷ e ∷ es) h =
     in (Truth (not b) ∷ rest.0, (tt, rest.1), ap (λ xs. Some (Truth (not b)) ∷ xs) rest.2)
 disjunction (Integer z ∷ e ∷ es) h = absurd h.0
 disjunction (Vector v ∷ e ∷ es) h = absurd h.0
+disjunction (Abstract name ∷ e ∷ es) h = absurd h.0
 
 some_of : {A B : Type 0} (f : A → B) (o : Option A) (x : A) → o ≡ Some x → IsSome (option_map f o)
 some_of f o x e = ap (λ o. is_some (option_map f o)) e
@@ -146,6 +151,7 @@ negation [] h = absurd h
 negation (Truth b ∷ []) h = refl
 negation (Integer z ∷ []) h = absurd h.0
 negation (Vector v ∷ []) h = absurd h.0
+negation (Abstract name ∷ []) h = absurd h.0
 negation (e ∷ f ∷ es) h = absurd h.1
 
 choice : (sort : Sort) (es : List Element) → AreOfSorts (Boolean ∷ sort ∷ sort ∷ []) es
@@ -157,6 +163,7 @@ choice sort (Truth true ∷ a ∷ b ∷ []) h = refl
 choice sort (Truth false ∷ a ∷ b ∷ []) h = refl
 choice sort (Integer z ∷ a ∷ b ∷ []) h = absurd h.0
 choice sort (Vector v ∷ a ∷ b ∷ []) h = absurd h.0
+choice sort (Abstract name ∷ a ∷ b ∷ []) h = absurd h.0
 choice sort (c ∷ a ∷ b ∷ d ∷ es) h = absurd h.1.1.1
 
 pub core_known : (op : CoreOp) (sorts : List Sort) (sort : Sort) (es : List Element)
@@ -182,6 +189,7 @@ divisible n [] some h = absurd h
 divisible n (Integer z ∷ []) some h = let positive : nat_lt 0 n ≡ true = search rules in rw positive refl
 divisible n (Truth b ∷ []) some h = absurd h.0
 divisible n (Vector v ∷ []) some h = absurd h.0
+divisible n (Abstract name ∷ []) some h = absurd h.0
 divisible n (e ∷ f ∷ es) some h = absurd h.1
 
 pub ints_known : (op : IntsOp) (sorts : List Sort) (sort : Sort) (es : List Element)

@@ -3,19 +3,23 @@
 use Rattle.std.proofs.Common.{◌≡◌, ℕ, ◌<◌, pos, Bool, true, false, not, ◌&&◌, ◌||◌, ◌==◌, cond, List, [], ◌∷◌}
 use Rattle.std.proofs.Common.{Option, Some, None, refl, sym, ap, ◌∙◌, subst, map, length, arith, true≢false}
 use Rattle.std.proofs.Common.{Decides, IsPermutation, IsSorted, Ordering, Less, Equal, Greater, int_cmp, is_eq}
-use Rattle.std.proofs.Common.{unsigned_abs}
+use Rattle.std.proofs.Common.{nat_cmp, unsigned_abs}
 use Rattle.std.proofs.lemmas.Bool.Decides.{Decides-and}
 use Rattle.std.proofs.lemmas.Cmp.{eq_by_cmp_equiv, int_cmp_total, nat_cmp_total, on_total, then_total}
 use Rattle.std.proofs.lemmas.List.Kept.{IsStrictlySortedBy-dedup}
 use Rattle.std.proofs.lemmas.List.Sorted.{IsPermutation-sym}
+use Rattle.std.proofs.lemmas.Map.Text.{is_eq-slice_cmp}
 use Rattle.std.proofs.lemmas.Map.Keys.{IsDistinct-IsPermutation, IsDistinct-from_sorted}
 use Rattle.std.specs.Bool.{one_answer}
 use Rattle.std.specs.Cmp.{IsTotalOrder, both_tied, signed_Decides, unsigned_Decides, unsigned_ties}
 use Rattle.std.specs.List.{AllByRecursion, IsDistinct, dedup, dedup_from, list_any}
 use Rattle.std.specs.List.Sorted.{IsStrictlySortedBy}
+use Rattle.std.specs.Cmp.Lexicographic.{nat_list_cmp_total, slice_cmp}
 use Rattle.std.specs.Ordering.{eq_by_cmp, ordering_then}
+use Rattle.std.specs.Prelude.{bytes_eq}
 use Rattle.smt_values.proofs.KnownLoopLemmas.{list_any-map}
-use Rattle.smt_values.specs.Element.{Element, Truth, Integer, Vector, known_element, known_elements}
+use Rattle.smt_values.specs.Element.{Element, Truth, Integer, Vector, Abstract, known_element}
+use Rattle.smt_values.specs.Element.{known_elements}
 use Rattle.smt_values.specs.Internal.Keys.{compared, key_of}
 use Rattle.smt_values.specs.Internal.Same.{is_same_known}
 use Rattle.smt_values.specs.Lists.{are_chained, are_distinct}
@@ -94,10 +98,20 @@ module _ {A : Type 0} {R : A → A → Ordering} (o : IsTotalOrder R) where
 
 -- ---- of arguments, by their keys
 
-is_eq_then : (r : Ordering) → is_eq r ≡ is_eq (ordering_then (ordering_then Equal r) Equal)
+is_eq_then : (r : Ordering)
+    → is_eq r ≡ is_eq (ordering_then (ordering_then (ordering_then Equal r) Equal) Equal)
 is_eq_then Less = refl
 is_eq_then Equal = refl
 is_eq_then Greater = refl
+
+names_tied : (x y : List ℕ)
+    → bytes_eq x y ≡ is_eq (ordering_then (ordering_then (ordering_then Equal Equal) Equal) (slice_cmp nat_cmp x y))
+names_tied x y = sym (is_eq-slice_cmp x y)
+
+is_eq_equal : (r : Ordering) → is_eq r ≡ is_eq (ordering_then r Equal)
+is_eq_equal Less = refl
+is_eq_equal Equal = refl
+is_eq_equal Greater = refl
 
 widths_tied : (m n : ℕ) → (m == n) ≡ is_eq (int_cmp (pos m) (pos n))
 widths_tied m n =
@@ -112,6 +126,7 @@ same_tied None None = refl
 same_tied None (Some (Truth b)) = refl
 same_tied None (Some (Integer z)) = refl
 same_tied None (Some (Vector v)) = refl
+same_tied None (Some (Abstract name)) = refl
 same_tied (Some (Truth a)) None = refl
 same_tied (Some (Truth true)) (Some (Truth true)) = refl
 same_tied (Some (Truth true)) (Some (Truth false)) = refl
@@ -119,21 +134,30 @@ same_tied (Some (Truth false)) (Some (Truth true)) = refl
 same_tied (Some (Truth false)) (Some (Truth false)) = refl
 same_tied (Some (Truth a)) (Some (Integer z)) = refl
 same_tied (Some (Truth a)) (Some (Vector v)) = refl
+same_tied (Some (Truth a)) (Some (Abstract name)) = refl
 same_tied (Some (Integer a)) None = refl
 same_tied (Some (Integer a)) (Some (Truth b)) = refl
 same_tied (Some (Integer a)) (Some (Integer b)) = is_eq_then (int_cmp a b)
 same_tied (Some (Integer a)) (Some (Vector v)) = refl
+same_tied (Some (Integer a)) (Some (Abstract name)) = refl
 same_tied (Some (Vector s)) None = refl
 same_tied (Some (Vector s)) (Some (Truth b)) = refl
 same_tied (Some (Vector s)) (Some (Integer b)) = refl
+same_tied (Some (Vector s)) (Some (Abstract name)) = refl
 same_tied (Some (Vector s)) (Some (Vector t)) =
     both_tied (s.width == t.width) (s.number == t.number) (int_cmp (pos s.width) (pos t.width)) _
-    (widths_tied s.width t.width) (unsigned_ties s.number t.number)
+    (widths_tied s.width t.width) (unsigned_ties s.number t.number) ∙ is_eq_equal _
+same_tied (Some (Abstract x)) None = refl
+same_tied (Some (Abstract x)) (Some (Truth b)) = refl
+same_tied (Some (Abstract x)) (Some (Integer b)) = refl
+same_tied (Some (Abstract x)) (Some (Vector v)) = refl
+same_tied (Some (Abstract x)) (Some (Abstract y)) = names_tied x y
 
 compared_total : IsTotalOrder compared
 compared_total =
-    on_total key_of (then_total (then_total (on_total (λ k. k.0) nat_cmp_total) (on_total (λ k. k.1) int_cmp_total))
-    (on_total (λ k. k.2) nat_cmp_total))
+    on_total key_of (then_total (then_total (then_total (on_total (λ k. k.0) nat_cmp_total)
+    (on_total (λ k. k.1) int_cmp_total)) (on_total (λ k. k.2) nat_cmp_total))
+    (on_total (λ k. k.3) nat_list_cmp_total))
 
 distinct-map : {A B : Type 0} (same : B → B → Bool) (f : A → B) (xs : List A)
     → are_distinct same (map f xs) ≡ are_distinct (λ x y. same (f x) (f y)) xs

@@ -11,7 +11,7 @@ use Rattle.smt_values.specs.Internal.Same.{is_same_known}
 use Rattle.std.specs.Prelude.{if◌then◌else◌, map, fold, option_map, option_and_then}
 use Rattle.std.specs.List.{list_all, list_any}
 use Rattle.smt_values.specs.declared.value.Value.{Value}
-use Rattle.smt_values.specs.Element.{Element, Truth, Integer, Vector, element_of, known_element}
+use Rattle.smt_values.specs.Element.{Element, Truth, Integer, Vector, Abstract, element_of, known_element}
 use Rattle.smt_values.specs.Element.{known_elements}
 use Rattle.smt_values.specs.KnownOperations.{as_disjunction, decided, is_known, known_abs, known_arithmetic}
 use Rattle.smt_values.specs.KnownOperations.{known_divisible, known_from_left, known_integer, known_integers}
@@ -227,6 +227,7 @@ not_known false (Some (Truth true)) = refl
 not_known false (Some (Truth false)) = refl
 not_known b (Some (Integer z)) = refl
 not_known b (Some (Vector v)) = refl
+not_known b (Some (Abstract name)) = refl
 
 or_false : (b : Bool) → (b || false) ≡ b
 or_false true = refl

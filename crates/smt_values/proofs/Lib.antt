@@ -8,3 +8,4 @@ pub mod BitMeaningLemmas
 pub mod MeaningLemmas
 pub mod SortLemmas
 pub mod ConnectiveLemmas
+pub mod NameLemmas

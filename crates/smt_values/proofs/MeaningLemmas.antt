@@ -19,7 +19,7 @@ use Rattle.smt_theory.specs.declared.op.Op.TheVariants.{Core, Ints, Bits}
 use Rattle.smt_values.specs.BitOperations.{operate_bits}
 use Rattle.smt_values.specs.KnownBitOperations.{known_bits}
 use Rattle.smt_values.proofs.BitMeaningLemmas.{bits_true}
-use Rattle.smt_values.specs.Element.{Element, Truth, Integer, Vector, Agrees, AllAgree}
+use Rattle.smt_values.specs.Element.{Element, Truth, Integer, Vector, Abstract, Agrees, AllAgree}
 use Rattle.smt_values.specs.KnownOperations.{known_truth, known_integers, known_vectors, is_known, decided}
 use Rattle.smt_values.specs.KnownOperations.{as_disjunction, known_negation, known_choice, known_core}
 use Rattle.smt_values.specs.KnownOperations.{is_within, within, known_quotient, known_remainder}
@@ -52,6 +52,7 @@ integers_true (k ∷ ks) [] zs h e = absurd h
 integers_true (None ∷ ks) (x ∷ es) zs h e = cc
 integers_true (Some (Truth b) ∷ ks) (x ∷ es) zs h e = cc
 integers_true (Some (Vector v) ∷ ks) (x ∷ es) zs h e = cc
+integers_true (Some (Abstract name) ∷ ks) (x ∷ es) zs h e = cc
 integers_true (Some (Integer z) ∷ ks) (x ∷ es) zs h e =
     by (known_integers ks) (λ ys. integers_true ks es ys h.1) e
   where
@@ -68,6 +69,7 @@ truths_true (k ∷ ks) [] bs h e = absurd h
 truths_true (None ∷ ks) (x ∷ es) bs h e = cc
 truths_true (Some (Integer z) ∷ ks) (x ∷ es) bs h e = cc
 truths_true (Some (Vector v) ∷ ks) (x ∷ es) bs h e = cc
+truths_true (Some (Abstract name) ∷ ks) (x ∷ es) bs h e = cc
 truths_true (Some (Truth b) ∷ ks) (x ∷ es) bs h e =
     by (all_known (map known_truth ks)) (λ cs. truths_true ks es cs h.1) e
   where
@@ -84,6 +86,7 @@ vectors_true (k ∷ ks) [] vs h e = absurd h
 vectors_true (None ∷ ks) (x ∷ es) vs h e = cc
 vectors_true (Some (Truth b) ∷ ks) (x ∷ es) vs h e = cc
 vectors_true (Some (Integer z) ∷ ks) (x ∷ es) vs h e = cc
+vectors_true (Some (Abstract name) ∷ ks) (x ∷ es) vs h e = cc
 vectors_true (Some (Vector v) ∷ ks) (x ∷ es) vs h e =
     by (known_vectors ks) (λ ws. vectors_true ks es ws h.1) e
   where
@@ -124,6 +127,8 @@ some_false (Some (Integer z) ∷ ks) (e ∷ es) h a =
     ap (λ b. truth_of e && b) (some_false ks es h.1 a) ∙ and_false (truth_of e)
 some_false (Some (Vector v) ∷ ks) (e ∷ es) h a =
     ap (λ b. truth_of e && b) (some_false ks es h.1 a) ∙ and_false (truth_of e)
+some_false (Some (Abstract name) ∷ ks) (e ∷ es) h a =
+    ap (λ b. truth_of e && b) (some_false ks es h.1 a) ∙ and_false (truth_of e)
 some_false (Some (Truth true) ∷ ks) (e ∷ es) h a =
     ap (λ b. truth_of e && b) (some_false ks es h.1 a) ∙ and_false (truth_of e)
 some_false (Some (Truth false) ∷ ks) (e ∷ es) h a = ap (λ x. truth_of x && list_all truth_of es) h.0
@@ -137,6 +142,7 @@ all_true (k ∷ ks) [] h a = absurd h
 all_true (None ∷ ks) (e ∷ es) h a = cc
 all_true (Some (Integer z) ∷ ks) (e ∷ es) h a = cc
 all_true (Some (Vector v) ∷ ks) (e ∷ es) h a = cc
+all_true (Some (Abstract name) ∷ ks) (e ∷ es) h a = cc
 all_true (Some (Truth false) ∷ ks) (e ∷ es) h a = cc
 all_true (Some (Truth true) ∷ ks) (e ∷ es) h a =
     ap (λ x. truth_of x && list_all truth_of es) h.0 ∙ all_true ks es h.1 a
@@ -151,6 +157,8 @@ some_true (Some (Integer z) ∷ ks) (e ∷ es) h a =
     ap (λ b. truth_of e || b) (some_true ks es h.1 a) ∙ or_true (truth_of e)
 some_true (Some (Vector v) ∷ ks) (e ∷ es) h a =
     ap (λ b. truth_of e || b) (some_true ks es h.1 a) ∙ or_true (truth_of e)
+some_true (Some (Abstract name) ∷ ks) (e ∷ es) h a =
+    ap (λ b. truth_of e || b) (some_true ks es h.1 a) ∙ or_true (truth_of e)
 some_true (Some (Truth false) ∷ ks) (e ∷ es) h a =
     ap (λ b. truth_of e || b) (some_true ks es h.1 a) ∙ or_true (truth_of e)
 some_true (Some (Truth true) ∷ ks) (e ∷ es) h a = ap (λ x. truth_of x || list_any truth_of es) h.0
@@ -164,6 +172,7 @@ all_false (k ∷ ks) [] h a = absurd h
 all_false (None ∷ ks) (e ∷ es) h a = cc
 all_false (Some (Integer z) ∷ ks) (e ∷ es) h a = cc
 all_false (Some (Vector v) ∷ ks) (e ∷ es) h a = cc
+all_false (Some (Abstract name) ∷ ks) (e ∷ es) h a = cc
 all_false (Some (Truth true) ∷ ks) (e ∷ es) h a = cc
 all_false (Some (Truth false) ∷ ks) (e ∷ es) h a =
     ap (λ x. truth_of x || list_any truth_of es) h.0 ∙ all_false ks es h.1 a
@@ -204,6 +213,7 @@ not_true None e h = tt
 not_true (Some (Truth b)) e h = ap (λ x. Truth (not (truth_of x))) h
 not_true (Some (Integer z)) e h = tt
 not_true (Some (Vector v)) e h = tt
+not_true (Some (Abstract name)) e h = tt
 
 negated_agree : (ks : List (Option Element)) (es : List Element) → AllAgree ks es
     → AllAgree (as_disjunction ks) (premises_negated es)
@@ -238,6 +248,7 @@ choice_true (c ∷ a ∷ b ∷ []) (x ∷ y ∷ w ∷ v ∷ es) h = absurd h.1.1
 choice_true (None ∷ a ∷ b ∷ []) (x ∷ y ∷ w ∷ []) h = tt
 choice_true (Some (Integer z) ∷ a ∷ b ∷ []) (x ∷ y ∷ w ∷ []) h = tt
 choice_true (Some (Vector v) ∷ a ∷ b ∷ []) (x ∷ y ∷ w ∷ []) h = tt
+choice_true (Some (Abstract name) ∷ a ∷ b ∷ []) (x ∷ y ∷ w ∷ []) h = tt
 choice_true (Some (Truth true) ∷ a ∷ b ∷ []) (x ∷ y ∷ w ∷ []) h =
     subst (λ e. Agrees a (cond (truth_of e) y w)) (sym h.0) h.1.0
 choice_true (Some (Truth false) ∷ a ∷ b ∷ []) (x ∷ y ∷ w ∷ []) h =

@@ -1,19 +1,21 @@
 -- SMT-LIB 2.6, theories Core, Ints and FixedSizeBitVectors: the elements of the sorts' domains, and what is
 -- known of them.
-use Rattle.std.specs.Prelude.{◌≡◌, ℤ, List, [], ◌∷◌, Bool, Option, Some, None, option_map, map}
+use Rattle.std.specs.Prelude.{◌≡◌, ℕ, ℤ, List, [], ◌∷◌, Bool, Option, Some, None, option_map, map}
 use Rattle.smt_bits.specs.BitVector.{BitVector, IsVector}
 use Rattle.smt_theory.specs.declared.sort.Sort.{Sort}
 use Rattle.smt_theory.specs.declared.sort.Sort.TheVariants.{Bool as BoolSort, Int as IntSort}
-use Rattle.smt_theory.specs.declared.sort.Sort.TheVariants.{Bits as BitsSort}
+use Rattle.smt_theory.specs.declared.sort.Sort.TheVariants.{Bits as BitsSort, Free}
 use Rattle.smt_values.specs.declared.value.Value.{Value}
 use Rattle.smt_values.specs.declared.value.Value.TheVariants.{Bool as BoolValue, Int as IntValue}
-use Rattle.smt_values.specs.declared.value.Value.TheVariants.{Bits as BitsValue}
+use Rattle.smt_values.specs.declared.value.Value.TheVariants.{Bits as BitsValue, Abstract as AbstractValue}
 
--- an element: a truth value, an integer of any size, or a bit vector of any width
+-- an element: a truth value, an integer of any size, a bit vector of any width, or an element of a declared
+-- sort, which is a name
 pub data Element : Type 0 where
   Truth : (b : Bool) → Element
   Integer : (z : ℤ) → Element
   Vector : (v : BitVector) → Element
+  Abstract : (name : List ℕ) → Element
 
 -- ---- sorts
 
@@ -21,6 +23,8 @@ abbrev pub IsOfSort : Sort → Element → Type 0
 IsOfSort BoolSort (Truth b) = Unit {0}
 IsOfSort IntSort (Integer z) = Unit {0}
 IsOfSort (BitsSort m) (Vector v) = (v.width ≡ m) × IsVector v
+-- the elements of each declared sort are all names
+IsOfSort (Free n) (Abstract name) = Unit {0}
 IsOfSort _ _ = ⊥
 
 -- each element is of the sort at its place, and there are as many
@@ -36,6 +40,7 @@ abbrev pub element_of : Value → Element
 element_of (BoolValue b) = Truth b
 element_of (IntValue z) = Integer z
 element_of (BitsValue v) = Vector v
+element_of (AbstractValue name) = Abstract name
 
 -- what an optional value says of an element: which it is, or nothing
 abbrev pub known_element : Option Value → Option Element

@@ -2,7 +2,7 @@
 -- Integers and widths have no bounds here. What an operator gives for arguments that it has no rank for is of
 -- no interest.
 use Rattle.std.specs.Prelude.{ℕ, ◌%◌, ℤ, pos, ◌+ℤ◌, ◌-ℤ◌, ◌*ℤ◌, neg_ℤ, unsigned_abs, int_le, int_lt, List, []}
-use Rattle.std.specs.Prelude.{◌∷◌, Bool, true, false, not, ◌&&◌, ◌||◌, ◌==◌, map, fold, if◌then◌else◌}
+use Rattle.std.specs.Prelude.{◌∷◌, Bool, true, false, not, ◌&&◌, ◌||◌, ◌==◌, map, fold, bytes_eq, if◌then◌else◌}
 use Rattle.std.specs.Bool.{beq}
 use Rattle.std.specs.Int.{int_div_euclid, int_rem_euclid}
 use Rattle.std.specs.List.{list_all, list_any}
@@ -21,7 +21,7 @@ use Rattle.smt_theory.specs.declared.op.IntsOp.TheVariants.{Divisible}
 use Rattle.smt_theory.specs.declared.op.Op.{Op}
 use Rattle.smt_theory.specs.declared.op.Op.TheVariants.{Core, Ints, Bits}
 use Rattle.smt_values.specs.BitOperations.{operate_bits}
-use Rattle.smt_values.specs.Element.{Element, Truth, Integer, Vector}
+use Rattle.smt_values.specs.Element.{Element, Truth, Integer, Vector, Abstract}
 use Rattle.smt_values.specs.Lists.{are_chained, are_distinct}
 
 -- the truth value, the integer or the bit vector that an element is; of another element this is of no
@@ -43,6 +43,7 @@ abbrev pub is_same : Element → Element → Bool
 is_same (Truth a) (Truth b) = beq a b
 is_same (Integer a) (Integer b) = int_eq a b
 is_same (Vector s) (Vector t) = s.width == t.width && s.number == t.number
+is_same (Abstract x) (Abstract y) = bytes_eq x y
 is_same _ _ = false
 
 -- ---- theory Core

@@ -1,7 +1,8 @@
 //! Values, and the operators of SMT-LIB 2.6 on them.
 //!
-//! A value is a truth value, an integer that fits 128 bits, or a bit vector of at most 128 bits. An element
-//! without a value is open: the program does not know it. Nothing here allocates, or knows a text or a name.
+//! A value is a truth value, an integer that fits 128 bits, a bit vector of at most 128 bits, or an element of a
+//! declared sort, by a name of at most 31 bytes. An element without a value is open: the program does not know it.
+//! Nothing here allocates, or knows a sort by its name.
 //!
 //! **The contract for the layer above**: `apply` gives what is known of an operator's result, `known_step` of
 //! `specs/KnownOperations.antt`; so does `apply_in_place`, which may move the arguments. By
@@ -21,11 +22,13 @@
 mod integer;
 pub mod laws;
 mod literal_values;
+mod name;
 mod operations;
 mod value;
 
 pub use integer::Integer;
-pub use literal_values::{bin, bin_of, hex, hex_of, numeral, numeral_of};
+pub use literal_values::{bin, bin_of, element, hex, hex_of, numeral, numeral_of};
+pub use name::{LONGEST, Name};
 pub use operations::{apply, apply_in_place};
 pub use smt_bits::Bits;
 pub use smt_theory::Width;

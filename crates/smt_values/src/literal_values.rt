@@ -1,12 +1,13 @@
-//! The values of constants. This file knows no operator.
+//! The values of constants, and the elements that have names. This file knows no operator.
 
 ghost use Rattle.std.specs.Prelude.{◌≡◌, List, ℕ};
 ghost use Rattle.std.specs.Str.Parse.{digits_value};
 ghost use Rattle.smt_theory.specs.Numbers.{below_word};
 ghost use Rattle.smt_values.specs.Element.{known_element};
-ghost use Rattle.smt_values.specs.Literals.{bin_element, hex_element, numeral_element};
+ghost use Rattle.smt_values.specs.Literals.{bin_element, hex_element, name_element, numeral_element};
 
 use crate::integer::Integer;
+use crate::name::Name;
 use crate::value::Value;
 use smt_bits::literals;
 use smt_theory::number;
@@ -62,4 +63,11 @@ pub fn bin_of(number: Option<u128>, digits: &[u8]) -> Option<Value>
     ensures { known_element result ≡ bin_element digits.now }
 {
     literals::bin_of(number, digits).map(Value::Bits)
+}
+
+/// The element of a declared sort that has this name; `None` where the name has more than 31 bytes or a byte 0.
+pub fn element(name: &[u8]) -> Option<Value>
+    ensures { known_element result ≡ name_element name.now }
+{
+    Name::new(name).map(Value::Abstract)
 }

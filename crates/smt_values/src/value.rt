@@ -5,7 +5,12 @@ ghost use Rattle.smt_values.specs.Element.{element_of};
 ghost use Rattle.smt_values.specs.KnownOperations.{known_integer};
 
 use crate::integer::Integer;
+use crate::name::Name;
 use smt_bits::Bits;
+use std::mem::size_of;
+
+// Values wait on stacks, and there may be many.
+const _: () = prove!(size_of::<Value>() == 32);
 
 /// A value of a sort's domain (SMT-LIB 2.6, theories Core, Ints and FixedSizeBitVectors).
 #[derive(Clone, Copy, PartialEq, Eq)]
@@ -14,6 +19,9 @@ pub enum Value {
     /// An integer from -2^127 to 2^127 - 1. An integer outside has no value here.
     Int(Integer),
     Bits(Bits),
+    /// An element of a declared sort, by its name: a name is one element, and another name another. An element
+    /// with a name of more than 31 bytes has no value here.
+    Abstract(Name),
 }
 
 impl Value {
@@ -23,7 +31,7 @@ impl Value {
     {
         match self {
             Value::Int(integer) => Some(integer.get()),
-            Value::Bool(_) | Value::Bits(_) => None,
+            Value::Bool(_) | Value::Bits(_) | Value::Abstract(_) => None,
         }
     }
 }

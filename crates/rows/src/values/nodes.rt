@@ -2,7 +2,7 @@
 
 ghost use Rattle.std.specs.Prelude.{◌<◌, ◌-◌, ◌^◌};
 ghost use Rattle.smt_trees.specs.Sexp.{Sexp};
-ghost use Rattle.smt_eval.specs.Interpretation.{Fits, KnowsCosts};
+ghost use Rattle.smt_eval.specs.Interpretation.{Fits, HoldsScript, KnowsCosts};
 ghost use Rattle.smt_terms.specs.Library.{IsTerm, StandsFor};
 ghost use Rattle.smt_terms.specs.Signature.{Signature};
 
@@ -18,9 +18,9 @@ use smt_values::Value;
 use std::alloc::Global;
 
 /// Declares each name that a model defines. The number of its command is its place in the model, from 1.
-pub(crate) fn declare_items(alloc: Global, script: &mut Library, model: Trees<'_>) -> Result<()>
-    requires { (s : Signature) × StandsFor script.old s }
-    ensures { (s : Signature) × StandsFor script.new s }
+pub(crate) fn declare_items(alloc: Global, script: &mut Library<'_>, model: Trees<'_>) -> Result<()>
+    requires { HoldsScript script.old }
+    ensures { HoldsScript script.new }
 {
     let mut left = model;
     for command in 1..u64::MAX {
@@ -33,8 +33,8 @@ pub(crate) fn declare_items(alloc: Global, script: &mut Library, model: Trees<'_
     Ok(())
 }
 
-fn declare_item(alloc: Global, script: &mut Library, command: u64, item: Tree<'_>) -> Result<()>
-    ensures { (s : Signature) → StandsFor script.old s → (later : Signature) × StandsFor script.new later }
+fn declare_item(alloc: Global, script: &mut Library<'_>, command: u64, item: Tree<'_>) -> Result<()>
+    ensures { HoldsScript script.old → HoldsScript script.new }
 {
     let Ok(form) = item_form(item) else {
         bail!("an item of the model is no definition");
@@ -61,11 +61,11 @@ fn sorts_of(alloc: Global, parameters: Trees<'_>) -> Result<OwnedTree> {
 
 /// The known value of a term, found by its node over a model that is read after the term; or the flaw of the term.
 pub(crate) fn known_by_node(
-    script: &mut Library,
+    script: &mut Library<'_>,
     model: Trees<'_>,
     tree: Tree<'_>,
 ) -> Result<Result<Option<Value>, TermFlaw>>
-    requires { (s : Signature) × StandsFor script.old s }
+    requires { HoldsScript script.old }
     ensures { (s : Signature) → StandsFor script.old s → StandsFor script.new s }
 {
     held_terms_are_terms();
@@ -81,12 +81,12 @@ pub(crate) fn known_by_node(
 
 /// How many of the given steps are left after the evaluation of a term over a model; `None` where it costs more.
 pub(crate) fn left_of(
-    script: &mut Library,
+    script: &mut Library<'_>,
     model: Trees<'_>,
     tree: Tree<'_>,
     steps: u64,
 ) -> Result<Option<u64>>
-    requires stands { (s : Signature) × StandsFor script.old s }
+    requires stands { HoldsScript script.old }
     requires steps { steps < 2 ^ 64 - 1 }
     ensures { (s : Signature) → StandsFor script.old s → StandsFor script.new s }
 {
@@ -103,12 +103,12 @@ pub(crate) fn left_of(
 
 // The known value of a term over a model; `None` for a term that costs more steps than are left.
 fn known_over(
-    script: &Library,
+    script: &Library<'_>,
     model: Trees<'_>,
     term: TermId,
     left: &mut u64,
 ) -> Result<Option<Option<Value>>>
-    requires stands { (s : Signature) × StandsFor script.now s }
+    requires stands { HoldsScript script.now }
     requires term { (t : Sexp) × IsTerm script.now term t }
     requires below { left.old < 2 ^ 64 - 1 }
 {
@@ -122,7 +122,7 @@ fn known_over(
 }
 
 fn known_in(
-    script: &Library,
+    script: &Library<'_>,
     interpretation: &Interpretation,
     term: TermId,
     left: &mut u64,

@@ -151,6 +151,7 @@ fn count_reserved<'a>(
     *left -= 1;
     match word {
         Word::Underscore => Ok(()),
+        Word::As => Ok(()),
         Word::Let => match split_let(args) {
             Some((bindings, body)) => count_let(over, variables, bindings, body, left),
             None => count_all(over, variables, args, left),

@@ -1,11 +1,12 @@
 //! What names mean: operators, and definitions, whose bodies see their parameters and the definitions before
 //! them. This file looks into no term.
 
-ghost use Rattle.std.specs.Prelude.{◌≡◌, ◌≤◌, ◌+◌, MatchOption, IfSome, List, Option};
+ghost use Rattle.std.specs.Prelude.{◌≡◌, ◌≤◌, ◌+◌, MatchOption, IfSome, List, Option, ℕ};
 ghost use Rattle.smt_trees.specs.Sexp.{weight};
 ghost use Rattle.smt_trees.specs.View.{sexp_of};
+ghost use Rattle.smt_theory.specs.Index.{IndexView};
 ghost use Rattle.smt_values.specs.Element.{Element, known_element, known_elements};
-ghost use Rattle.smt_forms.specs.Identifier.{Plain};
+ghost use Rattle.smt_forms.specs.Identifier.{Indexed, Plain};
 ghost use Rattle.smt_forms.specs.IdentifierView.{identifier_view};
 ghost use Rattle.smt_eval.specs.Cost.{body_cost, costs_after, no_costs};
 ghost use Rattle.smt_eval.specs.Internal.PlainEvaluation.{Gives, bodies_weight, meaning_of};
@@ -18,7 +19,7 @@ use crate::plain::scope::bind;
 use smt_faults::Memory;
 use smt_forms::Identifier;
 use smt_theory::{Op, OpFault, Theories, op_of};
-use smt_values::{Value, apply};
+use smt_values::{Value, apply, element};
 use std::alloc::Global;
 
 /// The definitions that a term sees, in order, and the theories.
@@ -40,7 +41,7 @@ pub(crate) fn known_applied(
 {
     match identifier {
         Identifier::Plain(name) => known_named(over, *name, args),
-        Identifier::Indexed { name, indexes } => Ok(known_of_operator(
+        Identifier::Indexed { name, indexes } => Ok(known_of_indexed(
             op_of(over.theories, *name, indexes.as_slice()),
             args,
         )),
@@ -48,7 +49,7 @@ pub(crate) fn known_applied(
 }
 
 /// What is known of a symbol that is no variable, applied to arguments: what its definition gives, or else
-/// what the operator of that name gives.
+/// what the operator of that name gives, or else without arguments the element of that name.
 #[cycle(known_plain)]
 pub(crate) fn known_named(
     over: Definitions<'_>,
@@ -66,7 +67,7 @@ pub(crate) fn known_named(
             };
             known_body(earlier, definition, args)
         }
-        None => Ok(known_of_operator(op_of(over.theories, name, &[]), args)),
+        None => Ok(known_of_plain(op_of(over.theories, name, &[]), name, args)),
     }
 }
 
@@ -110,12 +111,25 @@ pub(crate) fn last_named<'a>(
     None
 }
 
-/// What an operator gives for arguments; `None` where the name is no operator's.
-pub(crate) fn known_of_operator(op: Result<Op, OpFault>, args: &[Option<Value>]) -> Option<Value>
-    ensures { known_element result ≡ known_of_op op (known_elements args.now) }
+/// What an operator gives for arguments; `None` where the identifier, which has indexes, is no operator's.
+pub(crate) fn known_of_indexed(op: Result<Op, OpFault>, args: &[Option<Value>]) -> Option<Value>
+    ensures { (name : List ℕ) (indexes : List IndexView)
+        → known_element result ≡ known_of_op op (Indexed name indexes) (known_elements args.now) }
 {
     match op {
         Ok(op) => apply(op, args),
+        Err(_) => None,
+    }
+}
+
+// What the operator of a symbol gives for arguments; where it is none, the element of that name, which takes no
+// arguments.
+fn known_of_plain(op: Result<Op, OpFault>, name: &[u8], args: &[Option<Value>]) -> Option<Value>
+    ensures { known_element result ≡ known_of_op op (Plain name.now) (known_elements args.now) }
+{
+    match op {
+        Ok(op) => apply(op, args),
+        Err(_) if args.is_empty() => element(name),
         Err(_) => None,
     }
 }

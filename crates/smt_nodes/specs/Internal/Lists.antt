@@ -11,7 +11,7 @@ use Rattle.smt_nodes.specs.declared.rows.Base.{Base}
 use Rattle.smt_nodes.specs.declared.rows.Base.TheVariants.{Decimal, Hexadecimal, Binary}
 use Rattle.smt_nodes.specs.declared.rows.Ends.{Ends}
 use Rattle.smt_nodes.specs.declared.rows.Stored.{Stored}
-use Rattle.smt_nodes.specs.declared.rows.Stored.TheVariants.{Literal, Large, Slot, Plain, Numbered}
+use Rattle.smt_nodes.specs.declared.rows.Stored.TheVariants.{Literal, Large, Element, Slot, Plain, Numbered}
 use Rattle.smt_nodes.specs.declared.rows.Stored.TheVariants.{Declared}
 use Rattle.smt_nodes.specs.declared.rows.Stored.TheVariants.{Defined, Let, Annotated}
 use Rattle.smt_nodes.specs.declared.tables.Tables.{Tables}
@@ -66,6 +66,7 @@ literal_of Binary digits = spec.Binary digits
 abbrev pub node_of : Lists → Ends → Stored → spec.Node
 node_of t ends (Literal base n number) = literal_of base (before n ends.digits t.digits)
 node_of t ends (Large base n place) = literal_of base (before n ends.digits t.digits)
+node_of t ends (Element n) = spec.Element (before n ends.digits t.digits)
 node_of t ends (Slot place) = spec.Slot place
 node_of t ends (Plain op n) = spec.Apply (op_of_plain op) (before n ends.parts t.parts)
 node_of t ends (Numbered place n) =
@@ -88,6 +89,7 @@ parts_in _ = 0
 abbrev pub digits_in : Stored → ℕ
 digits_in (Literal base n number) = n
 digits_in (Large base n place) = n
+digits_in (Element n) = n
 digits_in _ = 0
 
 abbrev pub ops_in : Stored → ℕ

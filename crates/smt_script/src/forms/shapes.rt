@@ -9,6 +9,7 @@ ghost use Rattle.smt_script.specs.CommandView.{levels_in};
 ghost use Rattle.smt_script.specs.Parts as shapes;
 
 use smt_forms::are_named;
+use smt_theory::number;
 use smt_trees::{Tree, Trees};
 
 pub(crate) fn one_symbol(parts: Trees<'_>) -> Option<&[u8]>
@@ -281,6 +282,25 @@ pub(crate) fn name_and_abbreviated(parts: Trees<'_>) -> Option<(&[u8], Tree<'_>)
     };
     let sort = no_list_and_tree(parts)?;
     Some((name, sort))
+}
+
+/// A name, and 0 for no parameters.
+pub(crate) fn name_and_zero(parts: Trees<'_>) -> Option<&[u8]>
+    ensures { option_map (λ name. name.now) result ≡ shapes.name_and_zero (sexps_of parts.entry) }
+{
+    let Some((Tree::Symbol(name), rest)) = parts.split_first() else {
+        return None;
+    };
+    zero_alone(rest).then_some(name)
+}
+
+fn zero_alone(parts: Trees<'_>) -> bool
+    ensures { result ≡ shapes.zero_alone (sexps_of parts.entry) }
+{
+    match one_numeral(parts) {
+        Some(digits) => number(10, digits) == Some(0),
+        None => false,
+    }
 }
 
 /// The truth value that the value of an option is; `None` where it is no truth value.

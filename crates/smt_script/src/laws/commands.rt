@@ -1,14 +1,16 @@
 //! Laws of single commands: what a check assumes, and which commands are checks or change what is in force.
 //! Nothing here does anything.
 
-ghost use Rattle.std.specs.Prelude.{◌≡◌, ◌≢◌, ℕ, List, [], ◌∷◌, Bool, true, false, Ok, Err, Option, All, codes};
+ghost use Rattle.std.specs.Prelude.{◌≡◌, ◌≢◌, ◌==◌, ℕ, List, [], ◌∷◌, Bool, true, false, Ok, Err, Option, All, codes};
+ghost use Rattle.std.specs.Str.Parse.{digits_value};
 ghost use Rattle.smt_faults.specs.declared.command_flaw.CommandFlaw.TheVariants.{Form, Unsupported};
 ghost use Rattle.smt_theory.specs.declared.profile.Profile.{Profile};
 ghost use Rattle.smt_theory.specs.declared.profile.Profile.TheVariants.{Base, Wide};
-ghost use Rattle.smt_trees.specs.Sexp.{Sexp, Sexps, Atom, Cons, Items, Nil, Reserved, Symbol};
+ghost use Rattle.smt_trees.specs.Sexp.{Sexp, Sexps, Atom, Cons, Items, Nil, Numeral, Reserved, Symbol};
 ghost use Rattle.smt_trees.specs.declared.reserved.Word.TheVariants as words;
 ghost use Rattle.smt_script.specs.Command.{Assert, CheckSat, CheckSatAssuming, Command, DeclareConst};
-ghost use Rattle.smt_script.specs.Command.{DeclareFun, DefineFun, DefineSort, Echo, Exit, Get, GetModel, Pop};
+ghost use Rattle.smt_script.specs.Command.{DeclareFun, DeclareSort, DefineFun, DefineSort, Echo, Exit, Get};
+ghost use Rattle.smt_script.specs.Command.{GetModel, Pop};
 ghost use Rattle.smt_script.specs.Command.{Push, Query, Reset, ResetAssertions, SetGlobalDeclarations};
 ghost use Rattle.smt_script.specs.Command.{SetInfo, SetLogic, SetOption, SetPrintSuccess, closes_window};
 ghost use Rattle.smt_script.specs.Command.{command_of, is_check};
@@ -33,20 +35,25 @@ pub fn commands_are_checks_or_changes()
     ensures changes { (x : List ℕ) (ps : Sexps) (named : List (List ℕ × Sexp)) (sort term : Sexp) (n : ℕ)
         → All (λ c. (is_check c ≡ false) × (closes_window c ≡ true))
         (SetLogic x ∷ DeclareConst x sort ∷ DeclareFun x ps sort ∷ DefineFun x named sort term
-        ∷ DefineSort x sort ∷ Assert term ∷ Push n ∷ Pop n ∷ Reset ∷ ResetAssertions ∷ []) }
+        ∷ DeclareSort x ∷ DefineSort x sort ∷ Assert term ∷ Push n ∷ Pop n ∷ Reset ∷ ResetAssertions ∷ []) }
     ensures others { (x : List ℕ) (value : Option Sexp) (on : Bool) (query : Query)
         → All (λ c. (is_check c ≡ false) × (closes_window c ≡ false))
         (SetPrintSuccess on ∷ SetGlobalDeclarations on ∷ SetOption x value ∷ SetInfo x value ∷ Exit
         ∷ GetModel ∷ Echo x ∷ Get query ∷ []) }
 {}
 
-/// These lists are reported as unsupported, and not as ill formed: a command of datatypes, of sorts or of
-/// recursive functions, whatever follows its word, and a `define-sort` with parameters.
+/// These lists are reported as unsupported, and not as ill formed: a command of datatypes or of recursive functions,
+/// whatever follows its word; a `declare-sort`, in the profile Base whatever follows its word, and in Wide with
+/// another number than 0; and a `define-sort` with parameters.
 pub fn unsupported_commands_are_told_by_their_words()
     ensures words { (profile : Profile) (parts : Sexps)
         → All (λ w. command_of profile (Items (Cons (Reserved w) parts)) ≡ Err Unsupported)
-        (words.DeclareDatatype ∷ words.DeclareDatatypes ∷ words.DeclareSort ∷ words.DefineFunRec
-        ∷ words.DefineFunsRec ∷ []) }
+        (words.DeclareDatatype ∷ words.DeclareDatatypes ∷ words.DefineFunRec ∷ words.DefineFunsRec ∷ []) }
+    ensures declared { (parts : Sexps)
+        → command_of Base (Items (Cons (Reserved words.DeclareSort) parts)) ≡ Err Unsupported }
+    ensures parameters { (profile : Profile) (x digits : List ℕ) → digits_value 10 digits == 0 ≡ false
+        → command_of profile (Items (Cons (Reserved words.DeclareSort)
+        (Cons (Atom Symbol x) (Cons (Atom Numeral digits) Nil)))) ≡ Err Unsupported }
     ensures sorts { (profile : Profile) (x : List ℕ) (p sort : Sexp) (ps : Sexps)
         → command_of profile (Items (Cons (Reserved words.DefineSort)
         (Cons (Atom Symbol x) (Cons (Items (Cons p ps)) (Cons sort Nil))))) ≡ Err Unsupported }
@@ -58,9 +65,12 @@ pub fn wide_reads_what_base_reads()
         → command_of Wide tree ≡ Ok command }
 {}
 
-/// Forms that are commands in the profile Wide: `(push)` and `(pop)` without a numeral, for one level; the
-/// definition of a constant; and any terms as assumptions (SMT-LIB 2.7).
+/// Forms that are commands in the profile Wide: the declaration of a sort without parameters; `(push)` and `(pop)`
+/// without a numeral, for one level; the definition of a constant; and any terms as assumptions (SMT-LIB 2.7).
 pub fn wide_has_more_forms()
+    ensures sorts { (x digits : List ℕ) → digits_value 10 digits == 0 ≡ true
+        → command_of Wide (Items (Cons (Reserved words.DeclareSort)
+        (Cons (Atom Symbol x) (Cons (Atom Numeral digits) Nil)))) ≡ Ok (DeclareSort x) }
     ensures levels { (command_of Wide (Items (Cons (Reserved words.Push) Nil)) ≡ Ok (Push 1))
         × (command_of Wide (Items (Cons (Reserved words.Pop) Nil)) ≡ Ok (Pop 1)) }
     ensures constants { (x : List ℕ) (sort body : Sexp)

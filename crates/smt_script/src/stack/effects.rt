@@ -7,7 +7,8 @@ ghost use Rattle.smt_trees.specs.Sexp.{Sexp};
 ghost use Rattle.smt_trees.specs.View.{sexp_of, sexps_of};
 ghost use Rattle.smt_forms.specs.Bindings.{named_trees};
 ghost use Rattle.smt_script.specs.Command as commands;
-ghost use Rattle.smt_script.specs.Command.{SetLogic, DeclareConst, DeclareFun, DefineFun, DefineSort, Assert};
+ghost use Rattle.smt_script.specs.Command.{SetLogic, DeclareConst, DeclareFun, DefineFun, DeclareSort};
+ghost use Rattle.smt_script.specs.Command.{DefineSort, Assert};
 ghost use Rattle.smt_script.specs.Command.{CheckSatAssuming, Push, Pop, SetGlobalDeclarations, SetsGlobal};
 ghost use Rattle.smt_script.specs.Command.{effect_of};
 ghost use Rattle.smt_script.specs.CommandView.{command_view, levels_in};
@@ -94,6 +95,7 @@ impl Stack {
             Command::DefineConst { name, sort, body } => {
                 self.define(*name, Trees::empty(), *sort, *body)
             }
+            Command::DeclareSort { name } => self.declare_sort(number, *name),
             Command::DefineSort { name, sort } => self.define_sort(*name, *sort),
             Command::Assert { term } => self.assert(number, *term),
             Command::Push { levels } => self.push(digits_of(*levels)),
@@ -255,6 +257,20 @@ impl Stack {
         Ok(self.library.define(name, params.as_slice(), sort, body)?)
     }
 
+    fn declare_sort(&mut self, number: u64, name: &[u8]) -> Result<(), CommandFault>
+        ensures effect { OnOk result (HasEffect self.old self.new number (DeclareSort name.now)) }
+        ensures refused { IfErr result (λ fault. IsRefused self.old number (DeclareSort name.now) fault) }
+        ensures unchanged { OnErr result (HasMore self.old self.new) }
+        ensures grown { Extends (contents_of self.old.library) (contents_of self.new.library) }
+    {
+        contents_are_kept();
+        let Ok(command) = u32::try_from(number) else {
+            // A sort has no room for a number from 2^32 on.
+            return Err(CommandFault::Memory);
+        };
+        Ok(self.library.declare_sort(command, name)?)
+    }
+
     fn define_sort(&mut self, name: &[u8], sort: Tree<'_>) -> Result<(), CommandFault>
         ensures effect { OnOk result
             ((number : ℕ) → HasEffect self.old self.new number (DefineSort name.now (sexp_of sort.entry))) }
@@ -322,7 +338,7 @@ fn digits_of(levels: Option<&[u8]>) -> &[u8]
 // The terms of literals, each of which is a formula, or the first fault. Their nodes are transient.
 fn check_literals(
     alloc: Global,
-    library: &mut Library,
+    library: &mut Library<'_>,
     literals: Trees<'_>,
 ) -> Result<Vec<TermId>, CommandFault>
     requires { transient_of library.old ≡ [] }
@@ -343,7 +359,7 @@ fn check_literals(
 }
 
 // The term of a literal that is a formula, or its fault.
-fn check_literal(library: &mut Library, literal: Tree<'_>) -> Result<TermId, CommandFault>
+fn check_literal(library: &mut Library<'_>, literal: Tree<'_>) -> Result<TermId, CommandFault>
     ensures term { (s : Signature) → libraries.StandsFor library.old s
         → MatchResult result (λ term. (flaw_of_formula (sort_in (names_of s) [] (sexp_of literal.entry)) ≡ None)
         × IsTerm library.new term (sexp_of literal.entry))
@@ -354,7 +370,7 @@ fn check_literal(library: &mut Library, literal: Tree<'_>) -> Result<TermId, Com
     let (term, sort) = library.check_transient(literal)?;
     match sort {
         Sort::Bool => Ok(term),
-        Sort::Int | Sort::Bits(_) => Err(CommandFault::Term {
+        Sort::Int | Sort::Bits(_) | Sort::Free(_) => Err(CommandFault::Term {
             fault: TermFault::IllSorted,
         }),
     }

@@ -21,6 +21,7 @@ use Rattle.smt_terms.specs.declared.library.Library.{Library}
 -- no name has come or gone, and perhaps more nodes have come
 pub record KeepsNames (old new : Contents) : Type 0 where
   pub theories : new.theories ≡ old.theories
+  pub elements : new.elements ≡ old.elements
   pub abbreviations : new.abbreviations ≡ old.abbreviations
   pub ranks : new.ranks ≡ old.ranks
   pub heads : new.heads ≡ old.heads
@@ -50,6 +51,7 @@ IsBodyUnder bodies c parameters node t =
 -- as `Holds`, where the bodies of the contents are seen among these
 pub record HoldsUnder (bodies : Bodies) (c : Contents) (s : Signature) : Type 0 where
   pub theories : c.theories ≡ s.theories
+  pub elements : c.elements ≡ s.elements
   pub distinct : AreDistinct s.entries
   pub abbreviations : c.abbreviations ≡ s.abbreviations
   pub ranks : c.ranks ≡ ranks_of s.entries

@@ -1,10 +1,12 @@
 -- What the labels are that terms gave so far.
-use Rattle.std.specs.Prelude.{◌≡◌, ℕ, List, [], ◌∷◌, ◌++◌, None, Ok, map, if◌then◌else◌}
+use Rattle.std.specs.Prelude.{◌≡◌, ℕ, List, [], ◌∷◌, ◌++◌, Option, None, Ok, map, if◌then◌else◌}
 use Rattle.smt_trees.specs.Sexp.{Sexp}
 use Rattle.smt_trees.specs.View.{sexp_of}
 use Rattle.smt_theory.specs.Words.{look_up}
 use Rattle.smt_terms.specs.Checking.{sort_in}
 use Rattle.smt_terms.specs.Definitions.{definition}
+use Rattle.smt_terms.specs.Elements.{element_among}
+use Rattle.smt_terms.specs.SortTrees.{SortNames}
 use Rattle.smt_terms.specs.Labels as spec
 use Rattle.smt_terms.specs.Signature.{Entry, Names, Rank, rank_of_entry, unlabelled}
 use Rattle.smt_terms.specs.declared.labels.Label.{Label}
@@ -35,8 +37,9 @@ pub record AreGiven (names : Names) (old new : Labels) (more : List (List ℕ ×
 abbrev pub label_entry : Label → Entry
 label_entry l = definition l.name.items [] l.sort (sexp_of l.body)
 
--- the name of each label stands for nothing, behind those before it
-abbrev pub AreNew : List (List ℕ × Rank) → List Label → Type 0
-AreNew ranks [] = Unit {0}
-AreNew ranks (l ∷ ls) = (look_up ranks l.name.items ≡ None)
-    × AreNew (ranks ++ (l.name.items, rank_of_entry (label_entry l)) ∷ []) ls
+-- the name of each label stands for nothing, behind those before it, and is no element's
+abbrev pub AreNew : Option SortNames → List (List ℕ × Rank) → List Label → Type 0
+AreNew elements ranks [] = Unit {0}
+AreNew elements ranks (l ∷ ls) =
+    (look_up ranks l.name.items ≡ None) × (element_among elements l.name.items ≡ None)
+    × AreNew elements (ranks ++ (l.name.items, rank_of_entry (label_entry l)) ∷ []) ls

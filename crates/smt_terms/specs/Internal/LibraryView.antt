@@ -1,5 +1,5 @@
 -- The names that a library's fields hold.
-use Rattle.std.specs.Prelude.{ℕ, List, map}
+use Rattle.std.specs.Prelude.{ℕ, List, Option, Some, None, map, option_map, if◌then◌else◌}
 use Rattle.smt_names.specs.Entries.{entries_of}
 use Rattle.smt_theory.specs.declared.sort.Sort.{Sort}
 use Rattle.smt_terms.specs.Labels.{Labels, Refused}
@@ -30,10 +30,23 @@ abbreviations_of sorts = entries_of sorts.abbreviations
 abbrev pub sort_names : SortNames → trees.SortNames
 sort_names sorts = record { theories = sorts.theories; abbreviations = abbreviations_of sorts }
 
+-- the sorts whose elements terms may name
+abbrev pub elements_of_library : Library → Option trees.SortNames
+elements_of_library library = option_map (λ sorts. sort_names sorts.now) library.elements
+
+-- the sorts whose elements the items of models of a library's names may name
+abbrev pub elements_lent : Library → Option trees.SortNames
+elements_lent library = if library.sorts.theories.wide then Some (sort_names library.sorts) else None
+
 -- what the sort checker needs, without labels
 abbrev pub names_of_library : Library → Names
 names_of_library library =
-    record { theories = library.sorts.theories; ranks = ranks_of_library library; labels = Refused }
+    record {
+      theories = library.sorts.theories;
+      elements = elements_of_library library;
+      ranks = ranks_of_library library;
+      labels = Refused;
+    }
 
 -- the same where a term may have these labels
 abbrev pub names_for : Library → Labels → Names

@@ -5,14 +5,14 @@ use Rattle.smt_nodes.specs.Node.{Node, Row}
 use Rattle.smt_nodes.specs.Nodes.{rows_of}
 use Rattle.smt_nodes.specs.declared.table.Nodes.{Nodes}
 use Rattle.smt_forms.specs.Identifier.{Identifier}
-use Rattle.smt_theory.specs.Operators.{is_plain_operator}
+use Rattle.smt_theory.specs.Operators.{is_plain_operator, op_by}
 use Rattle.smt_theory.specs.Words.{look_up}
 use Rattle.smt_theory.specs.declared.op.Op.{Op}
 use Rattle.smt_theory.specs.declared.op.OpFault.{OpFault}
 use Rattle.smt_theory.specs.declared.sort.Sort.{Sort}
 use Rattle.smt_trees.specs.Sexp.{Sexp, Sexps}
 use Rattle.smt_terms.specs.Denotes.{AreBound, AreDenoted, Denotes, Head, IsLonger, Slots, Table}
-use Rattle.smt_terms.specs.Denotes.{applied_node, node_of}
+use Rattle.smt_terms.specs.Denotes.{applied_node, node_alone, node_of}
 use Rattle.smt_terms.specs.Internal.TableView.{AreNamed, IsReady, places_seen, rows_behind, rows_in, slots_seen}
 use Rattle.smt_terms.specs.Internal.TableView.{table_in, table_of}
 use Rattle.smt_terms.specs.declared.labels.Labels.{Labels}
@@ -55,6 +55,15 @@ pub record AddsApplied (library : Library) (old new : Draft) (around : ℕ) (f :
   pub node : Node
   pub added : AddsNode library.nodes old new around node c
   pub is : IsNodeOf library f sorts args node
+
+-- the answer is the node of a symbol alone that is no variable, which is added alone
+pub record AddsAlone (library : Library) (old new : Draft) (around : ℕ) (name : List ℕ) (c : CheckedTerm)
+    : Type 0 where
+  pub node : Node
+  pub added : AddsNode library.nodes old new around node c
+  pub is : AreFree (table_of library)
+      → node_alone (table_of library) name (op_by (table_of library).theories name [])
+      (look_up (table_of library).heads name) ≡ Some node
 
 -- the same of what an operator is
 abbrev pub AddsOperator : Library → (old new : Draft) → ℕ → Result Op OpFault → List ℕ → CheckedTerm → Type 0

@@ -9,6 +9,7 @@ use Rattle.smt_theory.specs.Words.{look_up}
 use Rattle.smt_trees.specs.View.{sexp_of}
 use Rattle.smt_terms.specs.Denotes.{Denotes, Head, Slots, Table}
 use Rattle.smt_terms.specs.Internal.DraftView.{inside, seen_by}
+use Rattle.smt_terms.specs.Internal.LibraryView.{elements_of_library}
 use Rattle.smt_terms.specs.declared.labels.Label.{Label}
 use Rattle.smt_terms.specs.declared.library.Definition.{Definition}
 use Rattle.smt_terms.specs.declared.library.Entry.{Entry}
@@ -32,6 +33,7 @@ names_of_definitions definitions = map (λ d. d.name.items) definitions
 abbrev pub table_of : Library → Table
 table_of library = record {
   theories = library.sorts.theories;
+  elements = elements_of_library library;
   heads = heads_of_library library;
   names = names_of_definitions library.definitions.items;
   bodies = library.bodies.items;

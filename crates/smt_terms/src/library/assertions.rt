@@ -7,9 +7,10 @@ ghost use Rattle.smt_trees.specs.View.{sexp_of};
 ghost use Rattle.smt_theory.specs.Words.{look_up};
 ghost use Rattle.smt_terms.specs.Assertions.{asserted_in};
 ghost use Rattle.smt_terms.specs.Contents.{Extends, contents_of};
+ghost use Rattle.smt_terms.specs.Elements.{element_among};
 ghost use Rattle.smt_terms.specs.Internal.Growing.{AreFitUnder, Bodies, HoldsUnder, IsFitUnder};
 ghost use Rattle.smt_terms.specs.Internal.LabelsView.{AreNew, label_entry};
-ghost use Rattle.smt_terms.specs.Internal.LibraryView.{ranks_of_library};
+ghost use Rattle.smt_terms.specs.Internal.LibraryView.{elements_of_library, ranks_of_library};
 ghost use Rattle.smt_terms.specs.Internal.TableView.{names_of_definitions};
 ghost use Rattle.smt_terms.specs.Library.{IsTermOf, IsUnchanged, StandsFor, transient_of};
 ghost use Rattle.smt_terms.specs.Signature as signature;
@@ -24,7 +25,7 @@ use smt_nodes::TermId;
 use smt_theory::Sort;
 use smt_trees::Tree;
 
-impl Library {
+impl Library<'_> {
     /// Checks a term that is asserted, and adds the labels in it as names of their terms (SMT-LIB 2.6, sections 3.6.5
     /// and 4.2.4). It returns the number of the term's node. No term sees a label of its own assertion.
     ///
@@ -81,7 +82,7 @@ impl Library {
 
     // Adds labels, each as a constant that its term defines. Where memory is refused, it may have added some of them.
     fn add_labels(&mut self, labels: &[Label<'_>]) -> Result<(), Memory>
-        requires { AreNew (ranks_of_library self.old) labels.now }
+        requires { AreNew (elements_of_library self.old) (ranks_of_library self.old) labels.now }
         ensures added { OnOk result ((bodies : Bodies) (s : Signature)
             → HoldsUnder bodies (contents_of self.old) s
             → AreFitUnder bodies (contents_of self.old) s labels.now
@@ -100,7 +101,8 @@ impl Library {
     }
 
     fn add_label(&mut self, label: &Label<'_>) -> Result<(), Memory>
-        requires { look_up (ranks_of_library self.old) label.now.name.items ≡ None }
+        requires absent { look_up (ranks_of_library self.old) label.now.name.items ≡ None }
+        requires apart { element_among (elements_of_library self.old) label.now.name.items ≡ None }
         ensures added { OnOk result ((bodies : Bodies) (s : Signature)
             → HoldsUnder bodies (contents_of self.old) s
             → IsFitUnder bodies (contents_of self.old) s label.now

@@ -32,7 +32,7 @@ use smt_nodes::{Node, TermId};
 use smt_theory::Sort;
 use smt_trees::{Tree, Trees};
 
-impl Library {
+impl Library<'_> {
     // The sort and the node of a `let`, by the trees after its word (SMT-LIB 2.6, section 3.6.1). Its variables come
     // before those around it.
     #[cycle(check)]

@@ -31,13 +31,14 @@ use crate::library::draft::{Bound, CheckedTerm, Draft};
 use crate::sorts;
 use smt_faults::{TermFault, TermFlaw};
 use smt_forms::{
-    Identifier, Scope, applied_identifier, indexed_identifier, is_bang, is_let, is_underscore,
+    Identifier, Scope, applied_identifier, indexed_identifier, is_as, is_bang, is_let,
+    is_underscore,
 };
 use smt_nodes::{Node, Nodes, TermId};
 use smt_theory::{Op, OpFault, Sort, Width, op_of, plain_op_of, plain_rank, rank};
 use smt_trees::{Tree, Trees};
 
-impl Library {
+impl Library<'_> {
     /// The sort and the node of a term over these names and the variables that it sees, or its first fault. Unless it
     /// fails, the draft then has the variables and the arguments of before. The draft may gain nodes and labels, at a
     /// fault too. This many annotations without a label are directly round the term already; its node keeps how many
@@ -223,6 +224,9 @@ impl Library {
         if is_bang(head) {
             return self.sort_of_annotated(draft, args, around);
         }
+        if is_as(head) {
+            return self.sort_of_qualified(draft, args, around);
+        }
         let identifier = applied_identifier(self.alloc, head, args)?;
         let start = draft.arguments.len();
         let is_open = self.sorts_of(draft, args)?;
@@ -234,6 +238,7 @@ impl Library {
     // Adds the sorts and the nodes of terms to the waiting arguments, in order. Returns whether one of the terms uses
     // a variable from outside, or the first fault.
     #[cycle(check)]
+    #[inline(always)]
     fn sorts_of<'a>(&self, draft: &mut Draft<'a>, terms: Trees<'a>) -> Result<bool, TermFault>
         requires { IsPlaced (seen_by draft.old) draft.old.base }
         ensures sorts { HasSorts draft.old draft.new
@@ -260,8 +265,8 @@ impl Library {
         Ok(is_open)
     }
 
-    // The sort and the node of a symbol alone: of the variable that it names, or else of a name or an operator
-    // without arguments.
+    // The sort and the node of a symbol alone: of the variable that it names, of a name or an operator without
+    // arguments, or else of an element.
     #[inline(always)]
     fn sort_of_symbol(
         &self,
@@ -286,10 +291,7 @@ impl Library {
                 let is_open = variable.place < draft.base;
                 Ok(draft.push(&self.nodes, &node, &variable.sort, is_open, around)?)
             }
-            None => {
-                let start = draft.arguments.len();
-                self.sort_of_plain(draft, name, start, false, around)
-            }
+            None => self.sort_of_alone(draft, name, around),
         }
     }
 
@@ -357,7 +359,7 @@ impl Library {
     // The sort and the node of a symbol that is no variable, applied to the arguments from this one on. The symbol is
     // a name in force, or else an operator.
     #[inline(always)]
-    fn sort_of_plain(
+    pub(super) fn sort_of_plain(
         &self,
         draft: &mut Draft<'_>,
         name: &[u8],

@@ -9,6 +9,7 @@ ghost use Rattle.smt_theory.specs.Operators.{is_plain_operator};
 ghost use Rattle.smt_theory.specs.Words.{look_up};
 ghost use Rattle.smt_terms.specs.Contents.{Extends, contents_of};
 ghost use Rattle.smt_terms.specs.Definitions.{defined_in, definition};
+ghost use Rattle.smt_terms.specs.Elements.{element_among};
 ghost use Rattle.smt_terms.specs.Internal.Growing.{AddsDefinition, Bodies, HoldsUnder, IsBodyUnder};
 ghost use Rattle.smt_terms.specs.Internal.Growing.{KeepsNames, RefusesDefinition};
 ghost use Rattle.smt_terms.specs.Internal.LibraryView.{names_of_library, ranks_of_library};
@@ -30,7 +31,7 @@ use smt_nodes::TermId;
 use smt_theory::Sort;
 use smt_trees::Tree;
 
-impl Library {
+impl Library<'_> {
     /// Defines a name by its parameters, the tree of its sort, and its body (SMT-LIB 2.6, section 4.2.3). The body
     /// sees the earlier names and the parameters, and not the name itself.
     ///
@@ -79,14 +80,14 @@ impl Library {
         sort: Sort,
         body: Tree<'_>,
     ) -> Result<(), TermFault>
-        requires { look_up (names_of_library self.old).ranks name.now ≡ None }
+        requires absent { look_up (names_of_library self.old).ranks name.now ≡ None }
+        requires apart { element_among (names_of_library self.old).elements name.now ≡ None }
         ensures added { AddsDefinition self.old self.new name.now (scope_view parameters.now) sort
             (sexp_of body.entry) result }
         ensures refused { RefusesDefinition self.old name.now (scope_view parameters.now) sort
             (sexp_of body.entry) result }
         ensures restored { OnErr result (contents_of self.new ≡ contents_of self.old) }
         ensures grown { Extends (contents_of self.old) (contents_of self.new) }
-        ensures theories { self.new.sorts.theories ≡ self.old.sorts.theories }
         ensures transient { transient_of self.new ≡ transient_of self.old }
     {
         let mark = self.mark();
@@ -108,13 +109,15 @@ impl Library {
         sort: Sort,
         body: Tree<'_>,
     ) -> Result<(), TermFault>
-        requires { look_up (names_of_library self.old).ranks name.now ≡ None }
+        requires absent { look_up (names_of_library self.old).ranks name.now ≡ None }
+        requires apart { element_among (names_of_library self.old).elements name.now ≡ None }
         ensures added { AddsDefinition self.old self.new name.now (scope_view parameters.now) sort
             (sexp_of body.entry) result }
         ensures refused { RefusesDefinition self.old name.now (scope_view parameters.now) sort
             (sexp_of body.entry) result }
         ensures grown { Extends (contents_of self.old) (contents_of self.new) }
         ensures sorts { self.new.sorts ≡ self.old.sorts }
+        ensures elements { self.new.elements ≡ self.old.elements }
         ensures transient { self.new.transient ≡ self.old.transient }
     {
         let (checked, _) = self.check_whole(parameters, Labels::refused(self.alloc), body)?;
@@ -134,7 +137,8 @@ impl Library {
         sort: Sort,
         node: TermId,
     ) -> Result<(), Memory>
-        requires { look_up (names_of_library self.old).ranks name.now ≡ None }
+        requires absent { look_up (names_of_library self.old).ranks name.now ≡ None }
+        requires apart { element_among (names_of_library self.old).elements name.now ≡ None }
         ensures added { OnOk result
             ((bodies : Bodies) (s : Signature) (t : Sexp) → HoldsUnder bodies (contents_of self.old) s
             → is_plain_operator s.theories name.now ≡ false
@@ -152,6 +156,7 @@ impl Library {
         ensures unchanged { OnErr result (KeepsNames (contents_of self.old) (contents_of self.new)) }
         ensures grown { Extends (contents_of self.old) (contents_of self.new) }
         ensures sorts { self.new.sorts ≡ self.old.sorts }
+        ensures elements { self.new.elements ≡ self.old.elements }
         ensures transient { self.new.transient ≡ self.old.transient }
     {
         let definition = Definition {
@@ -183,6 +188,7 @@ impl Library {
             × (self.new.bodies.items ≡ self.old.bodies.items)) }
         ensures names { self.new.names ≡ self.old.names }
         ensures sorts { self.new.sorts ≡ self.old.sorts }
+        ensures elements { self.new.elements ≡ self.old.elements }
         ensures declared { self.new.declared ≡ self.old.declared }
         ensures nodes { self.new.nodes ≡ self.old.nodes }
         ensures transient { self.new.transient ≡ self.old.transient }
@@ -204,6 +210,7 @@ impl Library {
             self.old.bodies.items }
         ensures names { self.new.names ≡ self.old.names }
         ensures sorts { self.new.sorts ≡ self.old.sorts }
+        ensures elements { self.new.elements ≡ self.old.elements }
         ensures declared { self.new.declared ≡ self.old.declared }
         ensures nodes { self.new.nodes ≡ self.old.nodes }
         ensures transient { self.new.transient ≡ self.old.transient }

@@ -2,18 +2,20 @@
 //! knows no values, and does not know which names a model lacks.
 
 ghost use Rattle.std.specs.Prelude.{◌≡◌, ◌&&◌, map, option_map, None, Some, Ok, Err, Option, OnOk, OnErr, IfErr};
-ghost use Rattle.std.specs.Prelude.{IfOk};
+ghost use Rattle.std.specs.Prelude.{IfOk, []};
 ghost use Rattle.smt_trees.specs.View.{sexp_of};
 ghost use Rattle.smt_theory.specs.Ranks.{are_exactly};
 ghost use Rattle.smt_theory.specs.Sort.{is_same_sort};
 ghost use Rattle.smt_terms.specs.Contents.{Extends, contents_of};
 ghost use Rattle.smt_terms.specs.Internal.LibraryView.{rank_of};
+ghost use Rattle.smt_forms.specs.ItemForm as forms;
 ghost use Rattle.smt_forms.specs.ItemView.{item_view};
-ghost use Rattle.smt_terms.specs.Items.{form_in, has_rank_of, item_in, list_of};
-ghost use Rattle.smt_terms.specs.Library.{HasTheoriesOf, IsUnchanged, StandsFor};
+ghost use Rattle.smt_theory.specs.Words.{result_and_then};
+ghost use Rattle.smt_terms.specs.Items.{form_in, has_rank_of, item_by, item_in, items_before, list_of};
+ghost use Rattle.smt_terms.specs.Library.{ReadsModelsOf, IsUnchanged, StandsFor};
 ghost use Rattle.smt_forms.specs.ScopeView.{scope_view};
 ghost use Rattle.smt_terms.specs.Signature as signature;
-ghost use Rattle.smt_terms.specs.Signature.{Signature, declared_named, no_names, rank_of_entry};
+ghost use Rattle.smt_terms.specs.Signature.{Signature, declared_named, rank_of_entry};
 ghost use Rattle.smt_terms.specs.Signature.{with_entries, with_entry};
 ghost use Rattle.smt_faults.specs.Outcome.{Tells};
 
@@ -26,15 +28,17 @@ use smt_forms::{ItemForm, Variable, item_form};
 use smt_theory::Sort;
 use smt_trees::Tree;
 
-impl Library {
+impl Library<'_> {
     /// A library for the items of a model of these names (SMT-LIB 2.6, section 4.2.6). It has the theories of this
-    /// library and no names.
-    pub fn for_model(&self) -> Result<Library, Memory>
+    /// library and no names. In the wide profile its terms may name elements of the sorts that this library declares.
+    pub fn for_model(&self) -> Result<Library<'_>, Memory>
         ensures names { IfOk result
-            (λ library. (s : Signature) → StandsFor self.now s → StandsFor library (no_names s.theories)) }
-        ensures theories { IfOk result (λ library. HasTheoriesOf library self.now) }
+            (λ library. (s : Signature) → StandsFor self.now s → StandsFor library (items_before s [])) }
+        ensures reads { IfOk result (λ library. ReadsModelsOf library self.now) }
     {
-        Ok(Library::new(self.alloc, self.sorts.theories))
+        let mut library = Library::new(self.alloc, self.sorts.theories);
+        library.elements = self.lent();
+        Ok(library)
     }
 
     /// Adds the definition of an item of a model of the script's names, after the earlier items (SMT-LIB 2.6, section
@@ -44,12 +48,14 @@ impl Library {
     /// It refuses, in this order:
     /// 1. an item out of form (`Form`), or a recursive one (`Unsupported`);
     /// 2. a name that an earlier item has (`BoundTwice`);
-    /// 3. a name that the script does not declare and that is in use or a plain operator's (`NotFresh`);
+    /// 3. in the wide profile a name of an element of a sort that the script declares, and any name that the script
+    ///    does not declare and that is in use or a plain operator's (`NotFresh`);
     /// 4. for each parameter, a tree that names no sort, with its fault, and then a name that an earlier parameter has
     ///    (`BoundTwice`);
     /// 5. for the result, a tree that names no sort, with its fault;
     /// 6. another rank than the declared one (`IllSorted`);
-    /// 7. a body with a fault over the earlier items and the parameters, with its first fault (any label is one);
+    /// 7. a body with a fault over the earlier items, the elements and the parameters, with its first fault (any label
+    ///    is one);
     /// 8. a body of another sort (`IllSorted`).
     ///
     /// Then, and where memory is refused (`Memory`), nothing changes.
@@ -57,9 +63,14 @@ impl Library {
     /// In the wide profile it sets aside an item of a name that the script defines, by a definition or a label: it
     /// adds nothing and does not look at the body. It refuses such an item for its form, its parameters and its sort
     /// like others, and for another rank than the definition's (`IllSorted`).
+    ///
+    /// In the wide profile it also sets aside the items that tell which elements a declared sort has:
+    /// `(forall ..)` and `(declare-sort ..)`, whatever they hold, and `(declare-fun x () S)` where x is an element of
+    /// the sort S. It refuses, in this order: a `declare-fun` of another form, or of no element (`Form`); a tree that
+    /// names no sort, with its fault; another sort than the element's (`IllSorted`).
     #[tactic(auto, using(crate::proofs::ContentsLemmas::extends_itself))]
-    pub fn define_item(&mut self, script: &Library, item: Tree<'_>) -> Result<(), TermFault>
-        requires { HasTheoriesOf self.old script.now }
+    pub fn define_item(&mut self, script: &Library<'_>, item: Tree<'_>) -> Result<(), TermFault>
+        requires { ReadsModelsOf self.old script.now }
         ensures defined { OnOk result ((s m : Signature) → StandsFor script.now s → StandsFor self.old m
             → (o : Option signature.Entry) × (item_in s m.entries (sexp_of item.entry) ≡ Ok o)
             × StandsFor self.new (with_entries m (list_of o))) }
@@ -69,7 +80,29 @@ impl Library {
         ensures unchanged { OnErr result (IsUnchanged self.old self.new) }
         ensures restored { OnErr result (contents_of self.new ≡ contents_of self.old) }
         ensures grown { Extends (contents_of self.old) (contents_of self.new) }
-        ensures theories { HasTheoriesOf self.new script.now }
+        ensures reads { ReadsModelsOf self.new script.now }
+    {
+        match script.told(item) {
+            Some(told) => Ok(told?),
+            None => self.define_other(script, item),
+        }
+    }
+
+    // Adds the definition of an item, as `define_item` does, unless the item repeats a definition.
+    #[tactic(auto, using(crate::proofs::ContentsLemmas::extends_itself))]
+    fn define_other(&mut self, script: &Library<'_>, item: Tree<'_>) -> Result<(), TermFault>
+        requires { ReadsModelsOf self.old script.now }
+        ensures defined { OnOk result ((s m : Signature) → StandsFor script.now s → StandsFor self.old m
+            → (o : Option signature.Entry)
+            × (result_and_then (forms.item_form (sexp_of item.entry)) (item_by s m.entries) ≡ Ok o)
+            × StandsFor self.new (with_entries m (list_of o))) }
+        ensures refused { IfErr result
+            (λ fault. (s m : Signature) → StandsFor script.now s → StandsFor self.old m
+            → Tells (result_and_then (forms.item_form (sexp_of item.entry)) (item_by s m.entries)) fault) }
+        ensures unchanged { OnErr result (IsUnchanged self.old self.new) }
+        ensures restored { OnErr result (contents_of self.new ≡ contents_of self.old) }
+        ensures grown { Extends (contents_of self.old) (contents_of self.new) }
+        ensures reads { ReadsModelsOf self.new script.now }
     {
         let form = item_form(item)?;
         if script.sets_aside(form.name) {
@@ -82,8 +115,8 @@ impl Library {
     // Adds the definition of an item of these parts. Where the item has a fault, or memory is refused, it changes
     // nothing.
     #[tactic(auto, using(crate::proofs::ContentsLemmas::extends_itself))]
-    fn add_item(&mut self, script: &Library, form: ItemForm<'_>) -> Result<(), TermFault>
-        requires { HasTheoriesOf self.old script.now }
+    fn add_item(&mut self, script: &Library<'_>, form: ItemForm<'_>) -> Result<(), TermFault>
+        requires { ReadsModelsOf self.old script.now }
         ensures defined { OnOk result ((s m : Signature) → StandsFor script.now s → StandsFor self.old m
             → (e : signature.Entry) × (form_in s m.entries (item_view form.entry) ≡ Ok e)
             × StandsFor self.new (with_entry m e)) }
@@ -93,7 +126,7 @@ impl Library {
         ensures unchanged { OnErr result (IsUnchanged self.old self.new) }
         ensures restored { OnErr result (contents_of self.new ≡ contents_of self.old) }
         ensures grown { Extends (contents_of self.old) (contents_of self.new) }
-        ensures theories { HasTheoriesOf self.new script.now }
+        ensures reads { ReadsModelsOf self.new script.now }
     {
         self.check_name(script, form.name)?;
         let parameters = sorted_params_of(self.alloc, &script.sorts, form.parameters)?;
@@ -107,7 +140,7 @@ impl Library {
     // Whether the script declares the name with this rank, or does not declare it.
     fn has_declared_rank(
         &self,
-        script: &Library,
+        script: &Library<'_>,
         name: &[u8],
         parameters: &[Variable<'_, Sort>],
         sort: Sort,

@@ -19,7 +19,7 @@ pub struct Mark {
     pub(crate) nodes: usize,
 }
 
-impl Library {
+impl Library<'_> {
     /// A mark of all that the library holds now.
     pub fn mark(&self) -> Mark
         ensures all { first_of result (contents_of self.now) ≡ contents_of self.now }

@@ -15,7 +15,7 @@ use smt_faults::{Memory, TermFault};
 use smt_forms::{ItemForm, Variable};
 use smt_theory::Sort;
 
-impl Library {
+impl Library<'_> {
     // Whether items of this name are set aside: the profile is wide, and a definition or a label has the name.
     pub(super) fn sets_aside(&self, name: &[u8]) -> bool
         ensures { (s : Signature) → StandsFor self.now s → result ≡ is_set_aside s name.now }
@@ -24,7 +24,7 @@ impl Library {
     }
 
     // Whether the profile is the wide one.
-    fn is_wide(&self) -> bool
+    pub(super) fn is_wide(&self) -> bool
         ensures { (s : Signature) → StandsFor self.now s → result ≡ s.theories.wide }
     {
         self.theories().wide

@@ -22,7 +22,7 @@ use smt_theory::Sort;
 use smt_trees::Tree;
 use std::mem;
 
-impl Library {
+impl Library<'_> {
     /// Checks a term without labels over the names, as `check` does, and makes its nodes transient (SMT-LIB 2.6,
     /// sections 3.6 and 5.2). It returns the number of the term's node and its sort, or its first fault; then nothing
     /// changes. The number has a meaning until the library changes otherwise than by this call.

@@ -26,7 +26,7 @@ use smt_theory::Sort;
 use smt_trees::Tree;
 use std::mem;
 
-impl Library {
+impl Library<'_> {
     // Checks a term over the names and these variables, the first innermost, whose places are those of a frame. It
     // returns the term's sort and node and the labels in it, or its first fault. It adds the nodes to the library's;
     // a term with a fault leaves none.
@@ -52,6 +52,7 @@ impl Library {
         ensures unchanged { OnErr result (rows_of self.new.nodes ≡ rows_of self.old.nodes) }
         ensures names { self.new.names ≡ self.old.names }
         ensures sorts { self.new.sorts ≡ self.old.sorts }
+        ensures elements { self.new.elements ≡ self.old.elements }
         ensures declared { self.new.declared ≡ self.old.declared }
         ensures definitions { self.new.definitions ≡ self.old.definitions }
         ensures bodies { self.new.bodies ≡ self.old.bodies }

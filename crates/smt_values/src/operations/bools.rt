@@ -205,7 +205,7 @@ fn is(arg: &Option<Value>, truth: bool) -> bool
 {
     match arg {
         Some(Value::Bool(b)) => *b == truth,
-        Some(Value::Int(_) | Value::Bits(_)) | None => false,
+        Some(Value::Int(_) | Value::Bits(_) | Value::Abstract(_)) | None => false,
     }
 }
 
@@ -221,6 +221,6 @@ fn truth(arg: &Option<Value>) -> Option<bool>
 {
     match arg {
         Some(Value::Bool(b)) => Some(*b),
-        Some(Value::Int(_) | Value::Bits(_)) | None => None,
+        Some(Value::Int(_) | Value::Bits(_) | Value::Abstract(_)) | None => None,
     }
 }

@@ -1,7 +1,6 @@
 -- the library stands for some names
-use Rattle.smt_terms.specs.Library.{StandsFor}
-use Rattle.smt_terms.specs.Signature.{Signature}
+use Rattle.smt_eval.specs.Interpretation.{HoldsScript}
 use Rattle.rows.proofs.models.print.Given as goal
 
 abbrev pub invariant-loop-command : goal.invariant-loop-command
-invariant-loop-command g l = (s : Signature) × StandsFor l.library s
+invariant-loop-command g l = HoldsScript l.library

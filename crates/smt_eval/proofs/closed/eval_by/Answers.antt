@@ -50,5 +50,5 @@ returns-clause-known c = λ script definitions t names holds term.
     ∙ ap (λ nodes. given nodes (length model.rows + id) []) c.tables_of.ensures.nodes
     ∙ c.nodes_give_the_values_of_their_terms.ensures model (terms_of c.args.library.now)
     c.args.interpretation.now.declared.items script definitions 0 id t (c.tables_of.ensures.named script names) holds.stands.terms
-    holds.defined holds.theories holds.distinct holds.bodies
+    holds.defined holds.theories holds.no_elements holds.distinct holds.bodies
     term)

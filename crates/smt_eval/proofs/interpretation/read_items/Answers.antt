@@ -12,7 +12,7 @@ use Rattle.smt_eval.proofs.interpretation.read_items.Goals as goal
 
 pub loop-item-init : goal.loop-item-init
 loop-item-init c = record {
-  theories = c.in-Ok.ensures.theories;
+  reads = c.in-Ok.ensures.reads;
   left = omega arith;
   items = λ s stands. ([], c.in-Ok.ensures.names s stands, (0, omega arith, refl));
 }
@@ -37,7 +37,7 @@ loop-item-preserved c =
     let first : count (sexps_of c.loop-item.left) ≡ suc (count (sexps_of c.in-Some.rest)) = ap count c.in-Some.ensures in
     let left = c.loop-item.invariant.left in
     record {
-      theories = c.in_default-define_item.ensures.theories;
+      reads = c.in_default-define_item.ensures.reads;
       left = omega (arith, left, first);
       items = λ s stands.
           let i = c.loop-item.invariant.items s stands in

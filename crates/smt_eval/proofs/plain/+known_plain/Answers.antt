@@ -5,6 +5,7 @@ use Rattle.smt_trees.specs.declared.reserved.Word.TheVariants.{Bang}
 use Rattle.smt_theory.specs.Index.{index_view}
 use Rattle.smt_theory.specs.Operators.{op_by}
 use Rattle.smt_values.specs.Element.{known_elements}
+use Rattle.smt_forms.specs.Identifier.{Indexed}
 use Rattle.smt_forms.specs.IdentifierView.{identifier_view}
 use Rattle.smt_eval.specs.Internal.PlainEvaluation.{known_scope, meaning_of}
 use Rattle.smt_eval.specs.Known.{known_of, known_of_op, known_operators}
@@ -61,8 +62,8 @@ pub names::known_applied-returns-in-Indexed : goal.names::known_applied-returns-
 names::known_applied-returns-in-Indexed t c =
     let name = c.in-Indexed.name.now in
     let indexes = map index_view c.in-Indexed.indexes.items in
-    c.known_of_operator.ensures
-    ∙ ap (λ o. known_of_op o (known_elements c.args.args.now))
+    c.known_of_indexed.ensures name indexes
+    ∙ ap (λ o. known_of_op o (Indexed name indexes) (known_elements c.args.args.now))
     (c.op_of.ensures ∙ ap (λ is. op_by c.args.over.theories name (map index_view is)) c.as_slice.ensures.value)
     ∙ sym (known_with_indexes (known_operators c.args.over.theories) (entries_of c.args.over.seen.now) name
     indexes (known_elements c.args.args.now))

@@ -1,4 +1,4 @@
-use Rattle.std.proofs.Common.{[], refl, sym}
+use Rattle.std.proofs.Common.{[], None, refl, sym}
 use Rattle.std.proofs.lemmas.Result.{IfOk-weaker}
 use Rattle.smt_theory.specs.Theories.{all_theories}
 use Rattle.smt_theory.specs.declared.profile.Profile.TheVariants.{Base}
@@ -9,6 +9,11 @@ pub returns : goal.returns
 returns c =
     IfOk-weaker c.value.result _ _
     (λ v h. h
-    (record { theories = all_theories Base; entries = entries_of c.args.definitions.now; abbreviations = [] })
+    (record {
+      theories = all_theories Base;
+      abbreviations = [];
+      elements = None;
+      entries = entries_of c.args.definitions.now;
+    })
     _ (record { theories = sym c.all_theories.ensures; definitions = refl; tree = refl }))
     c.value.ensures

@@ -8,8 +8,8 @@ use Rattle.smt_dialogue.specs.Internal.AcceptedState.{options_of}
 use Rattle.smt_dialogue.specs.Internal.PairingView.{IsUnderWay, Texts, waiting}
 use Rattle.smt_dialogue.proofs.pairing.Pairing.advance.Given as goal
 
-abbrev pub invariant-loop-self : goal.invariant-loop-self
-invariant-loop-self l = record {
+abbrev pub invariant-loop-closed : goal.invariant-loop-closed
+invariant-loop-closed l = record {
   script_fed : bytes_fed l.self.script.reader ≡ bytes_fed l.fn.self.script.reader;
   answers_fed : bytes_fed l.self.answers.reader ≡ bytes_fed l.fn.self.answers.reader;
   start : options_of l.self.dialogue ≡ options_of l.fn.self.dialogue;
@@ -19,5 +19,5 @@ invariant-loop-self l = record {
       → (ps : List Pair) × (left : Sexps) × (after : Sexps) × IsUnderWay l.self texts ps left after;
 }
 
-abbrev pub decreases-loop-self : goal.decreases-loop-self
-decreases-loop-self l = bytes_fed l.fn.self.script.reader - l.self.dialogue.commands
+abbrev pub decreases-loop-closed : goal.decreases-loop-closed
+decreases-loop-closed l = bytes_fed l.fn.self.script.reader - l.self.dialogue.commands

@@ -1,4 +1,4 @@
-use Rattle.std.proofs.Common.{ℕ, refl, Option, ap, ◌∙◌}
+use Rattle.std.proofs.Common.{ℕ, refl, Option, ap, sym, ◌∙◌}
 use Rattle.smt_trees.specs.View.{sexps_of}
 use Rattle.smt_terms.specs.Items.{items_before}
 use Rattle.smt_terms.specs.Library.{held_terms_of}
@@ -31,6 +31,7 @@ returns-in-Ok-clause-model c = λ s stands.
         stands = read.2;
         defined = defined;
         theories = refl;
+        no_elements = sym stands.elements ∙ c.requires.1.elements ∙ c.requires.2;
         distinct = c.structures_are_distinct.ensures s (sexps_of c.args.model) d whole stands.distinct;
         bodies = bodies_given s d (sexps_of c.args.model) (held_terms_of c.in_ok-definitions.definitions).bodies _
             (c.models_are_complete.ensures s (sexps_of c.args.model) d whole) stands.distinct given.1;

@@ -2,7 +2,7 @@ use Rattle.std.proofs.Common.{◌∙◌, ◌+◌, ◌∷◌, List, Some, ap, ref
 use Rattle.smt_nodes.specs.Literals.{literal_number, spelled}
 use Rattle.smt_nodes.specs.NodeView.{node_view}
 use Rattle.smt_values.specs.Element.{known_element}
-use Rattle.smt_values.specs.Literals.{bin_element, hex_element, numeral_element}
+use Rattle.smt_values.specs.Literals.{bin_element, hex_element, name_element, numeral_element}
 use Rattle.smt_machine.specs.Internal.Parts.{meaning}
 use Rattle.smt_machine.specs.Internal.States.{state_of}
 use Rattle.smt_machine.specs.Internal.Tasks.{IsPlanned, visits}
@@ -40,6 +40,12 @@ returns-in-Bin c = if_done c.leave-in-Bin.result c.leave-in-Bin.ensures
     (λ is nodes at. visited nodes c.args.number (Some (Known (bin_element c.in-Bin.digits.now)))
     (known_element c.bin_of.result) c.args.self.now c.leave-in-Bin.new.self
     (sym (ap (λ n. Some (meaning c.args.from.now n)) c.in-Bin.is) ∙ at) (λ k. refl) (sym c.bin_of.ensures) is c.requires.based)
+
+pub returns-in-Element : goal.returns-in-Element
+returns-in-Element c = if_done c.leave-in-Element.result c.leave-in-Element.ensures
+    (λ is nodes at. visited nodes c.args.number (Some (Known (name_element c.in-Element.name.now)))
+    (known_element c.element.result) c.args.self.now c.leave-in-Element.new.self
+    (sym (ap (λ n. Some (meaning c.args.from.now n)) c.in-Element.is) ∙ at) (λ k. refl) (sym c.element.ensures) is c.requires.based)
 
 pub returns-in-Slot : goal.returns-in-Slot
 returns-in-Slot c = if_done c.leave-in-Slot.result c.leave-in-Slot.ensures

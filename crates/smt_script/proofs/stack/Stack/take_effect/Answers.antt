@@ -1,4 +1,4 @@
-use Rattle.std.proofs.Common.{◌≡◌, ℕ, List, [], Result, Ok, Err, IfErr, OnOk, refl, ap, sym, ◌∙◌}
+use Rattle.std.proofs.Common.{◌≡◌, ℕ, Result, Ok, Err, IfErr, OnOk, refl, ap, sym, ◌∙◌}
 use Rattle.std.specs.Str.Parse.{digits_value}
 use Rattle.smt_trees.specs.View.{sexp_of, sexps_of}
 use Rattle.smt_forms.specs.Bindings.{named_trees}
@@ -253,6 +253,11 @@ returns-in-DefineConst-clause-held c =
     held_at c.define-in-DefineConst.result c.args.self.now _ (command_view c.args.command.now)
     (contents_of c.define-in-DefineConst.new.self.library) (ap command_view c.in-DefineConst.is)
     (on_ok c.define-in-DefineConst.result c.define-in-DefineConst.ensures.grown)
+
+pub returns-in-DeclareSort-clause-held : goal.returns-in-DeclareSort-clause-held
+returns-in-DeclareSort-clause-held c =
+    held_at c.declare_sort.result c.args.self.now _ (command_view c.args.command.now)
+    (contents_of c.declare_sort.new.self.library) (ap command_view c.in-DeclareSort.is) (on_ok c.declare_sort.result c.declare_sort.ensures.grown)
 
 pub returns-in-DefineSort-clause-held : goal.returns-in-DefineSort-clause-held
 returns-in-DefineSort-clause-held c =

@@ -1,5 +1,5 @@
 use Rattle.std.proofs.Common.{◌||◌, ◌++◌, [], Ok, ◌∷◌, map, take, refl, ap, sym, subst, ◌∙◌, arith, inr, append-nil}
-use Rattle.std.proofs.Common.{OnOk}
+use Rattle.std.proofs.Common.{IfOk, OnOk}
 use Rattle.std.proofs.lemmas.List.{map-append}
 use Rattle.std.proofs.lemmas.Result.{err_from_is_err_and}
 use Rattle.smt_trees.specs.Sexp.{Cons, Items, Reserved, weight_all}
@@ -13,6 +13,7 @@ use Rattle.smt_forms.specs.ScopeView.{scope_view}
 use Rattle.smt_forms.specs.Variables.{is_among}
 use Rattle.smt_faults.specs.declared.term_fault.TermFault.{TermFault}
 use Rattle.smt_terms.specs.Checking.{bound_in, sort_applied, sort_in}
+use Rattle.smt_terms.specs.Elements.{qualified_sort}
 use Rattle.smt_terms.specs.Internal.Calls.{HasSort}
 use Rattle.smt_terms.specs.Internal.DraftView.{IsPlaced, are_open, are_open_bindings, argument_sorts, argument_terms}
 use Rattle.smt_terms.specs.Internal.DraftView.{is_open, seen_by, sorts_from, sorts_seen, terms_from}
@@ -27,7 +28,7 @@ use Rattle.smt_terms.specs.Denotes.{AreBound, AreDenoted}
 use Rattle.smt_terms.specs.Internal.NodesView.{AddsApplied, AddsNode, Stands, TermsStand}
 use Rattle.smt_terms.proofs.BinderLemmas.{annotated, bang_in, bound_in-fault, bound_in-next, bound_in-twice}
 use Rattle.smt_terms.proofs.BinderLemmas.{fault_of_annotation, fault_of_bindings, let_in}
-use Rattle.smt_terms.proofs.CheckerLemmas.{bang_head, fault_of_args, indexed_ok, let_head, plain_head}
+use Rattle.smt_terms.proofs.CheckerLemmas.{as_head, bang_head, fault_of_args, indexed_ok, let_head, plain_head}
 use Rattle.smt_terms.proofs.CheckerLemmas.{sorts_behind-end, sorts_behind-next, sorts_behind-start}
 use Rattle.smt_terms.proofs.ClosedLemmas.{bound-names, closed}
 use Rattle.smt_terms.proofs.DraftLemmas.{among, annotated_alone, carried_open, carried_sort, closed_by_labels}
@@ -36,7 +37,7 @@ use Rattle.smt_terms.proofs.DraftLemmas.{open_let, open_whole, opened_next, plac
 use Rattle.smt_terms.proofs.DraftLemmas.{tells_same}
 use Rattle.smt_terms.proofs.KeptLemmas.{Keeps-unlabelled, kept-sort}
 use Rattle.smt_terms.proofs.LabelLemmas.{AreGivenOf-next, AreGivenOf-none, applied_without_labels, given_by_args}
-use Rattle.smt_terms.proofs.LabelLemmas.{given_by_indexed, names_behind}
+use Rattle.smt_terms.proofs.LabelLemmas.{given_by_indexed, given_by_qualified, names_behind}
 use Rattle.smt_terms.proofs.BinderNodeLemmas.{annotated_stands, labelled_stands, let_stands}
 use Rattle.smt_terms.proofs.NodeLemmas.{call_stands, if_answered, indexed_stands}
 use Rattle.smt_terms.proofs.PartNodeLemmas.{binding_first, no_binding, no_term, none_left, so_far-all, so_far-next}
@@ -496,6 +497,36 @@ sort_of_list-returns-then-is_bang-clause-open t c =
     (c.in-Some.ensures ∙ ap (λ h. Cons h (sexps_of c.in-Some.args))
     (bang_head (sexp_of c.in-Some.head) (sym c.if-is_bang.ensures)))) c.sort_of_annotated.ensures.open
 
+pub sort_of_list-returns-then-is_as-clause-sort : goal.sort_of_list-returns-then-is_as-clause-sort
+sort_of_list-returns-then-is_as-clause-sort t c =
+    let names = names_for c.args.self.now (labels_view c.args.draft.now.labels) in
+    let scope = sorts_seen c.args.draft.now in
+    carried_sort c.sort_of_qualified.result (qualified_sort names.elements (sexps_of c.in-Some.args))
+    (sort_in names scope (Items (sexps_of c.args.parts)))
+    (ap (λ ps. sort_in names scope (Items ps))
+    (c.in-Some.ensures ∙ ap (λ h. Cons h (sexps_of c.in-Some.args))
+    (as_head (sexp_of c.in-Some.head) (sym c.if-is_as.ensures)))) c.sort_of_qualified.ensures.sort
+
+pub sort_of_list-returns-then-is_as-clause-open : goal.sort_of_list-returns-then-is_as-clause-open
+sort_of_list-returns-then-is_as-clause-open t c =
+    carried_open c.sort_of_qualified.result _ _
+    (ap (λ ps. is_open c.args.draft.now (Items ps))
+    (c.in-Some.ensures ∙ ap (λ h. Cons h (sexps_of c.in-Some.args))
+    (as_head (sexp_of c.in-Some.head) (sym c.if-is_as.ensures)))) c.sort_of_qualified.ensures.open
+
+pub sort_of_list-returns-then-is_as-clause-labels : goal.sort_of_list-returns-then-is_as-clause-labels
+sort_of_list-returns-then-is_as-clause-labels t c =
+    given_by_qualified c.sort_of_qualified.result (names_of_library c.args.self.now) c.args.draft.now.labels
+    c.sort_of_qualified.new.draft.labels (sexp_of c.in-Some.head) (sexps_of c.in-Some.args) (sexps_of c.args.parts)
+    (c.in-Some.ensures) (sym c.if-is_as.ensures) c.sort_of_qualified.ensures.labels
+
+pub sort_of_list-returns-then-is_as-clause-node : goal.sort_of_list-returns-then-is_as-clause-node
+sort_of_list-returns-then-is_as-clause-node t c =
+    subst (λ ps. IfOk c.sort_of_qualified.result (Stands c.args.self.now c.args.draft.now
+    c.sort_of_qualified.new.draft c.args.around (Items ps)))
+    (sym (c.in-Some.ensures ∙ ap (λ h. Cons h (sexps_of c.in-Some.args))
+    (as_head (sexp_of c.in-Some.head) (sym c.if-is_as.ensures)))) c.sort_of_qualified.ensures.node
+
 pub sort_of_list-returns-in_err-is_open-clause-sort : goal.sort_of_list-returns-in_err-is_open-clause-sort
 sort_of_list-returns-in_err-is_open-clause-sort t c =
     let p = err_from_is_err_and c.from_residual-in_err-is_open.result c.from_residual-in_err-is_open.ensures.1 in
@@ -505,7 +536,8 @@ sort_of_list-returns-in_err-is_open-clause-sort t c =
     (sexp_of c.in-Some.head) (sexps_of c.in-Some.args) (sexps_of c.args.parts)
     (identifier_view c.in_ok-identifier-2.identifier) _
     (c.in-Some.ensures)
-    (plain_head (sexp_of c.in-Some.head) c.if-is_underscore.ensures c.if-is_let.ensures c.if-is_bang.ensures)
+    (plain_head (sexp_of c.in-Some.head) c.if-is_underscore.ensures c.if-is_let.ensures c.if-is_bang.ensures
+    c.if-is_as.ensures)
     c.in_ok-identifier-2.ensures c.in_err-is_open.ensures.sorts)
 
 pub sort_of_list-returns-then-is_underscore-clause-sort :
@@ -562,7 +594,8 @@ sort_of_list-returns-in_err-checked-clause-sort t c =
     (tells_same _ _ _ (called_from c.args.self.now c.args.draft.now c.sorts_of.new.draft (sexp_of c.in-Some.head)
     (sexps_of c.in-Some.args) (sexps_of c.args.parts) (identifier_view c.in_ok-identifier-2.identifier)
     c.len-start-2.result found.0 (c.in-Some.ensures)
-    (plain_head (sexp_of c.in-Some.head) c.if-is_underscore.ensures c.if-is_let.ensures c.if-is_bang.ensures)
+    (plain_head (sexp_of c.in-Some.head) c.if-is_underscore.ensures c.if-is_let.ensures c.if-is_bang.ensures
+    c.if-is_as.ensures)
     c.in_ok-identifier-2.ensures found.1 found.2 c.len-start-2.ensures c.in_ok-is_open.ensures.kept)
     c.in_err-checked.ensures.sort)
 
@@ -572,7 +605,8 @@ sort_of_list-returns-clause-sort t c =
     called_from c.args.self.now c.args.draft.now c.sorts_of.new.draft (sexp_of c.in-Some.head)
     (sexps_of c.in-Some.args) (sexps_of c.args.parts) (identifier_view c.in_ok-identifier-2.identifier)
     c.len-start-2.result found.0 (c.in-Some.ensures)
-    (plain_head (sexp_of c.in-Some.head) c.if-is_underscore.ensures c.if-is_let.ensures c.if-is_bang.ensures)
+    (plain_head (sexp_of c.in-Some.head) c.if-is_underscore.ensures c.if-is_let.ensures c.if-is_bang.ensures
+    c.if-is_as.ensures)
     c.in_ok-identifier-2.ensures found.1 found.2 c.len-start-2.ensures c.in_ok-is_open.ensures.kept
     ∙ c.in_ok-checked.ensures.sort
 
@@ -583,7 +617,8 @@ sort_of_list-returns-clause-labels t c =
     given_by_args {E = TermFault} (Ok c.in_ok-checked.checked) names d.labels
     c.sort_of_call.new.draft.labels (sexp_of c.in-Some.head) (sexps_of c.in-Some.args) (sexps_of c.args.parts)
     (c.in-Some.ensures)
-    (plain_head (sexp_of c.in-Some.head) c.if-is_underscore.ensures c.if-is_let.ensures c.if-is_bang.ensures)
+    (plain_head (sexp_of c.in-Some.head) c.if-is_underscore.ensures c.if-is_let.ensures c.if-is_bang.ensures
+    c.if-is_as.ensures)
     (subst (λ ls. AreGiven names d.labels ls (labels_in_all (sexps_of c.in-Some.args)))
     (sym c.in_ok-checked.ensures.labels) c.in_ok-is_open.ensures.labels)
 
@@ -592,7 +627,8 @@ sort_of_list-returns-clause-open t c =
     c.in_ok-checked.ensures.open ∙ c.in_ok-is_open.ensures.open
     ∙ sym (open_args c.args.draft.now (sexp_of c.in-Some.head) (sexps_of c.in-Some.args)
     (sexps_of c.args.parts) (c.in-Some.ensures)
-    (plain_head (sexp_of c.in-Some.head) c.if-is_underscore.ensures c.if-is_let.ensures c.if-is_bang.ensures))
+    (plain_head (sexp_of c.in-Some.head) c.if-is_underscore.ensures c.if-is_let.ensures c.if-is_bang.ensures
+    c.if-is_as.ensures))
 
 pub sort_of_list-returns-clause-node : goal.sort_of_list-returns-clause-node
 sort_of_list-returns-clause-node t c =
@@ -610,7 +646,8 @@ sort_of_list-returns-clause-node t c =
     (call_stands c.args.self.now d mid new c.args.around (sexp_of c.in-Some.head) args
     (sexps_of c.args.parts) f (sorts_from start mid.arguments) (terms_from start mid.arguments) is_open checked
     (c.in-Some.ensures)
-    (plain_head (sexp_of c.in-Some.head) c.if-is_underscore.ensures c.if-is_let.ensures c.if-is_bang.ensures)
+    (plain_head (sexp_of c.in-Some.head) c.if-is_underscore.ensures c.if-is_let.ensures c.if-is_bang.ensures
+    c.if-is_as.ensures)
     c.in_ok-identifier-2.ensures c.in_ok-checked.ensures.open c.sorts_of.ensures.longer
     (subst (λ js. TermsStand c.args.self.now d mid args js is_open)
     (sym (terms_start d mid start nodes.0 c.len-start-2.ensures nodes.1)) nodes.2)

@@ -5,6 +5,7 @@ use Rattle.smt_terms.specs.Contents.{contents_of}
 use Rattle.smt_terms.specs.Internal.LibraryView.{abbreviations_of, sort_names}
 use Rattle.smt_terms.specs.Signature.{sort_names_of}
 use Rattle.smt_terms.specs.Declarations.{abbreviated_in}
+use Rattle.smt_terms.proofs.ApartLemmas.{apart_same}
 use Rattle.smt_terms.proofs.ContentsLemmas.{more_abbreviations, nothing_more}
 use Rattle.smt_terms.proofs.DefinitionLemmas.{same_fault}
 use Rattle.smt_terms.proofs.ItemLemmas.{sorts_as}
@@ -20,7 +21,7 @@ returns-clause-abbreviated c =
       more.0,
       ap (λ n. abbreviated_in n c.args.name.now (sexp_of c.args.sort))
           (sym (sorts_as old s stands)) ∙ more.1,
-      stands_abbreviated (contents_of old) _ s c.args.name.now more.0 c.abbreviate.ensures.theories more.2
+      stands_abbreviated (contents_of old) _ s c.args.name.now more.0 c.abbreviate.ensures.theories refl more.2
           refl refl refl refl refl refl stands,
     ))
     c.abbreviate.ensures.abbreviated
@@ -41,6 +42,7 @@ returns-clause-unchanged c =
     on_err_weaker c.abbreviate.result
     (λ same s stands. stands_still (contents_of c.args.self.now) _ s (record {
       theories = c.abbreviate.ensures.theories;
+      elements = refl;
       abbreviations = same;
       ranks = refl;
       heads = refl;
@@ -53,6 +55,7 @@ returns-clause-unchanged c =
 pub returns-clause-grown : goal.returns-clause-grown
 returns-clause-grown c = record {
   theories = c.abbreviate.ensures.theories;
+  elements = refl;
   abbreviations = more_abbreviations
       (λ found. abbreviated_in (sort_names c.args.self.now.sorts) c.args.name.now (sexp_of c.args.sort)
       ≡ Ok found) c.abbreviate.result (abbreviations_of c.args.self.now.sorts)
@@ -60,6 +63,7 @@ returns-clause-grown c = record {
       c.abbreviate.ensures.unchanged;
   ranks = nothing_more _ _ refl;
   heads = nothing_more _ _ refl;
+  apart = apart_same _ _ _ refl;
   declared = nothing_more _ _ refl;
   definitions = nothing_more _ _ refl;
   bodies = nothing_more _ _ refl;
@@ -69,5 +73,5 @@ returns-clause-grown c = record {
 pub returns-clause-restored : goal.returns-clause-restored
 returns-clause-restored c =
     on_err_weaker c.abbreviate.result
-    (λ same. same_contents _ (contents_of c.args.self.now) c.abbreviate.ensures.theories same refl refl refl refl refl
+    (λ same. same_contents _ (contents_of c.args.self.now) c.abbreviate.ensures.theories refl same refl refl refl refl refl
     refl) c.abbreviate.ensures.unchanged

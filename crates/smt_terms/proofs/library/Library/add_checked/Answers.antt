@@ -12,6 +12,7 @@ use Rattle.smt_terms.specs.Internal.LibraryView.{names_for, names_of_library}
 use Rattle.smt_terms.specs.Internal.TableView.{names_of_definitions}
 use Rattle.smt_terms.specs.Signature.{names_of, with_entry}
 use Rattle.smt_terms.specs.declared.library.Definition.{Definition}
+use Rattle.smt_terms.proofs.ApartLemmas.{apart_same}
 use Rattle.smt_terms.proofs.BodyLemmas.{ready}
 use Rattle.smt_terms.proofs.ContentsLemmas.{extends_on, grown_by, nothing_more}
 use Rattle.smt_terms.proofs.DefinitionLemmas.{definition_by, fault_of_body, same_fault}
@@ -40,7 +41,7 @@ returns-in_err-checked-clause-grown c =
     let e = c.check_whole.ensures in
     grown_by (contents_of c.args.self.now) (contents_of c.check_whole.new.self)
     (checked_keeps c.check_whole.result c.args.self.now c.check_whole.new.self e.grown e.unchanged e.names e.sorts
-    e.declared e.definitions e.bodies)
+    e.elements e.declared e.definitions e.bodies)
 
 pub returns-then-not-are_equal-clause-refused : goal.returns-then-not-are_equal-clause-refused
 returns-then-not-are_equal-clause-refused c =
@@ -57,21 +58,21 @@ returns-then-not-are_equal-clause-grown c =
     let e = c.check_whole.ensures in
     grown_by (contents_of c.args.self.now) (contents_of c.check_whole.new.self)
     (checked_keeps c.check_whole.result c.args.self.now c.check_whole.new.self e.grown e.unchanged e.names e.sorts
-    e.declared e.definitions e.bodies)
+    e.elements e.declared e.definitions e.bodies)
 
 pub returns-in_err-insert_definition-clause-grown : goal.returns-in_err-insert_definition-clause-grown
 returns-in_err-insert_definition-clause-grown c =
     let e = c.check_whole.ensures in
     extends_on _ _ _ (grown_by (contents_of c.args.self.now) (contents_of c.check_whole.new.self)
     (checked_keeps c.check_whole.result c.args.self.now c.check_whole.new.self e.grown e.unchanged e.names e.sorts
-    e.declared e.definitions e.bodies)) c.insert_definition.ensures.grown
+    e.elements e.declared e.definitions e.bodies)) c.insert_definition.ensures.grown
 
 pub returns-clause-grown : goal.returns-clause-grown
 returns-clause-grown c =
     let e = c.check_whole.ensures in
     extends_on _ _ _ (grown_by (contents_of c.args.self.now) (contents_of c.check_whole.new.self)
     (checked_keeps c.check_whole.result c.args.self.now c.check_whole.new.self e.grown e.unchanged e.names e.sorts
-    e.declared e.definitions e.bodies)) c.insert_definition.ensures.grown
+    e.elements e.declared e.definitions e.bodies)) c.insert_definition.ensures.grown
 
 pub returns-clause-added : goal.returns-clause-added
 returns-clause-added c = λ s stands.
@@ -87,12 +88,13 @@ returns-clause-added c = λ s stands.
     let bodies = and_more before (c.args.name.now ∷ []) (node ∷ []) in
     let kept =
     (checked_keeps c.check_whole.result c.args.self.now c.check_whole.new.self e.grown e.unchanged e.names e.sorts
-    e.declared e.definitions e.bodies) in
+    e.elements e.declared e.definitions e.bodies) in
     let none =
     none_given old (labels_view c.refused.result) ps t c.in_ok-checked.checked.sort given c.refused.ensures.view
     c.in_ok-checked.ensures.sort c.in_ok-checked.ensures.given.0 in
     let longer =
-    checked_longer old now given rows bodies kept.theories (nothing_more _ _ kept.heads)
+    checked_longer old now given rows bodies kept.theories kept.elements (nothing_more _ _ kept.heads)
+    (apart_same _ _ _ kept.heads)
     (none_more (λ l. l.name.items) before.names given bodies.names none (c.args.name.now ∷ [], refl))
     (none_more (λ l. l.node) before.nodes given bodies.nodes none (node ∷ [], refl)) (nothing_more _ _ refl) in (
       definition c.args.name.now ps c.args.sort t,

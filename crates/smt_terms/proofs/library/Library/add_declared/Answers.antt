@@ -10,7 +10,8 @@ use Rattle.smt_terms.specs.Internal.LibraryView.{abbreviations_of, ranks_of_libr
 use Rattle.smt_terms.specs.Internal.TableView.{heads_of_library}
 use Rattle.smt_terms.specs.declared.library.Found.TheVariants as place
 use Rattle.smt_terms.specs.declared.sorts.SortNames.{SortNames}
-use Rattle.smt_terms.proofs.ContentsLemmas.{extends_itself, nothing_more, same_contents}
+use Rattle.smt_terms.proofs.ApartLemmas.{apart_one, apart_same}
+use Rattle.smt_terms.proofs.ContentsLemmas.{extends_itself, nothing_more, same_contents, same_elements}
 use Rattle.smt_terms.proofs.StandsLemmas.{counted, on_err, stands_declared, stands_still}
 use Rattle.smt_terms.proofs.library.Library.add_declared.Goals as goal
 
@@ -19,6 +20,7 @@ returns-in_err-push-clause-unchanged c =
     on_err c.from_residual-in_err-push.result
     (λ s stands. stands_still (contents_of c.args.self.now) _ s (record {
       theories = refl;
+      elements = refl;
       abbreviations = refl;
       ranks = refl;
       heads = refl;
@@ -31,15 +33,17 @@ returns-in_err-push-clause-unchanged c =
 pub returns-in_err-push-clause-restored : goal.returns-in_err-push-clause-restored
 returns-in_err-push-clause-restored c =
     on_err c.from_residual-in_err-push.result
-    (same_contents _ (contents_of c.args.self.now) refl refl refl refl
+    (same_contents _ (contents_of c.args.self.now) refl refl refl refl refl
     (ap (map declaration_view) c.in_err-push.ensures.items) refl refl refl)
 
 pub returns-in_err-push-clause-grown : goal.returns-in_err-push-clause-grown
 returns-in_err-push-clause-grown c = record {
   theories = refl;
+  elements = refl;
   abbreviations = nothing_more _ _ refl;
   ranks = nothing_more _ _ refl;
   heads = nothing_more _ _ refl;
+  apart = apart_same _ _ _ refl;
   declared = nothing_more _ _ (ap (map declaration_view) c.in_err-push.ensures.items);
   definitions = nothing_more _ _ refl;
   bodies = nothing_more _ _ refl;
@@ -58,7 +62,8 @@ returns-in-Err-clause-restored c =
       c.in_ok-push.ensures.items,
     ) in
     same_contents _ (contents_of c.args.self.now)
-    (ap (λ (z : SortNames). z.theories) c.insert.ensures.sorts) (ap abbreviations_of c.insert.ensures.sorts)
+    (ap (λ (z : SortNames). z.theories) c.insert.ensures.sorts) (same_elements c.insert.ensures.elements)
+    (ap abbreviations_of c.insert.ensures.sorts)
     c.in-Err.ensures.unchanged.0 c.in-Err.ensures.unchanged.1 (ap (map declaration_view) same)
     c.insert.ensures.definitions c.insert.ensures.bodies (ap rows_of c.insert.ensures.nodes)
 
@@ -79,8 +84,9 @@ returns-in-Ok-clause-added c =
     in
     λ s stands.
     stands_declared (contents_of old) (contents_of c.insert.new.self) s c.args.name.now
-    (declaration_view c.args.declared) c.requires.absent c.requires.free c.requires.next
-    (ap (λ (z : SortNames). z.theories) c.insert.ensures.sorts)
+    (declaration_view c.args.declared) c.requires.absent c.requires.free
+    c.requires.apart c.requires.next
+    (ap (λ (z : SortNames). z.theories) c.insert.ensures.sorts) (same_elements c.insert.ensures.elements)
     (ap abbreviations_of c.insert.ensures.sorts)
     (c.in-Ok.ensures.ranks ∙ ap
     (λ (ps : List Sort). ranks_of_library old
@@ -108,9 +114,11 @@ returns-in-Ok-clause-added c =
 pub returns-in-Ok-clause-grown : goal.returns-in-Ok-clause-grown
 returns-in-Ok-clause-grown c = record {
   theories = ap (λ (z : SortNames). z.theories) c.insert.ensures.sorts;
+  elements = same_elements c.insert.ensures.elements;
   abbreviations = nothing_more _ _ (ap abbreviations_of c.insert.ensures.sorts);
   ranks = (_, c.in-Ok.ensures.ranks);
   heads = (_, c.in-Ok.ensures.heads);
+  apart = apart_one _ _ _ c.args.name.now _ c.in-Ok.ensures.heads c.requires.apart;
   declared = (
     _,
     ap (map declaration_view) (c.insert.ensures.declared ∙ c.in_ok-push.ensures.items) ∙

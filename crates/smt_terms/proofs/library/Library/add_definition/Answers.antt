@@ -16,8 +16,5 @@ returns-in-Err-clause-grown c =
     subst (λ d. Extends (contents_of c.args.self.now) d) (sym (returns-in-Err-clause-restored c))
     (extends_itself (contents_of c.args.self.now))
 
-pub returns-in-Err-clause-theories : goal.returns-in-Err-clause-theories
-returns-in-Err-clause-theories c = ap (λ d. d.theories) (returns-in-Err-clause-restored c)
-
 pub returns-in-Err-clause-transient : goal.returns-in-Err-clause-transient
 returns-in-Err-clause-transient c = c.cut.ensures.transient ∙ ap rows_of c.add_checked.ensures.transient

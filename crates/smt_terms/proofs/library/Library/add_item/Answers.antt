@@ -1,5 +1,6 @@
 use Rattle.std.proofs.Common.{ap, subst, sym, ◌∙◌}
 use Rattle.std.proofs.lemmas.Result.{IfErr-weaker, on_err_weaker, on_ok_weaker}
+use Rattle.smt_terms.specs.Elements.{element_among}
 use Rattle.smt_terms.specs.Definitions.{definition_in}
 use Rattle.smt_forms.specs.ItemView.{item_view}
 use Rattle.smt_terms.specs.Items.{form_in}
@@ -9,6 +10,16 @@ use Rattle.smt_terms.specs.Signature.{names_of}
 use Rattle.smt_terms.proofs.DefinitionLemmas.{same_fault}
 use Rattle.smt_terms.proofs.ItemLemmas.{item_is_free, item_step}
 use Rattle.smt_terms.proofs.library.Library.add_item.Goals as goal
+
+pub add_definition-requires-clause-apart : goal.add_definition-requires-clause-apart
+add_definition-requires-clause-apart c =
+    ap (λ es. element_among es c.args.form.name.now) c.requires.elements ∙ c.in_ok-check_name.ensures.apart
+
+pub returns-clause-reads : goal.returns-clause-reads
+returns-clause-reads c = record {
+  theories = c.add_definition.ensures.grown.theories ∙ c.requires.theories;
+  elements = c.add_definition.ensures.grown.elements ∙ c.requires.elements;
+}
 
 pub returns-clause-defined : goal.returns-clause-defined
 returns-clause-defined c =

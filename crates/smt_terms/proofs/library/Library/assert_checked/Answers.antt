@@ -5,11 +5,12 @@ use Rattle.smt_trees.specs.View.{sexp_of}
 use Rattle.smt_terms.specs.Contents.{contents_of, terms_in}
 use Rattle.smt_terms.specs.Internal.Growing.{AreFitUnder, HoldsUnder, bodies_in}
 use Rattle.smt_terms.specs.Internal.LabelsView.{AreNew, label_entry, labels_view}
-use Rattle.smt_terms.specs.Internal.LibraryView.{ranks_of_library}
+use Rattle.smt_terms.specs.Internal.LibraryView.{elements_of_library, ranks_of_library}
 use Rattle.smt_terms.specs.Internal.TableView.{names_of_definitions, table_with}
 use Rattle.smt_terms.specs.Signature.{with_entries}
 use Rattle.smt_terms.proofs.AssertionLemmas.{asserted_by, asserted_fault, asserted_ill, given_are_new}
 use Rattle.smt_terms.proofs.AssertionLemmas.{given_named, labels_added}
+use Rattle.smt_terms.proofs.ApartLemmas.{apart_same}
 use Rattle.smt_terms.proofs.BodyLemmas.{ready}
 use Rattle.smt_terms.proofs.ContentsLemmas.{extends_on, grown_by, nothing_more}
 use Rattle.smt_terms.proofs.DenotesLemmas.{denotes_kept}
@@ -23,19 +24,21 @@ add_labels-requires c =
     let e = c.check_whole.ensures in
     let kept =
     (checked_keeps c.check_whole.result c.args.self.now c.check_whole.new.self e.grown e.unchanged e.names e.sorts
-    e.declared e.definitions e.bodies) in
-    subst (λ ls. AreNew (ranks_of_library c.check_whole.new.self) ls) (sym c.as_slice.ensures.value)
-    (subst (λ rs. AreNew rs c.in_ok-checked.given.items) (sym kept.ranks)
+    e.elements e.declared e.definitions e.bodies) in
+    subst (λ ls. AreNew (elements_of_library c.check_whole.new.self) (ranks_of_library c.check_whole.new.self) ls)
+    (sym c.as_slice.ensures.value)
+    (subst (λ rs. AreNew (elements_of_library c.check_whole.new.self) rs c.in_ok-checked.given.items) (sym kept.ranks)
+    (subst (λ es. AreNew es (ranks_of_library old) c.in_ok-checked.given.items) (sym kept.elements)
     (given_are_new old (labels_view c.new.result) c.in_ok-checked.given.items (sexp_of c.args.term)
     c.in_ok-checked.checked.sort c.new.ensures.view c.in_ok-checked.ensures.sort
-    c.in_ok-checked.ensures.given.0))
+    c.in_ok-checked.ensures.given.0)))
 
 pub returns-in_err-checked-clause-grown : goal.returns-in_err-checked-clause-grown
 returns-in_err-checked-clause-grown c =
     let e = c.check_whole.ensures in
     grown_by (contents_of c.args.self.now) (contents_of c.check_whole.new.self)
     (checked_keeps c.check_whole.result c.args.self.now c.check_whole.new.self e.grown e.unchanged e.names e.sorts
-    e.declared e.definitions e.bodies)
+    e.elements e.declared e.definitions e.bodies)
 
 pub returns-in_err-checked-clause-refused : goal.returns-in_err-checked-clause-refused
 returns-in_err-checked-clause-refused c =
@@ -54,7 +57,7 @@ returns-then-not-are_equal-clause-grown c =
     let e = c.check_whole.ensures in
     grown_by (contents_of c.args.self.now) (contents_of c.check_whole.new.self)
     (checked_keeps c.check_whole.result c.args.self.now c.check_whole.new.self e.grown e.unchanged e.names e.sorts
-    e.declared e.definitions e.bodies)
+    e.elements e.declared e.definitions e.bodies)
 
 pub returns-clause-asserted : goal.returns-clause-asserted
 returns-clause-asserted c = λ s stands.
@@ -72,9 +75,10 @@ returns-clause-asserted c = λ s stands.
     let bodies = and_more before names nodes in
     let kept =
     (checked_keeps c.check_whole.result c.args.self.now c.check_whole.new.self e.grown e.unchanged e.names e.sorts
-    e.declared e.definitions e.bodies) in
+    e.elements e.declared e.definitions e.bodies) in
     let longer =
-    checked_longer old now given rows bodies kept.theories (nothing_more _ _ kept.heads) (nothing_more _ _ refl)
+    checked_longer old now given rows bodies kept.theories kept.elements (nothing_more _ _ kept.heads)
+    (apart_same _ _ _ kept.heads) (nothing_more _ _ refl)
     (nothing_more _ _ refl) (nothing_more _ _ refl) in
     let fits =
     given_named old labels given term sort rows bodies now s stands c.new.ensures.view
@@ -106,10 +110,10 @@ returns-clause-term c = λ s stands.
     let rows = rows_of c.check_whole.new.self.nodes in
     let kept =
     (checked_keeps c.check_whole.result c.args.self.now c.check_whole.new.self e.grown e.unchanged e.names e.sorts
-    e.declared e.definitions e.bodies) in
+    e.elements e.declared e.definitions e.bodies) in
     let more = extends_on _ _ _ (grown_by _ _ kept) c.add_labels.ensures.grown in
     let longer =
-    checked_longer old new given rows (bodies_in new) more.theories more.heads
+    checked_longer old new given rows (bodies_in new) more.theories more.elements more.heads more.apart
     (nothing_more _ _
     (labels_added (λ l. l.name.items) _ _ given c.in_ok-add_labels.ensures.names
     (ap names_of_definitions kept.definitions) c.as_slice.ensures.value))
@@ -126,11 +130,11 @@ returns-clause-grown c =
     let e = c.check_whole.ensures in
     extends_on _ _ _ (grown_by (contents_of c.args.self.now) (contents_of c.check_whole.new.self)
     (checked_keeps c.check_whole.result c.args.self.now c.check_whole.new.self e.grown e.unchanged e.names e.sorts
-    e.declared e.definitions e.bodies)) c.add_labels.ensures.grown
+    e.elements e.declared e.definitions e.bodies)) c.add_labels.ensures.grown
 
 pub returns-in_err-add_labels-clause-grown : goal.returns-in_err-add_labels-clause-grown
 returns-in_err-add_labels-clause-grown c =
     let e = c.check_whole.ensures in
     extends_on _ _ _ (grown_by (contents_of c.args.self.now) (contents_of c.check_whole.new.self)
     (checked_keeps c.check_whole.result c.args.self.now c.check_whole.new.self e.grown e.unchanged e.names e.sorts
-    e.declared e.definitions e.bodies)) c.add_labels.ensures.grown
+    e.elements e.declared e.definitions e.bodies)) c.add_labels.ensures.grown

@@ -13,14 +13,17 @@ returns-then-is_unfit-clause-flaw c = λ s m stands items.
     name_flaw_by s m.entries c.args.name.now false true
     (in_force c.args.self.now m c.args.name.now c.has_entry.result false items c.has_entry.ensures
     c.if-has_entry.false)
-    (sym c.if-is_unfit.true ∙ c.is_unfit.ensures s stands)
+    (sym c.if-is_unfit.true ∙ c.is_unfit.ensures.unfit s stands)
 
 pub returns-clause-flaw : goal.returns-clause-flaw
 returns-clause-flaw c = λ s m stands items.
     name_flaw_by s m.entries c.args.name.now false false
     (in_force c.args.self.now m c.args.name.now c.has_entry.result false items c.has_entry.ensures
     c.if-has_entry.false)
-    (sym c.if-is_unfit.false ∙ c.is_unfit.ensures s stands)
+    (sym c.if-is_unfit.false ∙ c.is_unfit.ensures.unfit s stands)
 
 pub returns-clause-absent : goal.returns-clause-absent
 returns-clause-absent c = search rules
+
+pub returns-clause-apart : goal.returns-clause-apart
+returns-clause-apart c = c.is_unfit.ensures.apart c.if-is_unfit.false

@@ -11,6 +11,7 @@ use Rattle.smt_terms.specs.Internal.LibraryView.{names_for}
 use Rattle.smt_terms.specs.Internal.TableView.{table_in}
 use Rattle.smt_terms.specs.Library.{held_terms_of, terms_of}
 use Rattle.smt_terms.specs.declared.labels.Labels.{Labels}
+use Rattle.smt_terms.proofs.ApartLemmas.{apart_same}
 use Rattle.smt_terms.proofs.BodyLemmas.{ready}
 use Rattle.smt_terms.proofs.ContentsLemmas.{nothing_more}
 use Rattle.smt_terms.proofs.DenotesLemmas.{denotes_kept}
@@ -35,7 +36,9 @@ returns-in-Ok-clause-kept c = λ i t is.
     let grown = returns-in-Ok-clause-grown c in
     denotes_kept (terms_of old) (terms_of new) (record {
       theories = refl;
+      elements = refl;
       heads = nothing_more _ _ refl;
+      apart = apart_same _ _ _ refl;
       names = nothing_more _ _ refl;
       bodies = nothing_more _ _ refl;
       rows = (
@@ -86,7 +89,9 @@ returns-in-Ok-clause-answer c = λ s stands.
     let moved = c.new-draft.ensures.nodes ∙ c.replace-nodes.ensures.value in
     let is_ready = ready_longer (held_terms_of old) (table_in old draft) (record {
       theories = refl;
+      elements = refl;
       heads = nothing_more _ _ refl;
+      apart = apart_same _ _ _ refl;
       names = (_, refl);
       bodies = (_, refl);
       rows = (_, refl);
@@ -95,7 +100,9 @@ returns-in-Ok-clause-answer c = λ s stands.
           ∙ without_labels old (labels_view c.refused-labels.result) [] t _ c.refused-labels.ensures.view sort,
       denotes_kept (table_in old last) (terms_of new) (record {
         theories = refl;
+        elements = refl;
         heads = nothing_more _ _ refl;
+        apart = apart_same _ _ _ refl;
         names = none_more (λ l. l.name.items) _ last.labels.given.items _ no_more (nothing_more _ _ refl);
         bodies = none_more (λ l. l.node) old.bodies.items last.labels.given.items _ no_more (nothing_more _ _ refl);
         rows = nothing_more _ _

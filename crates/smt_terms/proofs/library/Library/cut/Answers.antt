@@ -13,7 +13,7 @@ pub returns-clause-left : goal.returns-clause-left
 returns-clause-left c =
     let old = c.args.self.now in
     let mark = c.args.mark in
-    same_contents _ (first_of mark (contents_of old)) refl
+    same_contents _ (first_of mark (contents_of old)) refl refl
     c.truncate-6.ensures
     (mapped (λ p. (p.0, rank_of p.1)) mark.names (entries_of old.names) (entries_of c.truncate.new.self)
     c.truncate.ensures)

@@ -1,10 +1,13 @@
 use Rattle.std.proofs.Common.{rules, sym}
 use Rattle.smt_terms.proofs.ClosedLemmas.{neither}
-use Rattle.smt_terms.proofs.NameLookUps.{not_taken}
+use Rattle.smt_terms.proofs.NameLookUps.{free_name}
 use Rattle.smt_terms.proofs.library.Library.declare.Goals as goal
 
 pub add_declared-requires-clause-absent : goal.add_declared-requires-clause-absent
-add_declared-requires-clause-absent c = not_taken _ _ (sym c.if-is_taken.ensures)
+add_declared-requires-clause-absent c = (free_name _ _ _ (sym c.if-is_taken.ensures)).1
+
+pub add_declared-requires-clause-apart : goal.add_declared-requires-clause-apart
+add_declared-requires-clause-apart c = (free_name _ _ _ (sym c.if-is_taken.ensures)).0
 
 pub add_declared-requires-clause-free : goal.add_declared-requires-clause-free
 add_declared-requires-clause-free c = (neither _ _ (sym c.if-is_taken.ensures)).1

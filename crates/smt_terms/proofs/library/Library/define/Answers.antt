@@ -8,11 +8,14 @@ use Rattle.smt_terms.specs.Library.{Holds}
 use Rattle.smt_terms.specs.Signature.{names_of}
 use Rattle.smt_terms.proofs.DefinitionLemmas.{define_step, same_fault}
 use Rattle.smt_terms.proofs.ItemLemmas.{not_operator}
-use Rattle.smt_terms.proofs.NameLookUps.{not_taken}
+use Rattle.smt_terms.proofs.NameLookUps.{free_name}
 use Rattle.smt_terms.proofs.library.Library.define.Goals as goal
 
-pub add_definition-requires : goal.add_definition-requires
-add_definition-requires c = not_taken _ _ (sym c.if-is_taken.ensures)
+pub add_definition-requires-clause-absent : goal.add_definition-requires-clause-absent
+add_definition-requires-clause-absent c = (free_name _ _ _ (sym c.if-is_taken.ensures)).1
+
+pub add_definition-requires-clause-apart : goal.add_definition-requires-clause-apart
+add_definition-requires-clause-apart c = (free_name _ _ _ (sym c.if-is_taken.ensures)).0
 
 pub returns-clause-defined : goal.returns-clause-defined
 returns-clause-defined c =

@@ -1,8 +1,14 @@
-use Rattle.std.proofs.Common.{rules}
+use Rattle.std.proofs.Common.{[], subst, sym}
+use Rattle.smt_terms.specs.Contents.{contents_of}
+use Rattle.smt_terms.specs.Items.{items_before}
+use Rattle.smt_terms.specs.Library.{Holds}
+use Rattle.smt_terms.proofs.ItemLemmas.{for_items}
 use Rattle.smt_terms.proofs.library.Library.for_model.Goals as goal
 
 pub returns-clause-names : goal.returns-clause-names
-returns-clause-names c = search rules
+returns-clause-names c = λ s stands.
+    subst (λ es. Holds (record (contents_of c.new-library.result) { elements = es }) (items_before s []))
+    (sym c.lent-library.ensures) (for_items c.args.self.now c.new-library.result s stands c.new-library.ensures.stands)
 
-pub returns-clause-theories : goal.returns-clause-theories
-returns-clause-theories c = search rules
+pub returns-clause-reads : goal.returns-clause-reads
+returns-clause-reads c = record { theories = c.new-library.ensures.stands.theories; elements = c.lent-library.ensures }

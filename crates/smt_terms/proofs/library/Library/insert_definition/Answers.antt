@@ -10,7 +10,8 @@ use Rattle.smt_terms.specs.Internal.TableView.{heads_of_library, names_of_defini
 use Rattle.smt_terms.specs.declared.library.Definition.{Definition}
 use Rattle.smt_terms.specs.declared.library.Found.TheVariants as place
 use Rattle.smt_terms.specs.declared.sorts.SortNames.{SortNames}
-use Rattle.smt_terms.proofs.ContentsLemmas.{grown_by, nothing_more}
+use Rattle.smt_terms.proofs.ApartLemmas.{apart_one, apart_same}
+use Rattle.smt_terms.proofs.ContentsLemmas.{grown_by, nothing_more, same_elements}
 use Rattle.smt_forms.specs.ScopeView.{scope_view}
 use Rattle.smt_terms.proofs.StandsLemmas.{counted, on_err, stands_defined, undone_push}
 use Rattle.smt_terms.proofs.library.Library.insert_definition.Goals as goal
@@ -18,6 +19,7 @@ use Rattle.smt_terms.proofs.library.Library.insert_definition.Goals as goal
 pub returns-in_err-push_definition-clause-unchanged : goal.returns-in_err-push_definition-clause-unchanged
 returns-in_err-push_definition-clause-unchanged c = on_err c.from_residual-in_err-push_definition.result (record {
   theories = ap (λ (z : SortNames). z.theories) c.push_definition.ensures.sorts;
+  elements = same_elements c.push_definition.ensures.elements;
   abbreviations = ap abbreviations_of c.push_definition.ensures.sorts;
   ranks = rw c.push_definition.ensures.names refl;
   heads = rw c.push_definition.ensures.names refl;
@@ -30,9 +32,11 @@ returns-in_err-push_definition-clause-unchanged c = on_err c.from_residual-in_er
 pub returns-in_err-push_definition-clause-grown : goal.returns-in_err-push_definition-clause-grown
 returns-in_err-push_definition-clause-grown c = record {
   theories = ap (λ (z : SortNames). z.theories) c.push_definition.ensures.sorts;
+  elements = same_elements c.push_definition.ensures.elements;
   abbreviations = nothing_more _ _ (ap abbreviations_of c.push_definition.ensures.sorts);
   ranks = nothing_more _ _ (rw c.push_definition.ensures.names refl);
   heads = nothing_more _ _ (rw c.push_definition.ensures.names refl);
+  apart = apart_same _ _ _ (rw c.push_definition.ensures.names refl);
   declared = nothing_more _ _ (rw c.push_definition.ensures.declared refl);
   definitions = nothing_more _ _ c.in_err-push_definition.ensures.unchanged.0;
   bodies = nothing_more _ _ c.in_err-push_definition.ensures.unchanged.1;
@@ -46,6 +50,7 @@ returns-in-Err-clause-unchanged c =
     let last = c.pop_definition.ensures in
     record {
       theories = ap (λ (z : SortNames). z.theories) (last.sorts ∙ then.sorts ∙ first.sorts);
+      elements = same_elements (last.elements ∙ then.elements ∙ first.elements);
       abbreviations = ap abbreviations_of (last.sorts ∙ then.sorts ∙ first.sorts);
       ranks = rw last.names (c.in-Err.ensures.unchanged.0 ∙ rw first.names refl);
       heads = rw last.names (c.in-Err.ensures.unchanged.1 ∙ rw first.names refl);
@@ -74,9 +79,10 @@ returns-in-Ok-clause-added c = λ bodies s t stands free node.
     let old = c.args.self.now in
     let names : heads_of_library c.push_definition.new.self ≡ heads_of_library old = rw first.names refl in
     stands_defined bodies (contents_of old) (contents_of c.insert.new.self) s c.args.name.now
-    (scope_view c.args.parameters.now) _ t c.args.node c.requires free c.in_ok-from_slice.ensures.items
+    (scope_view c.args.parameters.now) _ t c.args.node c.requires.absent free c.requires.apart
+    c.in_ok-from_slice.ensures.items
     c.in_ok-named_parameters.ensures node
-    (ap (λ (z : SortNames). z.theories) (then.sorts ∙ first.sorts))
+    (ap (λ (z : SortNames). z.theories) (then.sorts ∙ first.sorts)) (same_elements (then.elements ∙ first.elements))
     (ap abbreviations_of (then.sorts ∙ first.sorts))
     (returns-in-Ok-clause-ranks c)
     (c.in-Ok.ensures.heads ∙ ap (λ (hs : List (List ℕ × Head)). hs ++ (
@@ -121,26 +127,26 @@ returns-in-Ok-clause-grown c =
     let then = c.insert.ensures in
     let names : heads_of_library c.push_definition.new.self ≡ heads_of_library c.args.self.now =
     rw first.names refl in
+    let heads : heads_of_library c.insert.new.self ≡ heads_of_library c.args.self.now ++ (
+      c.args.name.now,
+      record {
+        place = place.Defined c.len.result;
+        arity = length c.in_ok-sorts_of_variables.field-0.items;
+      },
+    ) ∷ [] = c.in-Ok.ensures.heads ∙ ap (λ (hs : List (List ℕ × Head)). hs ++ (
+      c.args.name.now,
+      record {
+        place = place.Defined c.len.result;
+        arity = length c.in_ok-sorts_of_variables.field-0.items;
+      },
+    ) ∷ []) names in
     record {
       theories = ap (λ (z : SortNames). z.theories) (then.sorts ∙ first.sorts);
+      elements = same_elements (then.elements ∙ first.elements);
       abbreviations = nothing_more _ _ (ap abbreviations_of (then.sorts ∙ first.sorts));
       ranks = (_, returns-in-Ok-clause-ranks c);
-      heads = (
-        (
-          c.args.name.now,
-          record {
-            place = place.Defined c.len.result;
-            arity = length c.in_ok-sorts_of_variables.field-0.items;
-          },
-        ) ∷ [],
-        c.in-Ok.ensures.heads ∙ ap (λ (hs : List (List ℕ × Head)). hs ++ (
-          c.args.name.now,
-          record {
-            place = place.Defined c.len.result;
-            arity = length c.in_ok-sorts_of_variables.field-0.items;
-          },
-        ) ∷ []) names,
-      );
+      heads = (_, heads);
+      apart = apart_one _ _ _ c.args.name.now _ heads c.requires.apart;
       declared = nothing_more _ _ (ap (map declaration_view) then.declared ∙ rw first.declared refl);
       definitions = (_, then.definitions ∙ c.in_ok-push_definition.ensures.definitions);
       bodies = (_, then.bodies ∙ c.in_ok-push_definition.ensures.bodies);

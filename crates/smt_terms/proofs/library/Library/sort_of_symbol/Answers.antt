@@ -2,12 +2,10 @@ use Rattle.std.proofs.Common.{Ok, option_map, ap, sym, subst, ◌∙◌}
 use Rattle.smt_trees.specs.Sexp.{Atom, Symbol}
 use Rattle.smt_nodes.specs.Node as node
 use Rattle.smt_theory.specs.declared.sort.Sort.{Sort}
-use Rattle.smt_forms.specs.Identifier.{Plain}
 use Rattle.smt_terms.specs.Checking as checking
-use Rattle.smt_terms.specs.Internal.DraftView.{is_open, seen_by, sorts_from, terms_from}
-use Rattle.smt_terms.proofs.ArgumentLemmas.{applied_alone, no_sorts}
+use Rattle.smt_terms.specs.Internal.DraftView.{is_open, seen_by}
 use Rattle.smt_terms.specs.Internal.LibraryView.{names_of_library}
-use Rattle.smt_terms.specs.Internal.NodesView.{AddsApplied, AddsNode, Stands}
+use Rattle.smt_terms.specs.Internal.NodesView.{AddsAlone, AddsNode, Stands}
 use Rattle.smt_terms.specs.declared.library.draft.Bound.{Bound}
 use Rattle.smt_terms.proofs.DraftLemmas.{carried_open, carried_sort, look_up-sorts, open-none, open-some}
 use Rattle.smt_terms.proofs.NodeLemmas.{if_answered, symbol_stands, variable_stands}
@@ -37,28 +35,22 @@ returns-in_ok-push-in-Some-clause-node c =
 pub returns-in-None-clause-sort : goal.returns-in-None-clause-sort
 returns-in-None-clause-sort c =
     let names = names_of_library c.args.self.now in
-    carried_sort c.sort_of_plain.result _ _
+    carried_sort c.sort_of_alone.result _ _
     (ap (checking.sort_of_symbol names c.args.name.now)
     (look_up-sorts (seen_by c.args.draft.now) c.args.name.now
-    ∙ ap (option_map (λ (b : Bound). b.sort)) (sym c.find.ensures ∙ c.in-None.is))
-    ∙ ap (λ ss. checking.sort_applied names (Plain c.args.name.now) ss)
-    (sym (no_sorts c.args.draft.now c.len-start.result c.len-start.ensures))) c.sort_of_plain.ensures.sort
+    ∙ ap (option_map (λ (b : Bound). b.sort)) (sym c.find.ensures ∙ c.in-None.is))) c.sort_of_alone.ensures.sort
 
 pub returns-in-None-clause-open : goal.returns-in-None-clause-open
 returns-in-None-clause-open c =
-    carried_open c.sort_of_plain.result _ (is_open c.args.draft.now (Atom Symbol c.args.name.now))
+    carried_open c.sort_of_alone.result _ (is_open c.args.draft.now (Atom Symbol c.args.name.now))
     (open-none (seen_by c.args.draft.now) c.args.draft.now.base c.args.name.now
-    (sym c.find.ensures ∙ c.in-None.is)) c.sort_of_plain.ensures.open
+    (sym c.find.ensures ∙ c.in-None.is)) c.sort_of_alone.ensures.open
 
 pub returns-in-None-clause-node : goal.returns-in-None-clause-node
 returns-in-None-clause-node c =
     let d = c.args.draft.now in
-    let new = c.sort_of_plain.new.draft in
-    if_answered c.sort_of_plain.result
-    (AddsApplied c.args.self.now d new c.args.around (Plain c.args.name.now) (sorts_from c.len-start.result d.arguments)
-    (terms_from c.len-start.result d.arguments))
+    let new = c.sort_of_alone.new.draft in
+    if_answered c.sort_of_alone.result (AddsAlone c.args.self.now d new c.args.around c.args.name.now)
     (Stands c.args.self.now d new c.args.around (Atom Symbol c.args.name.now))
-    (λ found adds. symbol_stands c.args.self.now d new c.args.around c.args.name.now found (sym c.find.ensures ∙ c.in-None.is)
-    c.sort_of_plain.ensures.longer
-    (applied_alone c.args.self.now d new c.args.around (Plain c.args.name.now) c.len-start.result c.len-start.ensures found adds))
-    c.sort_of_plain.ensures.added
+    (λ found adds. symbol_stands c.args.self.now d new c.args.around c.args.name.now found
+    (sym c.find.ensures ∙ c.in-None.is) c.sort_of_alone.ensures.longer adds) c.sort_of_alone.ensures.added

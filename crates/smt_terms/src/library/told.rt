@@ -1,0 +1,92 @@
+//! Items of models that tell which elements declared sorts have. This file adds no name, and knows no bodies.
+
+ghost use Rattle.std.specs.Prelude.{◌≡◌, Ok, Err, Some, None, MatchOption, MatchResult, true};
+ghost use Rattle.smt_trees.specs.Sexp.{Cons, Items};
+ghost use Rattle.smt_trees.specs.View.{sexp_of, sexps_of};
+ghost use Rattle.smt_faults.specs.declared.term_flaw.TermFlaw.TheVariants.{Form};
+ghost use Rattle.smt_terms.specs.Elements.{element_among};
+ghost use Rattle.smt_terms.specs.Freshness.{item_elements};
+ghost use Rattle.smt_terms.specs.Items.{declared_item, element_told, told_in, told_item};
+ghost use Rattle.smt_terms.specs.Library.{StandsFor};
+ghost use Rattle.smt_terms.specs.Signature.{Signature};
+
+use crate::library::Library;
+use crate::sorts::are_equal;
+use smt_faults::TermFlaw;
+use smt_trees::{Tree, Trees, Word};
+
+impl Library<'_> {
+    // In the wide profile, what comes of an item that tells which elements a declared sort has; `None` of other items.
+    pub(super) fn told(&self, item: Tree<'_>) -> Option<Result<(), TermFlaw>>
+        ensures { (s : Signature) → StandsFor self.now s
+            → MatchOption result (told_item s (sexp_of item.entry) ≡ None)
+            (λ told. MatchResult told (λ _. told_item s (sexp_of item.entry) ≡ Some (Ok None))
+            (λ flaw. told_item s (sexp_of item.entry) ≡ Some (Err flaw))) }
+    {
+        if self.is_wide() {
+            self.told_in(item)
+        } else {
+            None
+        }
+    }
+
+    // The same, whatever the profile is.
+    fn told_in(&self, item: Tree<'_>) -> Option<Result<(), TermFlaw>>
+        ensures { (s : Signature) → StandsFor self.now s → s.theories.wide ≡ true
+            → MatchOption result (told_in s (sexp_of item.entry) ≡ None)
+            (λ told. MatchResult told (λ _. told_in s (sexp_of item.entry) ≡ Some (Ok None))
+            (λ flaw. told_in s (sexp_of item.entry) ≡ Some (Err flaw))) }
+    {
+        let Tree::List(parts) = item else {
+            return None;
+        };
+        let Some((Tree::Reserved(word), rest)) = parts.split_first() else {
+            return None;
+        };
+        match word {
+            Word::Forall | Word::DeclareSort => Some(Ok(())),
+            Word::DeclareFun => Some(self.check_declared(rest)),
+            _ => None,
+        }
+    }
+
+    // Checks `(declare-fun x () sort)`, from the parts after its first word: x has to be an element of the sort.
+    fn check_declared(&self, parts: Trees<'_>) -> Result<(), TermFlaw>
+        ensures { (s : Signature) → StandsFor self.now s → s.theories.wide ≡ true
+            → MatchResult result (λ _. declared_item s (sexps_of parts.entry) ≡ Ok None)
+            (λ flaw. declared_item s (sexps_of parts.entry) ≡ Err flaw) }
+    {
+        let Some((name, tree)) = constant_parts(parts) else {
+            return Err(TermFlaw::Form);
+        };
+        let Some(element) = self.sorts.element_sort(name) else {
+            return Err(TermFlaw::Form);
+        };
+        let sort = self.sorts.sort_of(tree)?;
+        if !are_equal(element, sort) {
+            return Err(TermFlaw::IllSorted);
+        }
+        Ok(())
+    }
+}
+
+// The name and the tree of the sort of a constant that is declared, from the parts after the first word.
+fn constant_parts<'a>(parts: Trees<'a>) -> Option<(&'a [u8], Tree<'a>)>
+    ensures { (s : Signature) → MatchOption result (declared_item s (sexps_of parts.entry) ≡ Err Form)
+        (λ p. declared_item s (sexps_of parts.entry)
+        ≡ element_told s (element_among (item_elements s) p.0.now) (sexp_of p.1)) }
+{
+    let Some((Tree::Symbol(name), rest)) = parts.split_first() else {
+        return None;
+    };
+    let Some((Tree::List(parameters), rest)) = rest.split_first() else {
+        return None;
+    };
+    let Some((sort, rest)) = rest.split_first() else {
+        return None;
+    };
+    if parameters.split_first().is_some() || rest.split_first().is_some() {
+        return None;
+    }
+    Some((name, sort))
+}
