@@ -2,8 +2,9 @@
 """Tries the wrong bodies of tests/wrong_bodies, of all crates or of those named, and writes what was refused into tests/wrong_bodies/tried.
 
 A wrong body is refused where the check does not prove the function that it changes. Several of a crate are tried in one check where each
-changes a function of its own and none of these functions leads to another by calls: so none is left out because of another. One that is
-not refused there, or that changes a definition, is tried alone, where any function that is not proved refuses it.
+changes a function of its own. Where a function is not tried there, because one that it calls has a wrong body too, it comes again in a check
+in which none of the functions leads to another by calls. A wrong body that is refused in neither, or that changes a definition, is tried
+alone, where any function that is not proved refuses it.
 
 Wants a checkout in which `rt ci` has passed, since it uses the libraries that were built there."""
 import collections
@@ -73,8 +74,8 @@ def check(crate, folder, only):
 
 
 def is_refused(said):
-    """Whether a function was tried and not proved; None where it was not tried."""
-    if said is None or re.match(r'(no proof: it calls|not proved; it calls)', said) or 'did not admit' in said:
+    """Whether a function was tried and not proved, by a goal of its own that stays open; None where it was not tried."""
+    if said is None or re.match(r'(no proof: it calls|not proved; it calls)', said) or 'did not admit' in said or 'borrow checker' in said:
         return None
     return not re.match(r'(proved|no holes)', said)
 
@@ -105,14 +106,19 @@ def functions_of(path):
 
 
 def full_name(crate, file, name, head):
-    """The name by which the check speaks of a function, or a guess at it: what is not found is tried alone."""
-    module = file[len('src/'):-len('.rt')].replace('/', '::')
-    names = [crate] + ([] if module in ('lib', 'main') else [module])
-    if head:
-        plain = re.sub(r'<[^<>]*>', '', re.sub(r'<[^<>]*>', '', head))
-        match = re.match(r'^impl\s*(?:([\w:]+) for )?&?([\w:]+)', plain) or re.match(r'^(?:pub )?()trait (\w+)', plain)
-        names.append(match.group(2).split('::')[-1] + (match.group(1) or '').split('::')[-1])
-    return '::'.join(names + [name])
+    """The name by which the check speaks of a function, or the end of it; or a guess at it: what is not found is tried alone."""
+    if not head:
+        module = file[len('src/'):-len('.rt')].replace('/', '::')
+        return '::'.join([crate] + ([] if module in ('lib', 'main') else [module]) + [name])
+    plain = re.sub(r'^(pub )?(impl\b(<[^>]*>)?|trait)', '', head.split('{')[0].split(' where ')[0])
+    trait, _, of = plain.rpartition(' for ')
+    return re.findall(r'[A-Z]\w*', of)[0] + ''.join(re.findall(r'[A-Z]\w+', trait)) + '::' + name
+
+
+def said_of(functions, full):
+    """What a check says of the function of this name, or of this end of a name; None where it says nothing of one alone."""
+    found = [said for name, said in functions.items() if name == full or name.endswith('::' + full)]
+    return found[0] if len(found) == 1 else None
 
 
 class Edit:
@@ -120,7 +126,7 @@ class Edit:
 
     def __init__(self, path, crate, functions):
         self.name = os.path.basename(path)[:-len('.edit')]
-        self.pairs, self.spans, self.function, self.full = [], [], None, None
+        self.pairs, self.spans, self.function, self.full = [], [], None, None  # (the function by its file, its name and the head of its impl)
         file = old = None
         for line in read(path).split('\n'):
             if line.startswith('file: '):
@@ -137,8 +143,9 @@ class Edit:
                 self.spans.append((file, start, start + len(old), new))
             found |= {(file, name, head) for first, last, name, head in functions.get(file, []) if first <= start <= last} or {None}
         if len(found) == 1 and None not in found and len(self.spans) == len(self.pairs):
-            file, self.function, head = found.pop()
-            self.full = full_name(crate, file, self.function, head)
+            self.function = found.pop()
+            file, name, head = self.function
+            self.full = full_name(crate, file, name, head)
 
     def overlaps(self, other):
         return any(a == b and not (d <= e or f <= c) for a, c, d, _ in self.spans for b, e, f, _ in other.spans)
@@ -176,9 +183,9 @@ def attempt(crate, edits, only):
 
 def alone(crate, edit):
     """What the check says of one wrong body: that it is refused, or why it is not."""
-    if edit.full:
-        tried = attempt(crate, [edit], [edit.full])
-        if tried and is_refused(tried[1].get(edit.full)):
+    for only in dict.fromkeys((edit.full, '::'.join(edit.name.split('.')[:-1]))):
+        tried = only and attempt(crate, [edit], [only])
+        if tried and is_refused(said_of(tried[1], only)):
             return 'refused'
     tried = attempt(crate, [edit], [])
     if tried is None:
@@ -191,22 +198,55 @@ def alone(crate, edit):
     return 'did not reach the prover: ' + ' '.join(re.findall(r'.*error.*', said)[:2])
 
 
+def type_of(head):
+    """The type or the trait that an impl is about, by its head; the words of both where it has two."""
+    if not head:
+        return frozenset()
+    plain = re.sub(r'<[^<>]*>', '', re.sub(r'<[^<>]*>', '', head))
+    return frozenset(re.findall(r'[A-Z]\w*', plain))
+
+
+def body_of(text):
+    """The text of a function behind its contract: comments and clauses name no function that it calls."""
+    lines = text.split('\n')
+    start = next((at for at, line in enumerate(lines) if line.strip() == '{'), 0)
+    return '\n'.join(re.sub(r'//.*', '', line) for line in lines[start:])
+
+
 def calls_of(functions, crate):
-    """The names that each function leads to by calls, by the words of its body: rather too many than too few."""
-    names = {name for found in functions.values() for _, _, name, _ in found}
-    calls = collections.defaultdict(set)
+    """The functions that each function leads to by calls, by the words of its body: rather too many than too few."""
+    every, bodies = collections.defaultdict(list), {}
     for file, found in functions.items():
         text = read(f'{TOP}/crates/{crate}/{file}')
-        for first, last, name, _ in found:
-            calls[name] |= names & set(re.findall(r'\w+', text[first:last])) - {name}
+        for first, last, name, head in found:
+            every[name].append((file, name, head))
+            bodies[file, name, head] = body_of(text[first:last])
+    calls = {}
+    for caller, body in bodies.items():
+        own, called = type_of(caller[2]), set()
+        for before, name in re.findall(r'(\w+::|\bself\.|\.|)(\w+)', body):
+            before = before.rstrip(':')
+            for other in every.get(name, ()):
+                of = type_of(other[2])
+                if before == 'Self' or before == 'self.':
+                    fits = of & own or not own
+                elif before == '.':
+                    fits = of
+                elif before[:1].isupper():
+                    fits = before in of
+                else:
+                    fits = not of
+                if fits:
+                    called.add(other)
+        calls[caller] = called - {caller}
     reached = {}
-    for name in names:
-        seen, left = set(), [name]
+    for caller in calls:
+        seen, left = set(), [caller]
         while left:
             for called in calls[left.pop()] - seen:
                 seen.add(called)
                 left.append(called)
-        reached[name] = seen
+        reached[caller] = seen
     return reached
 
 
@@ -225,19 +265,24 @@ def groups_of(edits, reached):
     return groups
 
 
-def try_crate(crate):
+def try_crate(crate, pool):
     """Tries all wrong bodies of a crate; what became of each."""
     folder = f'{TOP}/crates/{crate}'
     functions = {os.path.relpath(path, folder): functions_of(path) for path in glob.glob(f'{folder}/src/**/*.rt', recursive=True)}
     edits = [Edit(path, crate, functions) for path in sorted(glob.glob(f'{TOP}/tests/wrong_bodies/{crate}/*.edit'))]
-    groups = groups_of([edit for edit in edits if edit.full], calls_of(functions, crate))
+    ends = collections.Counter(full_name(crate, file, name, head) for file, found in functions.items() for _, _, name, head in found)
+    for edit in edits:
+        if ends[edit.full] > 1:
+            edit.full = None
     told = {}
-    with concurrent.futures.ThreadPoolExecutor(JOBS) as pool:
+    # First as if no function led to another: what is not tried then, because of another's wrong body, comes again without that.
+    for reached in (collections.defaultdict(set), calls_of(functions, crate)):
+        groups = groups_of([edit for edit in edits if edit.full and edit.name not in told], reached)
         tried = pool.map(lambda group: attempt(crate, group, [edit.full for edit in group])[1], groups)
-        for group, functions in zip(groups, tried):
-            told.update((edit.name, 'refused') for edit in group if is_refused(functions.get(edit.full)))
-        left = [edit for edit in edits if edit.name not in told]
-        told.update(zip((edit.name for edit in left), pool.map(lambda edit: alone(crate, edit), left)))
+        for group, found in zip(groups, tried):
+            told.update((edit.name, 'refused') for edit in group if is_refused(said_of(found, edit.full)))
+    left = [edit for edit in edits if edit.name not in told]
+    told.update(zip((edit.name for edit in left), pool.map(lambda edit: alone(crate, edit), left)))
     return told
 
 
@@ -252,20 +297,26 @@ def commit():
     return head.stdout.strip() + (' with changes' if status.strip() else '')
 
 
+def write_row(crate, told, at):
+    """Writes what became of a crate's wrong bodies; whether one was not refused."""
+    refused = sum(1 for said in told.values() if said == 'refused')
+    print(f'{crate}: {refused} of {len(told)} refused', flush=True)
+    for name, said in told.items():
+        if said != 'refused':
+            print(f'    {name}: {said}', flush=True)
+    path = f'{TOP}/tests/wrong_bodies/tried'
+    rows = [row for row in read(path).split('\n') if row and not row.startswith(crate + ' ')]
+    write(path, '\n'.join(sorted(rows + [f'{crate} {refused} of {len(told)} refused, {at}'])) + '\n')
+    return refused < len(told)
+
+
 def main():
     crates = sys.argv[1:] or sorted(os.path.basename(os.path.dirname(path)) for path in glob.glob(f'{TOP}/tests/wrong_bodies/*/'))
     at, failed = commit(), False
-    for crate in crates:
-        told = try_crate(crate)
-        refused = sum(1 for said in told.values() if said == 'refused')
-        print(f'{crate}: {refused} of {len(told)} refused', flush=True)
-        for name, said in told.items():
-            if said != 'refused':
-                failed = True
-                print(f'    {name}: {said}', flush=True)
-        path = f'{TOP}/tests/wrong_bodies/tried'
-        rows = [row for row in read(path).split('\n') if row and not row.startswith(crate + ' ')]
-        write(path, '\n'.join(sorted(rows + [f'{crate} {refused} of {len(told)} refused, {at}'])) + '\n')
+    with concurrent.futures.ThreadPoolExecutor(JOBS) as pool, concurrent.futures.ThreadPoolExecutor(len(crates)) as keepers:
+        waiting = {keepers.submit(try_crate, crate, pool): crate for crate in crates}
+        for done in concurrent.futures.as_completed(waiting):
+            failed = write_row(waiting[done], done.result(), at) or failed
     sys.exit(failed)
 
 
