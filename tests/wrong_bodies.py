@@ -6,7 +6,7 @@ changes a function of its own. Where a function is not tried there, because one 
 in which none of the functions leads to another by calls. A wrong body that is refused in neither, or that changes a definition, is tried
 alone, where any function that is not proved refuses it.
 
-What was refused is kept in tests/wrong_bodies/out, and not tried again while the wrong body, its crate and all crates below are the same. So
+What was refused is kept in tests/wrong_bodies/out, and not tried again while the wrong body, its crate, all crates below and this script are the same. So
 a run that was cut off goes on where it ended. Crates are tried from the lowest on, each to its end.
 
 Wants a checkout in which `rt ci` has passed, since it uses the libraries that were built there."""
@@ -63,8 +63,8 @@ def below(crate):
 
 
 def digest_of(crate):
-    """A digest of the files of a crate and of those that it stands on, and of the kit."""
-    found = hashlib.sha256(read(f'{KIT}/KIT-ID').encode())
+    """A digest of the files of a crate and of those that it stands on, of the kit, and of this script, which says what is refused."""
+    found = hashlib.sha256((read(f'{KIT}/KIT-ID') + read(os.path.abspath(__file__))).encode())
     for used in [*below(crate), crate]:
         for folder in ('src', 'specs', 'proofs'):
             for path in sorted(glob.glob(f'{TOP}/crates/{used}/{folder}/**/*.*', recursive=True)):
@@ -120,7 +120,7 @@ def check(crate, folder, only):
 
 
 def is_refused(said):
-    """Whether a function was tried and not proved, by a goal of its own that stays open; None where it was not tried."""
+    """Whether a function was tried and not proved: a goal of its own stays open, or an answer no longer fits. None where it was not tried."""
     if said is None or re.match(r'(no proof: it calls|not proved; it calls)', said) or 'did not admit' in said or 'borrow checker' in said:
         return None
     return not re.match(r'(proved|no holes)', said)
