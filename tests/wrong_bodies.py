@@ -6,21 +6,29 @@ changes a function of its own. Where a function is not tried there, because one 
 in which none of the functions leads to another by calls. A wrong body that is refused in neither, or that changes a definition, is tried
 alone, where any function that is not proved refuses it.
 
+What was refused is kept in tests/wrong_bodies/out, and not tried again while the wrong body, its crate, all crates below and this script are the same. So
+a run that was cut off goes on where it ended. Crates are tried from the lowest on, each to its end.
+
 Wants a checkout in which `rt ci` has passed, since it uses the libraries that were built there."""
 import collections
 import concurrent.futures
 import glob
+import hashlib
+import itertools
 import os
+import queue
 import re
 import shutil
 import subprocess
 import sys
 import tempfile
+import threading
 
 TOP = os.path.dirname(os.path.dirname(os.path.abspath(__file__)))
 KIT = os.environ.get('RATTLE_KIT', '/opt/rattle')
 JOBS = int(os.environ.get('RT_JOBS', '2'))
 MOST = 14  # wrong bodies in one check
+KEPT = f'{TOP}/tests/wrong_bodies/out'
 FUNCTION = re.compile(r'^( *)(?:pub(?:\([a-z]+\))? )?(?:const )?(?:unsafe )?(?:extern "C" )?fn (\w+)')
 
 
@@ -54,6 +62,44 @@ def below(crate):
     return sorted(found)
 
 
+def digest_of(crate):
+    """A digest of the files of a crate and of those that it stands on, of the kit, and of this script, which says what is refused."""
+    found = hashlib.sha256((read(f'{KIT}/KIT-ID') + read(os.path.abspath(__file__))).encode())
+    for used in [*below(crate), crate]:
+        for folder in ('src', 'specs', 'proofs'):
+            for path in sorted(glob.glob(f'{TOP}/crates/{used}/{folder}/**/*.*', recursive=True)):
+                if os.path.isfile(path):
+                    found.update(f'{os.path.relpath(path, TOP)}\n{read(path)}\n'.encode())
+    return found.hexdigest()
+
+
+class Pool:
+    """Runs so many tasks side by side, those of the first crates first."""
+
+    def __init__(self, jobs):
+        self.tasks, self.numbers = queue.PriorityQueue(), itertools.count()
+        for _ in range(jobs):
+            threading.Thread(target=self.work, daemon=True).start()
+
+    def work(self):
+        while True:
+            _, _, future, function, item = self.tasks.get()
+            try:
+                future.set_result(function(item))
+            except BaseException as failure:  # (the one who waits for it has to see it)
+                future.set_exception(failure)
+
+    def run(self, rank, function, items):
+        """The items, each with what the function gives for it, as they are done. Tasks of a lower rank go first."""
+        futures = {}
+        for item in items:
+            future = concurrent.futures.Future()
+            futures[future] = item
+            self.tasks.put((rank, next(self.numbers), future, function, item))
+        for future in concurrent.futures.as_completed(futures):
+            yield futures[future], future.result()
+
+
 def check(crate, folder, only):
     """The check of some functions of a crate, or of all: its status, what it says of each function, and all that it says."""
     kit = f'{KIT}/rlibs'
@@ -74,7 +120,7 @@ def check(crate, folder, only):
 
 
 def is_refused(said):
-    """Whether a function was tried and not proved, by a goal of its own that stays open; None where it was not tried."""
+    """Whether a function was tried and not proved: a goal of its own stays open, or an answer no longer fits. None where it was not tried."""
     if said is None or re.match(r'(no proof: it calls|not proved; it calls)', said) or 'did not admit' in said or 'borrow checker' in said:
         return None
     return not re.match(r'(proved|no holes)', said)
@@ -126,6 +172,7 @@ class Edit:
 
     def __init__(self, path, crate, functions):
         self.name = os.path.basename(path)[:-len('.edit')]
+        self.digest = hashlib.sha256(read(path).encode()).hexdigest()[:16]
         self.pairs, self.spans, self.function, self.full = [], [], None, None  # (the function by its file, its name and the head of its impl)
         file = old = None
         for line in read(path).split('\n'):
@@ -265,7 +312,14 @@ def groups_of(edits, reached):
     return groups
 
 
-def try_crate(crate, pool):
+def kept_of(crate, edits):
+    """The file with what was refused of a crate as it is, and which of its wrong bodies it has."""
+    path = f'{KEPT}/{crate}-{digest_of(crate)[:16]}'
+    lines = read(path).split('\n') if os.path.exists(path) else []
+    return path, {edit.name for edit in edits if f'{edit.name} {edit.digest}' in lines}
+
+
+def try_crate(crate, rank, pool):
     """Tries all wrong bodies of a crate; what became of each."""
     folder = f'{TOP}/crates/{crate}'
     functions = {os.path.relpath(path, folder): functions_of(path) for path in glob.glob(f'{folder}/src/**/*.rt', recursive=True)}
@@ -274,16 +328,26 @@ def try_crate(crate, pool):
     for edit in edits:
         if ends[edit.full] > 1:
             edit.full = None
-    told = {}
+    path, known = kept_of(crate, edits)
+    told = {name: 'refused' for name in known}
+
+    def tell(edit, said):
+        told[edit.name] = said
+        if said == 'refused':
+            os.makedirs(KEPT, exist_ok=True)
+            with open(path, 'a', encoding='utf-8') as file:
+                file.write(f'{edit.name} {edit.digest}\n')
+
     # First as if no function led to another: what is not tried then, because of another's wrong body, comes again without that.
     for reached in (collections.defaultdict(set), calls_of(functions, crate)):
         groups = groups_of([edit for edit in edits if edit.full and edit.name not in told], reached)
-        tried = pool.map(lambda group: attempt(crate, group, [edit.full for edit in group])[1], groups)
-        for group, found in zip(groups, tried):
-            told.update((edit.name, 'refused') for edit in group if is_refused(said_of(found, edit.full)))
-    left = [edit for edit in edits if edit.name not in told]
-    told.update(zip((edit.name for edit in left), pool.map(lambda edit: alone(crate, edit), left)))
-    return told
+        for group, found in pool.run(rank, lambda group: attempt(crate, group, [edit.full for edit in group])[1], groups):
+            for edit in group:
+                if is_refused(said_of(found, edit.full)):
+                    tell(edit, 'refused')
+    for edit, said in pool.run(rank, lambda edit: alone(crate, edit), [edit for edit in edits if edit.name not in told]):
+        tell(edit, said)
+    return {edit.name: told[edit.name] for edit in edits}
 
 
 def commit():
@@ -311,10 +375,11 @@ def write_row(crate, told, at):
 
 
 def main():
-    crates = sys.argv[1:] or sorted(os.path.basename(os.path.dirname(path)) for path in glob.glob(f'{TOP}/tests/wrong_bodies/*/'))
-    at, failed = commit(), False
-    with concurrent.futures.ThreadPoolExecutor(JOBS) as pool, concurrent.futures.ThreadPoolExecutor(len(crates)) as keepers:
-        waiting = {keepers.submit(try_crate, crate, pool): crate for crate in crates}
+    named = sys.argv[1:] or [os.path.basename(os.path.dirname(path)) for path in glob.glob(f'{TOP}/tests/wrong_bodies/*/')]
+    crates = [crate for crate in USES if crate in named and os.path.isdir(f'{TOP}/tests/wrong_bodies/{crate}')]
+    at, failed, pool = commit(), False, Pool(JOBS)
+    with concurrent.futures.ThreadPoolExecutor(len(crates)) as keepers:
+        waiting = {keepers.submit(try_crate, crate, rank, pool): crate for rank, crate in enumerate(crates)}
         for done in concurrent.futures.as_completed(waiting):
             failed = write_row(waiting[done], done.result(), at) or failed
     sys.exit(failed)
