@@ -18,7 +18,7 @@ use Rattle.smt_values.specs.KnownOperations.{known_step}
 use Rattle.smt_values.specs.Literals.{name_element, numeral_element}
 use Rattle.smt_values.specs.Names.{fits}
 use Rattle.smt_values.specs.Operations.{DivisionByZero, operate}
-use Rattle.smt_forms.specs.ElementNames.{qualified_symbol}
+use Rattle.smt_forms.specs.ElementNames.{qualified_symbol, sort_of_element}
 use Rattle.smt_forms.specs.Heads.{begins_indexed}
 use Rattle.smt_forms.specs.Identifier.{Identifier, Plain, Indexed, applied, indexed, operator_of}
 use Rattle.smt_terms.specs.Signature.{Entry, Origin, Declared, Defined, Signature}
@@ -59,10 +59,15 @@ symbol_true : (o : Option (List ℕ)) → Agrees (option_and_then name_element o
 symbol_true None = tt
 symbol_true (Some x) = name_true x
 
+-- and that of a symbol, if it has the form of one
+form_true : (x : List ℕ) (o : Option (List ℕ)) → Agrees (option_and_then (λ sort. name_element x) o) (Abstract x)
+form_true x None = tt
+form_true x (Some sort) = name_true x
+
 -- and so is what is no operator
 other_true : (f : Identifier) (ks : List (Option Element)) (es : List Element) → AllAgree ks es
     → Agrees (other_known f ks) (other_meaning f es)
-other_true (Plain x) [] [] h = name_true x
+other_true (Plain x) [] [] h = form_true x (sort_of_element x)
 other_true (Plain x) [] (e ∷ es) h = absurd h
 other_true (Plain x) (k ∷ ks) es h = tt
 other_true (Indexed x indexes) ks es h = tt

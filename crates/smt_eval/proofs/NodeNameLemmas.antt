@@ -5,7 +5,7 @@ use Rattle.std.proofs.Common.{Result, Ok, Err, arith}
 use Rattle.std.proofs.lemmas.Bool.{lt-ltb}
 use Rattle.std.specs.Bool.{◌==◌}
 use Rattle.std.specs.List.{zip}
-use Rattle.std.specs.Prelude.{ok_or}
+use Rattle.std.specs.Prelude.{ok_or, option_and_then}
 use Rattle.smt_trees.specs.Sexp.{Sexp}
 use Rattle.smt_theory.specs.Operators.{is_plain_operator, op_by, plain_op}
 use Rattle.smt_theory.specs.Words.{look_up}
@@ -14,6 +14,8 @@ use Rattle.smt_theory.specs.declared.op.OpFault.{OpFault}
 use Rattle.smt_theory.specs.declared.op.OpFault.TheVariants.{Unknown}
 use Rattle.smt_theory.specs.declared.sort.Sort.{Sort}
 use Rattle.smt_values.specs.KnownOperations.{known_step}
+use Rattle.smt_values.specs.Literals.{name_element}
+use Rattle.smt_forms.specs.ElementNames.{sort_of_element}
 use Rattle.smt_forms.specs.Identifier.{Identifier, Plain, Indexed, operator_of}
 use Rattle.smt_nodes.specs.Node as node
 use Rattle.smt_nodes.specs.Node.{Node}
@@ -21,9 +23,10 @@ use Rattle.smt_machine.specs.Nodes.{Frame, Giving, node_value, parts}
 use Rattle.smt_machine.specs.Tables.{call, resolved, shifted}
 use Rattle.smt_terms.specs.Denotes.{Denotes, HasBodyBelow, Head, Table, applied_node, named_node, node_at}
 use Rattle.smt_terms.specs.Denotes.{slots_from}
-use Rattle.smt_terms.specs.Elements.{element_among}
+use Rattle.smt_terms.specs.Elements.{element_among, if_free}
 use Rattle.smt_terms.specs.Library.{declared_among}
 use Rattle.smt_terms.specs.Signature.{AreDistinct, Entry, Origin, Signature, entry_named}
+use Rattle.smt_terms.specs.SortTrees.{SortNames}
 use Rattle.smt_terms.specs.TermsOf.{AreBodies, IsBody, first_heads, heads_of}
 use Rattle.smt_terms.specs.declared.library.Found.{Found}
 use Rattle.smt_terms.specs.declared.library.Found.TheVariants as place
@@ -87,6 +90,19 @@ node_of_head head js n h = by (length js == head.arity) refl h
     by true same at = record { counted = same_count (length js) head.arity same; is = cc }
     by false same at = cc
 
+-- ---- elements
+
+-- what may be named as an element has the form of one
+has_form : (elements : Option SortNames) (x : List ℕ) (sort : Sort) → element_among elements x ≡ Some sort
+    → option_and_then (λ of. name_element x) (sort_of_element x) ≡ name_element x
+has_form None x sort among = cc
+has_form (Some sorts) x sort among = by (sort_of_element x) among
+  where
+    by : (o : Option (List ℕ)) → option_and_then if_free (option_and_then (look_up sorts.abbreviations) o) ≡ Some sort
+        → option_and_then (λ of. name_element x) o ≡ name_element x
+    by None is = cc
+    by (Some name) is = refl
+
 -- ---- over definitions
 
 module _ (g : Giving) (off : ℕ) (declared : List ℕ) (t : Table) (es : List Entry) (d : Signature)
@@ -129,6 +145,7 @@ module _ (g : Giving) (off : ℕ) (declared : List ℕ) (t : Table) (es : List E
       not_defined d (seen n) x [] (names.apart n x sort within at among)
       ∙ ap (λ ts. known_of_op (op_by ts x []) (Plain x) []) (sym names.theories)
       ∙ ap (λ o. known_of_op o (Plain x) []) is
+      ∙ has_form t.elements x sort among
 
   -- ---- names
 

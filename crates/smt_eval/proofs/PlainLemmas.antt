@@ -1,13 +1,14 @@
 -- What names are known to mean over definitions that are kept as their trees.
 use Rattle.std.proofs.Common.{◌≡◌, ◌≤◌, ℕ, suc, ◌+◌, Bool, true, false, cond, List, [], ◌∷◌}
-use Rattle.std.proofs.Common.{◌++◌, length, slice_index_or, take, Option, Some, None, Result, Ok, refl, ap, sym}
-use Rattle.std.proofs.Common.{◌∙◌, arith}
+use Rattle.std.proofs.Common.{◌++◌, length, slice_index_or, take, Option, Some, None, Result, Ok, Err, refl, ap}
+use Rattle.std.proofs.Common.{sym, ◌∙◌, arith}
 use Rattle.std.proofs.Math.Seq.{take-suc}
 use Rattle.std.proofs.lemmas.List.{map-append}
+use Rattle.std.specs.Bool.{◌==◌}
 use Rattle.std.specs.Prelude.{bytes_eq, ok_or, option_map}
 use Rattle.smt_trees.specs.Sexp.{Sexps, Atom, Cons, Symbol, weight}
 use Rattle.smt_trees.specs.View.{sexp_of}
-use Rattle.smt_values.specs.Element.{Element, known_element}
+use Rattle.smt_values.specs.Element.{Element, known_element, known_elements}
 use Rattle.smt_values.specs.declared.value.Value.{Value}
 use Rattle.smt_theory.specs.Index.{IndexView}
 use Rattle.smt_theory.specs.declared.op.Op.{Op}
@@ -88,6 +89,13 @@ weight-last before all d is = ap bodies_weight is ∙ by before
         → bodies_weight (ds ++ d ∷ []) ≡ bodies_weight ds + weight (sexp_of d.body)
     by [] = omega arith
     by (c ∷ ds) = let w = by ds in omega (arith, w)
+
+-- nothing is known of what is no operator, applied to arguments
+pub element_takes_none : (op : Result Op OpFault) (fault : OpFault) (x : List ℕ) (args : List (Option Value))
+    → op ≡ Err fault → false ≡ (length args == 0) → None ≡ known_of_op op (Plain x) (known_elements args)
+element_takes_none op fault x [] is some = cc
+element_takes_none op fault x (v ∷ vs) is some =
+    sym (ap (λ o. known_of_op o (Plain x) (known_elements (v ∷ vs))) is)
 
 -- what has indexes is an operator
 pub indexed_is_operator : (theories : Theories) (es : List Entry) (f : Identifier) (parts : Sexps)

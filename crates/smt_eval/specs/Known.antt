@@ -13,7 +13,7 @@ use Rattle.smt_theory.specs.declared.theories.Theories.{Theories}
 use Rattle.smt_values.specs.Element.{Element}
 use Rattle.smt_values.specs.KnownOperations.{known_step}
 use Rattle.smt_values.specs.Literals.{bin_element, hex_element, name_element, numeral_element}
-use Rattle.smt_forms.specs.ElementNames.{qualified_symbol}
+use Rattle.smt_forms.specs.ElementNames.{qualified_symbol, sort_of_element}
 use Rattle.smt_forms.specs.Identifier.{Identifier, Plain, Indexed, applied, indexed, operator_of}
 use Rattle.smt_terms.specs.Signature.{Entry, Origin, Declared, Defined, Signature}
 use Rattle.smt_faults.specs.declared.term_flaw.TermFlaw.{TermFlaw}
@@ -52,9 +52,9 @@ abbrev mutual
       (x, known_of m r term) ∷ knowns_bound m r rest
   knowns_bound m r _ = []
 
--- a symbol alone that is no operator is the element of that name
+-- a symbol alone that is no operator, but of an element's form, is the element of that name
 abbrev pub other_known : Identifier → List (Option Element) → Option Element
-other_known (Plain x) [] = name_element x
+other_known (Plain x) [] = option_and_then (λ sort. name_element x) (sort_of_element x)
 other_known f args = None
 
 abbrev pub known_of_op : Result Op OpFault → Identifier → List (Option Element) → Option Element

@@ -1,7 +1,7 @@
 //! What names mean: operators, and definitions, whose bodies see their parameters and the definitions before
 //! them. This file looks into no term.
 
-ghost use Rattle.std.specs.Prelude.{◌≡◌, ◌≤◌, ◌+◌, MatchOption, IfSome, List, Option, ℕ};
+ghost use Rattle.std.specs.Prelude.{◌≡◌, ◌≤◌, ◌+◌, [], MatchOption, IfSome, List, Option, ℕ};
 ghost use Rattle.smt_trees.specs.Sexp.{weight};
 ghost use Rattle.smt_trees.specs.View.{sexp_of};
 ghost use Rattle.smt_theory.specs.Index.{IndexView};
@@ -10,14 +10,14 @@ ghost use Rattle.smt_forms.specs.Identifier.{Indexed, Plain};
 ghost use Rattle.smt_forms.specs.IdentifierView.{identifier_view};
 ghost use Rattle.smt_eval.specs.Cost.{body_cost, costs_after, no_costs};
 ghost use Rattle.smt_eval.specs.Internal.PlainEvaluation.{Gives, bodies_weight, meaning_of};
-ghost use Rattle.smt_eval.specs.Known.{KnownMeaning, known_after, known_defined, known_of_op};
+ghost use Rattle.smt_eval.specs.Known.{KnownMeaning, known_after, known_defined, known_of_op, other_known};
 ghost use Rattle.smt_eval.specs.PlainTerm.{entries_of, origin_of};
 
 use crate::plain::Definition;
 use crate::plain::evaluator::known_value;
 use crate::plain::scope::bind;
 use smt_faults::Memory;
-use smt_forms::Identifier;
+use smt_forms::{Identifier, sort_of_element};
 use smt_theory::{Op, OpFault, Theories, op_of};
 use smt_values::{Value, apply, element};
 use std::alloc::Global;
@@ -49,7 +49,7 @@ pub(crate) fn known_applied(
 }
 
 /// What is known of a symbol that is no variable, applied to arguments: what its definition gives, or else
-/// what the operator of that name gives, or else without arguments the element of that name.
+/// what the operator of that name gives, or else without arguments the element of that form.
 #[cycle(known_plain)]
 pub(crate) fn known_named(
     over: Definitions<'_>,
@@ -122,14 +122,24 @@ pub(crate) fn known_of_indexed(op: Result<Op, OpFault>, args: &[Option<Value>]) 
     }
 }
 
-// What the operator of a symbol gives for arguments; where it is none, the element of that name, which takes no
+// What the operator of a symbol gives for arguments; where it is none, the element of that form, which takes no
 // arguments.
 fn known_of_plain(op: Result<Op, OpFault>, name: &[u8], args: &[Option<Value>]) -> Option<Value>
     ensures { known_element result ≡ known_of_op op (Plain name.now) (known_elements args.now) }
 {
     match op {
         Ok(op) => apply(op, args),
-        Err(_) if args.is_empty() => element(name),
+        Err(_) if args.is_empty() => known_element_of(name),
         Err(_) => None,
+    }
+}
+
+// The element of a symbol, if it has the form of one.
+fn known_element_of(symbol: &[u8]) -> Option<Value>
+    ensures { known_element result ≡ other_known (Plain symbol.now) [] }
+{
+    match sort_of_element(symbol) {
+        Some(_) => element(symbol),
+        None => None,
     }
 }
