@@ -11,6 +11,7 @@ computes itself: docs/CONTRACTS.md, the sizes in docs/CLAIMS.md, and the table o
 - docs/TESTING.md: its numbers and the table of wrong bodies are right. README.md has the number of those apart, if it has one.
 - Names: in CLAIMS, TESTING, ARCHITECTURE and DEVELOPING each name in backquotes is declared in crates/, of `a::b` the second one in the first; a small
   word may also be one that a definition quotes, as `exit`, or the name of a file, a library or a thing of std. Names in capitals, as QF_LIA, are left out.
+- Each edit, in the gate and apart, has no line that is not read, and changes texts that stand once where it looks for them.
 - Each path in backquotes that begins with a folder of the repository exists. In the pages of PAGES each link leads to a file and a heading.
 - On these four pages each file in backquotes, as `src/op.rt`, is the end of a path in the repository.
 - CLAIMS has at most 1,200 words, TESTING and DEVELOPING 2,000 each; all pages together 30,000 that no script writes.
@@ -436,6 +437,26 @@ def links(path, text):
             wrong.append("%s: a link leads to %s, and there is no such heading" % (path, target))
 
 
+def edits():
+    """Each edit has pairs of lines 'old: ' and 'new: ' alone, behind the file that they are in, and changes something, pair by pair."""
+    for path in sorted(glob.glob("crates/*/must-fail/*.edit") + glob.glob("tests/wrong_bodies/*/*.edit")):
+        crate = path.split("/")[1] if path.startswith("crates/") else path.split("/")[2]
+        texts, file, old = {}, None, None
+        for line in read(path).rstrip("\n").split("\n"):
+            kind, _, text = line.partition(": ")
+            if kind == "file":
+                file = "crates/%s/%s" % (crate, text.strip())
+                texts.setdefault(file, read(file))
+            elif kind == "old":
+                old = text
+            elif kind == "new" and old and old != text and texts.get(file, "").count(old) == 1:
+                texts[file] = texts[file].replace(old, text)
+            else:
+                wrong.append("%s: a line that is not read, or a change of nothing, or not of one place: %s" % (path, line))
+        if not any(text != read(file) for file, text in texts.items()):
+            wrong.append("%s changes nothing" % path)
+
+
 def all_words():
     """All pages together have no more words than ALL_WORDS."""
     pages = [path for path in glob.glob("**/*.md", recursive=True) if path not in WRITTEN and "/out/" not in path]
@@ -483,6 +504,7 @@ def main():
     for path, most in WORDS.items():
         words(path, most)
     all_words()
+    edits()
     for line in wrong:
         print("docs: " + line)
     return 1 if wrong else 0
