@@ -135,6 +135,7 @@ hinted on 'compressed' '(check-sat)' '\357\273\277sat'
 hinted on 'compressed' '\377\376(\000c\000' 'sat'
 hinted on - ')' 'sat'
 hinted on 'model.user_functions=false' '(assert (! true :named a))(check-sat)(get-model)' 'success sat ((define-fun a () Bool true))'
+hinted 'on --profile wide' - '(declare-sort U 0)(declare-const U!val!0 U)(check-sat)(get-model)' 'success success sat ((define-fun U!val!0 () U (as @1 U)))'
 hinted on - '(declare-const a Bool)(check-sat)(get-model)' 'success sat ((define-fun a () Int 1))'
 hinted on 'unsat' '(assert false)(check-sat)(get-model)' 'success unsat'
 hinted on - '(assert false)(check-sat)(get-model)' 'success sat'
@@ -314,7 +315,7 @@ Options:
           Which language is taken; docs/LANGUAGE.md has both.
           
           base: scripts over truth values, integers and bit vectors, in the forms of SMT-LIB 2.6
-          wide: the same, and forms that real scripts and models have besides: (push) and (pop) without a numeral, define-const, terms as assumptions, the names of more logics, `unsupported` as answer to set-logic, and items of a model that repeat a label or a definition of the script, as z3 prints them
+          wide: the same, and forms that real scripts and models have besides: (push) and (pop) without a numeral, define-const, declare-sort, terms as assumptions, the names of more logics, `unsupported` as answer to a set-logic of another name, and items of a model that repeat a label or a definition of the script or tell of declared sorts, as z3 prints them
           
           [default: base]
 

@@ -24,7 +24,7 @@ explains() {
     name=$3
     shift 4
     printf '%s\n' "$@" >"$work/wanted"
-    (cd "$work" && "$program" --explain --print-success "$success" s a 2>said >all) || [ $? -lt 4 ]
+    (cd "$work" && "$program" --explain --profile "${profile:-base}" --print-success "$success" s a 2>said >all) || [ $? -lt 4 ]
     sed '1,/^verdict: /d' "$work/all" >"$work/told"
     cmp -s "$work/told" "$work/wanted" || fail "$name"
 }
@@ -203,8 +203,8 @@ sed -n '/^| fault | meaning | likely cause/,/^$/p' docs/LANGUAGE.md | sed -n '3,
 grep -v '^-$' "$work/rows" | LC_ALL=C sort -u >"$work/told"
 cmp -s "$work/wanted" "$work/told" || fail 'the rows of the table of faults'
 
-# The parts of a check that are told cost no more than --steps, and the place of the claim is told however few these are. Here each call of f
-# is evaluated for 84 steps, and the claim costs 253.
+# The parts of a check that are told cost no more than --steps, and the place of the claim is told however few these are. Here those in
+# each call of f are evaluated for some 160 steps, and the claim costs 253.
 many=$(printf '%040d' 0 | sed 's/0/ p/g')
 printf '%s' "(declare-const p Bool)(assert (and$many))(check-sat)(get-model)" >"$work/s"
 printf '%s' 'sat ((define-fun p () Bool false))' >"$work/a"
@@ -216,6 +216,50 @@ grep -q 'no more was looked at: the steps are used up' "$work/told" || fail 'few
 "$program" --explain --print-success off "$work/s" "$work/a" >"$work/told" || [ $? = 1 ]
 grep -qx '  false: p   at .*, in f' "$work/told" || fail 'enough steps'
 
+# The value of a term is told that is 1,100 deep with its definitions, and of no deeper one: p is, each of the items behind it, and the body of
+# the last. The parts of a connective need no value where they have it by that of the whole.
+chain() { awk -v n="$1" -v last="$2" 'BEGIN { for (i = 0; i < n; i++) printf "(define-fun h%d () Bool %s)", i, i ? "h" i - 1 : last }'; }
+items() { printf 'sat (%s(define-fun p () Bool h%d)(define-fun q () Bool false))' "$(chain "$1" "${2-false}")" "$(($1 - 1))"; }
+column() { items "$1" "${2-false}" | awk -v name="(define-fun $3 " '{ print index($0, name) }'; }
+p=$(column 1099 false p)
+q=$(column 1099 false q)
+open='(= 0 (div 1 0))'
+hidden='(not shown: its definitions are nested too deep)'
+# deep ANSWERS CLAIM TEXT..: the explanation of a claim of p and q.
+deep() {
+    deep_answers=$1
+    deep_claim="(assert $2)"
+    shift 2
+    explains - off "(declare-const p Bool)(declare-const q Bool)$deep_claim(check-sat)(get-model)" "$deep_answers" \
+        "check 1: s:1:$((45 + ${#deep_claim})), command 4: (check-sat)" "  claim: s:1:45, command 3: $deep_claim" "$@" '  model: a:1:5'
+}
+deep "$(items 1098)" p '  false: p' '    p = false' "    items: p at a:1:$(column 1098 false p)"
+deep "$(items 1099)" p '  false: p' "    p = $hidden" "    items: p at a:1:$p"
+deep "$(items 1099)" '(or (not (not p)) q)' '  false: p' "    p = $hidden" "    items: p at a:1:$p" '  false: q' '    q = false' "    items: q at a:1:$q"
+deep "$(items 1099)" '(let ((x p)) (= x (not q)))' '  false: (= x (not q))' "    x = p = $hidden, (not q) = true, q = false" \
+    "    items: p at a:1:$p, q at a:1:$q"
+deep "$(items 1099)" '(ite p q q)' '  false: (ite p q q)' "    p = $hidden, q = false" "    items: p at a:1:$p, q at a:1:$q"
+deep "$(items 1099 "$open")" p '  open: p' "    $hidden" "    p = $hidden" "    items: p at a:1:$(column 1099 "$open" p)"
+deep "$(items 1099 "$open")" '(= p q)' '  open: (= p q)' "    $hidden" "    p = $hidden, q = false" \
+    "    items: p at a:1:$(column 1099 "$open" p), q at a:1:$(column 1099 "$open" q)"
+
+# A tree in the value of an attribute labels nothing.
+explains - off '(declare-const p Bool)(declare-const z Bool)(assert (! p :a ((! false :named z))))(assert (distinct p z))(check-sat)(get-model)' \
+    'sat ((define-fun p () Bool true)(define-fun z () Bool true))' \
+    'check 1: s:1:106, command 5: (check-sat)' '  claim: s:1:83, command 4: (assert (distinct p z))' '  false: (distinct p z)' '    p = true, z = true' \
+    '    items: p at a:1:6, z at a:1:33' '  model: a:1:5'
+
+# Other sorts are tried for 10,000 steps: of 34 arguments in all places, of 60 in the last ones.
+arguments() { awk -v n="$1" 'BEGIN { printf "(and 1"; for (i = 1; i < n; i++) printf " p"; printf ")" }'; }
+printf '%s' "(declare-const p Bool)(assert $(arguments 34))" >"$work/s"
+: >"$work/a"
+"$program" --explain --print-success off "$work/s" "$work/a" >"$work/told" || [ $? = 3 ]
+grep -qx '    argument 1, 1, is of sort Int, and Bool is needed' "$work/told" || fail '34 arguments'
+printf '%s' "(declare-const p Bool)(assert $(arguments 60))" >"$work/s"
+"$program" --explain --print-success off "$work/s" "$work/a" >"$work/told" || [ $? = 3 ]
+grep -q '^    the sorts of its arguments: Int Bool Bool' "$work/told" || fail '60 arguments'
+grep -qx '    (not all sorts were tried in the places of these)' "$work/told" || fail '60 arguments'
+
 # What a model costs that is too long is what the limit has to be.
 printf '%s' '(declare-const x Int)(define-fun f () Int (+ x x))(assert (< (+ f f) 9))(check-sat)(get-model)' >"$work/s"
 printf '%s' 'sat ((define-fun x () Int 2))' >"$work/a"
@@ -226,6 +270,22 @@ cost=$(sed -n 's/^  too long: the claims of this check cost \([0-9]*\) steps.*/\
 grep -q ': too long$' "$work/told" || fail "too long: $cost"
 
 # Pipes are explained as files are, and nothing is told of a dialogue that is confirmed.
+# ---- names with two meanings, in the profile wide
+profile=wide
+used="  F7: the name is in use, or is an operator's"
+explains F7 off '(declare-sort U 0)(declare-const d U)(define-fun @a () U d)(check-sat)(get-model)' 'sat ((define-fun d () U (as @a U)))' \
+    'check 1: s:1:60, command 4: (check-sat)' '  item 1: a:1:6: (define-fun d () U (as @a U))' "$used"
+explains F7 off '(declare-sort U 0)(declare-const d U)(define-fun U!val!0 () U d)(check-sat)(get-model)' 'sat ((define-fun U!val!0 () U d))' \
+    'check 1: s:1:65, command 4: (check-sat)' '  item 1: a:1:6: (define-fun U!val!0 () U d)' "$used" \
+    '  it is also the name of an element: s:1:1, command 1: (declare-sort U 0)'
+explains F3 off '(declare-sort U 0)(declare-const d U)(define-fun U!val!0 () U d)(check-sat)(get-model)' 'sat ((define-fun d () U U!val!0))' \
+    'check 1: s:1:65, command 4: (check-sat)' '  item 1: a:1:6: (define-fun d () U U!val!0)' \
+    '  F3: a name, a sort or a literal is unknown there' '  unknown: U!val!0'
+explains F3 off '(declare-sort U 0)(define-sort V () U)(declare-const c U)(check-sat)(get-model)' 'sat ((define-fun c () U V!val!0))' \
+    'check 1: s:1:58, command 4: (check-sat)' '  item 1: a:1:6: (define-fun c () U V!val!0)' \
+    '  F3: a name, a sort or a literal is unknown there' '  unknown: V!val!0'
+profile=base
+
 printf '%s' "$asked" >"$work/s"
 printf '%s' 'sat ((define-fun p () Bool false))' | "$program" --explain --print-success off "$work/s" /dev/stdin >"$work/told" || [ $? = 1 ]
 grep -qx '  false: p' "$work/told" || fail 'a pipe'

@@ -1,9 +1,9 @@
 #!/bin/sh
 # Every fault that a report may show has a row in the last table of docs/LANGUAGE.md, and each is shown by a dialogue of its kind.
-# Needs what `rt ci` has built. Says nothing where all is well.
+# SMTCHECK names the program; without it, that which `rt ci` has built. Says nothing where all is well.
 set -e
 cd "$(dirname "$0")/.."
-program=$PWD/crates/smtcheck/out/smtcheck
+program=${SMTCHECK:-$PWD/crates/smtcheck/out/smtcheck}
 work=$(mktemp -d)
 trap 'rm -rf "$work"' EXIT
 
@@ -18,11 +18,12 @@ cmp -s "$work/named" "$work/explained" || {
     exit 1
 }
 
-# shows SUCCESS TEXT SCRIPT ANSWERS: the report on these has this text in a line.
+# shows SUCCESS TEXT SCRIPT ANSWERS: the report on these has this text in a line, in the profile that `profile` names.
+profile=base
 shows() {
     printf '%s' "$3" >"$work/script"
     printf '%s' "$4" >"$work/answers"
-    "$program" --print-success "$1" "$work/script" "$work/answers" >"$work/report" || [ $? -lt 4 ]
+    "$program" --profile "$profile" --print-success "$1" "$work/script" "$work/answers" >"$work/report" || [ $? -lt 4 ]
     grep -qF "$2" "$work/report" || { echo "faults: $2, $3, $4: $(cat "$work/report")"; exit 1; }
 }
 
@@ -74,3 +75,9 @@ shows off 'fault P2 at command 3, answer 1' "$asked" 'timeout'
 shows off 'fault P2 at command 1, answer 1' '(echo "a")' 'a'
 shows off 'fault P3 at answer 3' "$asked" "$model $model"
 shows off 'fault P3 at answer 1' '(set-logic QF_UF)' 'success'
+profile=wide
+shows off 'fault C7 F7 at command 1' '(declare-sort Real 0)' ''
+shows off 'fault C7 F7 at command 1' '(define-sort Array () Int)' ''
+shows off 'item 1 F7' '(declare-sort U 0)(assert (! true :named U!val!0))(check-sat)(get-model)' 'sat ((define-fun U!val!0 () Bool true))'
+shows off 'item 1 F7' '(declare-sort U 0)(declare-const @a U)(check-sat)(get-model)' 'sat ((define-fun @a () U (as @a U)))'
+shows off 'item 1 F3' '(declare-sort U 0)(declare-const U!val!0 U)(declare-const a U)(check-sat)(get-model)' 'sat ((define-fun a () U U!val!0))'

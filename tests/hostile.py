@@ -1,9 +1,10 @@
 #!/usr/bin/env python3
-"""hostile.py [--steps N] [--part N] [--bound] [NAME ..]: runs the program on texts that are made to take much, or large and honest, and prints
-what each takes: seconds of the processor and memory, at a quarter, at half and at all of its size.
+"""hostile.py [--steps N] [--part N] [--stack KB] [--bound] [NAME ..]: runs the program on texts that are made to take much, or large and
+honest, and prints what each takes: seconds of the processor and memory, at a quarter, at half and at all of its size.
 
---part N makes each N times smaller. With --bound the status is 1 where the whole takes more than its shape may: a second, or what stands
-beside the shape; or more than its memory. Needs what `rt ci` has built, or another program: SMTCHECK names it."""
+--part N makes each N times smaller, and --stack limits the machine's stack. With --bound the status is 1 where the whole takes more than its
+shape may: a second, or what stands beside the shape; or more than its memory; and where it does not end with the status of its report. Needs
+what `rt ci` has built, or another program: SMTCHECK names it."""
 import argparse
 import os
 import random
@@ -19,8 +20,8 @@ MODEL = "((define-fun p () Bool true))"
 ASK = "(check-sat)(get-model)"
 
 # A shape: what makes its texts from a size, that size, the most seconds where some are promised, and the most bytes of memory for each byte
-# beside those that any program has: none where nothing stays in force.
-Shape = namedtuple("Shape", "make size seconds memory")
+# beside those that any program has: none where nothing stays in force. Then the statuses of its reports, and whether they are explained.
+Shape = namedtuple("Shape", "make size seconds memory statuses explained", defaults=((0, 1, 2), False))
 
 
 def models_over_an_unused_body(n):
@@ -109,6 +110,55 @@ def levels_beside_names(n):
     return DECLARED + "(push 9999)(assert p)(push 1)(pop 10000)" * n, ""
 
 
+def chain(n, depth):
+    """Definitions of which each is the one before, within so many others: each is false where their number is even."""
+    bodies = [("(not " * depth, "h%d" % (i - 1) if i else "false", ")" * depth) for i in range(n)]
+    return "".join("(define-fun h%d () Bool %s%s%s)" % (i, *body) for i, body in enumerate(bodies))
+
+
+def model_of_deep_items(n):
+    """A model of items that are deep together."""
+    return DECLARED + "(assert p)" + ASK, "sat (%s(define-fun p () Bool h%d))" % (chain(n, 980), n - 1)
+
+
+def model_of_many_items(n):
+    """The same of many items that are not deep."""
+    return DECLARED + "(assert p)" + ASK, "sat (%s(define-fun p () Bool h%d))" % (chain(n, 2), n - 1)
+
+
+def deep_definitions(n):
+    """A script whose definitions are deep together."""
+    return chain(n, 980) + "(assert h%d)" % (n - 1) + ASK, "sat ()"
+
+
+def honest_definitions(n):
+    """Constants of which each adds to the one before, as programs write them."""
+    script = "(define-fun x0 () (_ BitVec 32) #x00000001)"
+    script += "".join("(define-fun x%d () (_ BitVec 32) (bvadd x%d #x00000001))" % (i, i - 1) for i in range(1, n))
+    return script + "(assert (= x%d #x00000000))" % (n - 1) + ASK, "sat ()"
+
+
+def trees_in_an_attribute(n):
+    """A value of an attribute that would be a label of a term, which is not checked: in it a function without its argument."""
+    calls = "".join("(define-fun f%d ((f%d Bool)) Bool f%d)" % (i, i - 1, i - 1) for i in range(1, n))
+    script = DECLARED + "(declare-const z Bool)(define-fun f0 ((x Bool)) Bool true)" + calls
+    script += "(assert (! p :a ((! f%d :named z))))" % (n - 1)
+    script += "(assert (= (not p) (and z %s)))" % " ".join("(f%d p)" % i for i in range(n)) + ASK
+    return script, "sat ((define-fun z () Bool true)(define-fun p () Bool true))"
+
+
+def wide_and_ill_sorted(n):
+    """A term whose last argument is of a wrong sort."""
+    return DECLARED + "(assert (and" + " p" * n + " 1))", ""
+
+
+def many_sorts(n):
+    """A term whose arguments are of as many sorts."""
+    names = range(n)
+    declared = "".join("(declare-sort S%d 0)(declare-const c%d S%d)" % (i, i, i) for i in names)
+    return declared + "(assert (= %s))" % " ".join("c%d" % i for i in names), ""
+
+
 SHAPES = {
     "unused body": Shape(models_over_an_unused_body, 250_000, 1, 200),
     "assumptions, models": Shape(assumptions_with_models, 16_000, 1, 0),
@@ -123,6 +173,13 @@ SHAPES = {
     "long literals": Shape(long_literals, 250, None, 200),
     "levels": Shape(levels, 45_000, 1, 0),
     "levels beside names": Shape(levels_beside_names, 25_000, 1, 0),
+    "deep items": Shape(model_of_deep_items, 14, 2, 200, (1,), True),
+    "many items": Shape(model_of_many_items, 5_000, 2, 200, (1,), True),
+    "deep definitions": Shape(deep_definitions, 13, 2, 200, (1,), True),
+    "honest definitions": Shape(honest_definitions, 5_000, 2, 200, (1,), True),
+    "trees in an attribute": Shape(trees_in_an_attribute, 5_000, 2, 200, (1,), True),
+    "ill sorted": Shape(wide_and_ill_sorted, 500_000, 2, 200, (3,), True),
+    "many sorts": Shape(many_sorts, 1_600, 2, 200, (3,), True),
 }
 # What any program has: bytes of memory that no text accounts for.
 OWN = 10_000_000
@@ -146,6 +203,7 @@ def main():
     parser.add_argument("names", nargs="*", choices=[[], *SHAPES], metavar="NAME", help="the shapes: " + "; ".join(SHAPES))
     parser.add_argument("--steps")
     parser.add_argument("--part", type=int, default=1)
+    parser.add_argument("--stack", type=int)
     parser.add_argument("--bound", action="store_true")
     parser.add_argument("--patience", type=int, default=PATIENCE)
     chosen = parser.parse_args()
@@ -154,18 +212,21 @@ def main():
         return 0
     words = [os.environ.get("SMTCHECK", TOP + "/crates/smtcheck/out/smtcheck"), "--print-success", "off"]
     words += ["--steps", chosen.steps] if chosen.steps else []
+    if chosen.stack:
+        words = ["sh", "-c", 'ulimit -s "$0"; exec "$@"', str(chosen.stack), *words]
     wrong = 0
     with tempfile.TemporaryDirectory() as work:
         for name in chosen.names or SHAPES:
             shape = SHAPES[name]
             cells = []
             for part in (1,) if chosen.bound else (4, 2, 1):
-                size, took = measured(words, shape, shape.size // part // chosen.part, work, chosen.patience)
+                explained = ["--profile", "wide", "--explain"] if shape.explained else []
+                size, took = measured(words + explained, shape, shape.size // part // chosen.part, work, chosen.patience)
                 cells.append("%6.2f s" % took.seconds)
-                if took.status not in (0, 1, 2):
+                if took.status not in shape.statuses:
                     cells[-1] = "status %d after %.1f s" % (took.status, took.seconds)
                     wrong |= chosen.bound
-            print("%-20s %5.1f MB: %s, %6.1f MB of memory, %5.1f bytes a byte: %s" % (
+            print("%-21s %5.1f MB: %s, %6.1f MB of memory, %5.1f bytes a byte: %s" % (
                 name, size / 1e6, " ".join(cells), took.memory / 1e6, took.memory / size, took.last), flush=True)
             if chosen.bound and (took.seconds > (shape.seconds or chosen.patience) or took.memory > OWN + shape.memory * size):
                 print("hostile: %s: more than it may take" % name)

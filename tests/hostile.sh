@@ -1,7 +1,8 @@
 #!/bin/sh
 # Runs the program on texts that are made to take much, or large and honest, of a quarter of the size that docs/SECURITY.md tells of, and looks
-# that none takes more seconds of the processor, or more memory, than its shape may: tests/hostile.py prints the whole table. Needs what
-# `rt ci` has built, or another program: SMTCHECK names it; and Python 3. Prints what is wrong.
+# that none takes more seconds of the processor, or more memory, than its shape may: tests/hostile.py prints the whole table. Then on texts
+# whose explanation could take much, or more than the machine's stack. Needs what `rt ci` has built, or another program: SMTCHECK names it; and
+# Python 3. Prints what is wrong.
 set -e
 cd "$(dirname "$0")/.."
 work=$(mktemp -d)
@@ -11,3 +12,10 @@ command -v python3 >"$work/python" || { echo 'hostile: skipped, no python3' >&2;
 PYTHONDONTWRITEBYTECODE=1 python3 tests/hostile.py --part 4 --bound --patience 20 \
     'unused body' 'assumptions, models' assumptions 'honest assumptions' 'honest models' 'global declarations' 'wide model' 'wide script' \
     'deep and wide' levels 'levels beside names' >"$work/table" || { cat "$work/table"; exit 1; }
+# Those that are explained, on the usual stack and on the smallest that the program takes.
+for stack in 8192 3072; do
+    PYTHONDONTWRITEBYTECODE=1 python3 tests/hostile.py --bound --patience 20 --stack "$stack" \
+        'deep items' 'many items' 'deep definitions' 'honest definitions' \
+        'trees in an attribute' 'ill sorted' 'many sorts' >"$work/table" ||
+        { echo "hostile: $stack KB of stack:"; cat "$work/table"; exit 1; }
+done

@@ -1,6 +1,7 @@
 /* small_stack BYTES: checks dialogues whose lists stand in one another to the limit of 1,000, on a thread with so many bytes of stack,
-   through smtcheck_validate and through a session. Prints each dialogue whose verdict is another than the right one, and nothing where all
-   is well. A stack that is too small ends it by a signal. */
+   through smtcheck_validate, through smtcheck_explain and through a session; and explains dialogues whose definitions are deep together.
+   Prints each dialogue whose verdict is another than the right one, and nothing where all is well. A stack that is too small ends it by a
+   signal. */
 #include "smtcheck.h"
 #include <pthread.h>
 #include <stdio.h>
@@ -84,6 +85,13 @@ static uint32_t whole(const char *script, const char *answers) {
     return smtcheck_validate(script, strlen(script), answers, strlen(answers), &options, &summary, text, sizeof text, &wanted);
 }
 
+/* The verdict on two whole texts that comes with their explanation. */
+static uint32_t explained(const char *script, const char *answers) {
+    static char text[1 << 16];
+    size_t wanted = 0;
+    return smtcheck_explain(script, strlen(script), answers, strlen(answers), &options, text, sizeof text, &wanted);
+}
+
 /* The verdict of a session that is told the script, and then the answers, in pieces of seven bytes. */
 static uint32_t in_pieces(const char *script, const char *answers) {
     struct smtcheck_session session = {0};
@@ -98,13 +106,52 @@ static uint32_t in_pieces(const char *script, const char *answers) {
     return outcome;
 }
 
+/* Definitions of h0, h1 .. in a row, each of which is the one before within so many `open`, between two texts; the second names the last,
+   and is written behind it. */
+static char *chain(const char *head, int count, const char *sort, const char *first, const char *open, int depth, const char *close,
+                   const char *tail) {
+    size_t each = 64 + strlen(sort) + strlen(first) + depth * (strlen(open) + strlen(close));
+    char *bytes = malloc(strlen(head) + count * each + strlen(tail) + 64), *end = bytes;
+    if (!bytes) exit(SMTCHECK_MEMORY);
+    end += sprintf(end, "%s", head);
+    for (int i = 0; i < count; i++) {
+        end += sprintf(end, "(define-fun h%d () %s ", i, sort);
+        for (int k = 0; k < depth; k++) end += sprintf(end, "%s", open);
+        end += i ? sprintf(end, "h%d", i - 1) : sprintf(end, "%s", first);
+        for (int k = 0; k < depth; k++) end += sprintf(end, "%s", close);
+        end += sprintf(end, ")");
+    }
+    sprintf(end, tail, count - 1);
+    return bytes;
+}
+
+/* Explains what definitions that are deep together make false: those of a model, or of a script. */
+static int explains(const char *name, const char *script, const char *answers) {
+    uint32_t outcome = explained(script, answers);
+    if (outcome != SMTCHECK_INVALID) printf("%s: %u\n", name, (unsigned)outcome);
+    return outcome != SMTCHECK_INVALID;
+}
+
+static int explain_all(void) {
+    static const char asked[] = "(declare-const p Bool)(assert p)" ASK;
+    char *deep = chain("sat (", 14, "Bool", "false", "(not ", 980, ")", "(define-fun p () Bool h%d))");
+    char *many = chain("sat (", 5000, "Bool", "false", "(not ", 2, ")", "(define-fun p () Bool h%d))");
+    char *script = chain("", 13, "Bool", "false", "(not ", 980, ")", "(assert h%d)" ASK);
+    char *honest = chain("", 5000, "(_ BitVec 32)", "#x00000001", "(bvadd #x00000001 ", 1, ")", "(assert (= h%d #x00000000))" ASK);
+    int wrong = explains("deep items", asked, deep) | explains("many items", asked, many) |
+                explains("deep definitions", script, "sat ()") | explains("honest definitions", honest, "sat ()");
+    free(deep), free(many), free(script), free(honest);
+    return wrong;
+}
+
 static void *check_all(void *wrong) {
+    if (explain_all()) *(int *)wrong = 1;
     for (size_t i = 0; i < sizeof dialogues / sizeof *dialogues; i++) {
         const struct dialogue *it = &dialogues[i];
         char *script = written(&it->script), *answers = written(&it->answers);
-        uint32_t first = whole(script, answers), second = in_pieces(script, answers);
-        if (first != it->outcome || second != it->outcome) {
-            printf("%s: %u and %u, not %u\n", it->name, (unsigned)first, (unsigned)second, (unsigned)it->outcome);
+        uint32_t first = whole(script, answers), second = in_pieces(script, answers), third = explained(script, answers);
+        if (first != it->outcome || second != it->outcome || third != it->outcome) {
+            printf("%s: %u, %u and %u, not %u\n", it->name, (unsigned)first, (unsigned)second, (unsigned)third, (unsigned)it->outcome);
             *(int *)wrong = 1;
         }
         free(script), free(answers);

@@ -52,7 +52,7 @@ __all__ = [
     "Detail", "Explained", "Explanation", "Item", "LibraryError", "Line", "PROFILES", "Part", "Place", "Report", "STEPS", "Session", "Spot",
     "VERDICTS", "Value", "check", "check_files", "explain", "explanation_of", "line_of", "main", "version",
 ]
-__version__ = "0.8.0"
+__version__ = "0.8.1"
 
 VERDICTS = ("valid", "invalid", "not decided", "refused")
 PROFILES = ("base", "wide")
@@ -181,7 +181,7 @@ class Value(NamedTuple):
     given: Tuple[str, ...]
     """of a variable, the terms that it stands for"""
     value: str
-    """a constant, or `open` where the value is not known"""
+    """a constant, or `open` where the value is not known, or `(not shown: ..)` with the reason where it was not looked for"""
 
 
 class Item(NamedTuple):
@@ -203,7 +203,7 @@ class Part(NamedTuple):
     spot: Optional[Spot]
     """where that stands"""
     reason: Optional[str]
-    """why it is open"""
+    """why it is open, or that this was not looked for"""
     values: Tuple[Value, ...]
     items: Tuple[Item, ...]
 

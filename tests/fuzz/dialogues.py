@@ -74,6 +74,7 @@ class Story:
 
     PROFILE = BASE
     LOGIC_NAMES = sorted(LOGICS[BASE]) + ["ALL", "ALL", "QF_BV", "QF_LIA", "QF_UFBV"]
+    SHORT_SORTS = ("word", "S", "Real", "Array", "String", "BitVec", "x", "let", "T")
 
     def __init__(self, rng, aim, turn, with_steps):
         self.rng = rng
@@ -208,7 +209,7 @@ class Story:
     def model_context(self):
         """What items of the secret model are checked in."""
         ranks = {name: item[1] for name, item in self.known_items().items()}
-        return Context(self.force.theories, self.force.abbreviations, ranks, self.PROFILE == WIDE)
+        return Context(self.force.theories, self.force.abbreviations, ranks, self.PROFILE == WIDE, self.force.ranks)
 
     def known_items(self):
         """The items of the secret model for what is declared, behind the helpers, by name: tree, rank and body."""
@@ -272,13 +273,14 @@ class Story:
                 if "=" not in scope and "ite" not in scope and "-" not in scope:
                     body = [symbol("ite"), listed("=", symbol(variable), inventor.literal(sort)), inventor.literal(result), body]
         tree = [word("define-fun"), symbol(name), parameters, inventor.sort_tree(result), body]
-        try:
-            rank, checked = check_definition(context, *tree[2:])
-        except Faulty:
-            plain = self.plain_parameters(inventor, sorts)
-            tree = [word("define-fun"), symbol(name), plain, inventor.sort_tree(result), inventor.literal(result)]
-            rank, checked = check_definition(context, *tree[2:])
-        return tree, rank, checked
+        for _ in range(20):
+            try:
+                rank, checked = check_definition(context, *tree[2:])
+                return tree, rank, checked
+            except Faulty:
+                plain = self.plain_parameters(inventor, sorts)
+                tree = [word("define-fun"), symbol(name), plain, inventor.sort_tree(result), inventor.literal(result)]
+        raise ValueError("no right item of this rank: " + str(tree))
 
     @staticmethod
     def plain_parameters(inventor, sorts):
@@ -308,11 +310,15 @@ class Story:
         for _ in range(rng.choice((0, 0, 0, 1, 2))):
             self.make_helper()
 
+    def helper_name(self):
+        """A name for a helper."""
+        return self.rng.choice(("helper", "k!1", "h!2", "f!3", self.rng.choice(NAMES)))
+
     def make_helper(self):
         """A helper of the secret model."""
         rng = self.rng
         inventor = Inventor(rng, self.model_context(), self.widths)
-        name = rng.choice(("helper", "k!1", "h!2", "f!3", rng.choice(NAMES)))
+        name = self.helper_name()
         if name not in self.helpers and name not in self.force.ranks and not inventor.context.is_taken(name):
             sorts = [inventor.sort() for _ in range(rng.choice((0, 1, 1, 2)))]
             self.helpers[name] = self.make_item(name, sorts, inventor.sort())
@@ -353,7 +359,7 @@ class Story:
         """An abbreviation."""
         rng = self.rng
         inventor = self.inventor()
-        name = rng.choice(("word", "S", "Real", "Array", "String", "BitVec", "x", "let", "T"))
+        name = rng.choice(self.SHORT_SORTS)
         if self.chance(0.1):
             name = rng.choice(("Int", "Bool"))
         if name in self.force.abbreviations and not self.chance(0.2):
@@ -361,12 +367,16 @@ class Story:
         tree = inventor.sort_tree(inventor.sort()) if not self.chance(0.08) else self.flaws(inventor).sort()
         self.do([word("define-sort"), symbol(name), [], tree])
 
+    def label_names(self):
+        """Different names for labels."""
+        return self.rng.sample(NAMES, 4) + ["a1", "a2"]
+
     def assertion(self):
         """An assertion, which is true in the secret model, mostly."""
         rng = self.rng
         labels = None
         if rng.random() < 0.35:
-            labels = [name for name in rng.sample(NAMES, 4) + ["a1", "a2"] if not self.force.context().is_taken(name)]
+            labels = [name for name in self.label_names() if not self.force.context().is_taken(name)]
         inventor = self.inventor(labels)
         size = rng.choice((1, 3, 4, 6, 8, 12, 20))
         if self.chance(0.04):

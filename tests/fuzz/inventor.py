@@ -26,6 +26,11 @@ ALL_OPERATORS = sorted(
     set(CORE_OPERATORS + INT_OPERATORS + INT_RELATIONS + SAME_WIDTH + OTHER_WIDTHS + BIT_RELATIONS + ["bvcomp", "bvX", "true", "false"])
 )
 
+# Names in the form of an element of the sort that % stands for.
+ELEMENT_NAMES = ("%!val!0", "%!val!0", "%!val!1", "%!val!2", "@uc_%_0", "@uc_%_1", "@uc_%_2")
+# Names that are an element's behind `as`.
+BEHIND_AS = ("@a", "@a", "@0", "@1", "@", "@%_0", "@uc_%_0")
+
 EDGES = [2**127 - 1, 2**127, 2**127 + 1, 2**127 - 2, 2**126, 2**64, 2**64 - 1, 2**63, 2**32 - 1, 10**38, 10**40, 13043817825332782212]
 WIDTHS = [1, 2, 3, 4, 5, 7, 8, 8, 9, 16, 31, 32, 33, 63, 64, 65, 100, 127, 128]
 
@@ -63,6 +68,12 @@ class Inventor:
     def has_elements(self, sort):
         """Whether a term may be an element of a declared sort: in a script it has to be a constant."""
         return self.context.elements or sort in self.constants
+
+    def element_name(self):
+        """A name in the form of an element of a sort in force, or of what only abbreviates one."""
+        rng = self.rng
+        names = [name for name, sort in self.context.abbreviations.items() if type(sort) is Free]
+        return rng.choice(ELEMENT_NAMES + BEHIND_AS).replace("%", rng.choice(names or ["U"]))
 
     def sort_tree(self, sort):
         """A tree for a sort: an abbreviation, if there is one."""
@@ -103,13 +114,20 @@ class Inventor:
             return symbol(rng.choice(constants)[0] if constants else "none")
         names = [name for name, named in self.context.abbreviations.items() if named == sort]
         name = rng.choice(names) if names else "Gone"
-        number = rng.choice((0, 0, 1, 1, 2, 10, 10 ** rng.choice((3, 24, 40))))
-        kind = rng.random()
-        if kind < 0.4:
-            return symbol("%s!val!%d" % (name, number))
-        if kind < 0.55:
-            return symbol("@uc_%s_%d" % (name, number))
-        return [word("as"), symbol(rng.choice(("@%s_%d" % (name, number), "@a", "@%d" % number, "@", "@uc_%s_%d" % (name, number)))), symbol(name)]
+        for _ in range(3):
+            number = rng.choice((0, 0, 1, 1, 2, 10, 10 ** rng.choice((3, 24, 40))))
+            kind = rng.random()
+            # By the name of an abbreviation it would be unknown, mostly.
+            own = sort.name if rng.random() < 0.97 else name
+            if kind < 0.4:
+                found = "%s!val!%d" % (own, number)
+            elif kind < 0.55:
+                found = "@uc_%s_%d" % (own, number)
+            else:
+                found = rng.choice(("@%s_%d" % (name, number), "@a", "@%d" % number, "@", "@uc_%s_%d" % (name, number)))
+            if found not in self.context.script and found not in self.context.ranks:
+                break
+        return symbol(found) if kind < 0.55 else [word("as"), symbol(found), symbol(name)]
 
     def vector(self, number, width):
         """A bit vector, spelled in one way or another."""
@@ -242,6 +260,8 @@ class Inventor:
         """Different names for variables, of operators and of names in force among them."""
         rng = self.rng
         pool = NAMES if rng.random() < 0.8 else OPERATOR_NAMES + list(self.context.ranks)
+        if self.declared_sorts() and rng.random() < 0.3:
+            pool = sorted({self.element_name() for _ in range(count + 3)}) + NAMES[:2]
         return rng.sample(pool, min(count, len(pool)))
 
     def let(self, sort, size, scope):

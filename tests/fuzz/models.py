@@ -1,6 +1,6 @@
 """Printed models: their items, their cost, and what they make of the assertions in force and of the assumptions of their check."""
 from script import Assertion, Declaration, Definition, is_define_fun
-from sorts import WIDE, Faulty, element_sort, sort_of
+from sorts import WIDE, Faulty, element_sort, like_element, of_abbreviation, sort_of
 from terms import Apply, Context, Let, Literal, Note, Use, Variable, check_definition, check_rank
 from text import begins_with, is_symbol
 from values import OPEN, Abstract
@@ -118,6 +118,8 @@ def check_element(item, force):
     sort = element_sort(item[1].text, force.abbreviations) if len(item) == 4 and is_symbol(item[1]) and item[2] == [] else None
     if sort is None:
         raise Faulty("F1")
+    if item[1].text in force.ranks:
+        raise Faulty("F7")
     if sort_of(item[3], force.abbreviations, force.theories) != sort:
         raise Faulty("F4")
 
@@ -131,19 +133,19 @@ def define_item(item, force, declared, ranks, bodies, reached=None):
     if not begins_with(item, "define-fun") or not is_define_fun(item[1:]):
         raise Faulty("F1")
     name = item[1].text
-    context = Context(force.theories, force.abbreviations, ranks, force.profile == WIDE)
+    context = Context(force.theories, force.abbreviations, ranks, force.profile == WIDE, force.ranks)
+    if name in ranks:
+        raise Faulty("F6")
+    if force.profile == WIDE and element_sort(name, force.abbreviations) is not None:
+        raise Faulty("F7")
     if force.profile == WIDE and name in force.ranks and name not in declared:
         set_aside(item, context, force.ranks[name], reached)
         return
-    if name in ranks:
-        raise Faulty("F6")
-    if element_sort(name, force.abbreviations) is not None:
-        if reached is not None:
-            reached["wide: item of an element's name"] += 1
-        raise Faulty("F7")
     if name not in declared and (name in force.ranks or name in context.operators):
         raise Faulty("F7")
     ranks[name], bodies[name] = check_definition(context, *item[2:], rank=declared.get(name))
+    if reached is not None and force.profile == WIDE and like_element(name):
+        reached["wide: item by the name of " + ("an abbreviation" if of_abbreviation(name, force.abbreviations) else "no sort")] += 1
 
 
 def bodies_of(tree, force, reached=None):
@@ -154,6 +156,8 @@ def bodies_of(tree, force, reached=None):
         try:
             define_item(item, force, declared, ranks, bodies, reached)
         except Faulty as fault:
+            if reached is not None and fault.kind:
+                reached["wide: " + fault.kind] += 1
             raise ItemFault(index + 1, fault.letter)
     return bodies
 

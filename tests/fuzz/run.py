@@ -27,7 +27,7 @@ from collections import Counter, namedtuple
 from dialogues import Dialogue, invent
 from inventor import ALL_OPERATORS
 from mutate import Corpus
-from sorts import BASE, WIDE, WIDE_LOGICS
+from sorts import BASE, WIDE, WIDE_LOGICS, WIDE_SORTS
 from text import read
 from trees import copied, lists_in, written
 from validator import STATUS, STEPS, report, with_deep_stack
@@ -101,14 +101,22 @@ WIDE_KINDS = ["wide: " + what for what in (
     "bare push", "bare pop", "bare push, fault C3", "bare pop, fault C4", "define-const", "a term assumed", "an annotation assumed",
     "item of a definition", "item of a label", "item of an inner label", "item of a declared name", "two items of a definition",
     "item of a name whose definition is gone", "item of a definition whose level is gone", "repeated item", "repeated item with parameters", "unknown logic",
-    "logic, unsupported, success on", "logic, unsupported, success off", "unknown logic, unsupported, success on",
+    "logic, unsupported, success on", "logic that leaves unsupported", "unknown logic, unsupported, success on",
     "unknown logic, unsupported, success off",
 )]
 WIDE_KINDS += ["wide: define-const, fault C7 " + letter for letter in ("F1", "F3", "F4", "F7")]
 WIDE_KINDS += ["wide: repeated item " + letter for letter in LETTERS[:6]]
 WIDE_KINDS += ["wide: declare-sort" + end for end in ("", ", fault C2", ", fault C7 F7")]
-WIDE_KINDS += ["wide: item " + end for end in ("declare-fun", "declare-fun F1", "declare-fun F4", "forall", "declare-sort", "of an element's name")]
+WIDE_KINDS += ["wide: item " + end for end in ("declare-fun", "declare-fun F1", "declare-fun F4", "forall", "declare-sort")]
 WIDE_KINDS += ["wide: an element"]
+# Names with an element's form, or nearly.
+WIDE_KINDS += ["wide: F7 of define-fun, " + whose for whose in NAMED + ("no name of the script",)]
+WIDE_KINDS += ["wide: F7 of declare-fun, " + whose for whose in NAMED]
+WIDE_KINDS += ["wide: " + what for what in (
+    "a name of the script in an element's form, F3", "a name by an abbreviation, F3", "a name of the script behind as, F7",
+    "a name of an item behind as, F7", "item by the name of an abbreviation", "item by the name of no sort",
+)]
+WIDE_KINDS += ["wide: %s of %s" % (word, name) for word in ("declare-sort", "define-sort") for name in WIDE_SORTS]
 WIDE_KINDS += ["wide: repeated item whose body would have " + letter for letter in ("F1", "F2", "F3", "F4", "F8")]
 WIDE_KINDS += ["wide: logic like %s, %s QF_" % (names.split()[0], how) for _, names in WIDE_LOGICS for how in ("with", "without")]
 # What it hardly reaches: a label whose level is gone is set aside in it, and an operator's name is rare.

@@ -1,7 +1,7 @@
 """Commands: their forms, and what is in force behind them."""
 from collections import namedtuple
 
-from sorts import BASE, BOOL, INT, LOGICS, THEORIES, WIDE, Faulty, Free
+from sorts import BASE, BOOL, INT, LOGICS, THEORIES, WIDE, WIDE_SORTS, Faulty, Free
 from terms import Body, Context, Rank, check_assertion, check_definition, check_literal, is_binding
 from text import KEYWORD, NUMERAL, RESERVED, STRING, Atom, begins_with, is_kind, is_symbol
 
@@ -252,9 +252,9 @@ class Force:
             return
         name = parts[0].text
         if word in ("declare-sort", "define-sort"):
-            if name in self.abbreviations or name in (BOOL, INT):
+            if name in self.abbreviations or name in (BOOL, INT) or self.profile == WIDE and name in WIDE_SORTS:
                 raise Faulty("F7")
-            self.bring(Abbreviation(*place, name, Free(number) if word == "declare-sort" else context.sort(parts[2])))
+            self.bring(Abbreviation(*place, name, Free(number, name) if word == "declare-sort" else context.sort(parts[2])))
             return
         if context.is_taken(name):
             raise Faulty("F7")

@@ -5,14 +5,16 @@ from collections import namedtuple
 from text import NUMERAL, SYMBOL, is_kind, is_symbol, is_word
 
 BOOL, INT = "Bool", "Int"
-# A sort that the command of this number declared.
-Free = namedtuple("Free", "command")
+# A sort that the command of this number declared, by this name.
+Free = namedtuple("Free", "command name")
 WIDEST = 128
 
 CORE, INTS, BITS, REALS, ARRAYS = "Core", "Ints", "bit vectors", "Reals", "arrays"
 ALL_THEORIES = frozenset([CORE, INTS, BITS])
 
 BASE, WIDE = "base", "wide"
+# Names that no new sort may have in the profile `wide`, beside those that none may have.
+WIDE_SORTS = ("Real", "Array")
 # No sort and no operator of Reals or of arrays is there yet: a logic with them has what it has besides.
 THEORIES = {BASE: ALL_THEORIES, WIDE: ALL_THEORIES | frozenset([REALS, ARRAYS])}
 
@@ -27,7 +29,7 @@ def theories_of():
 
 # The logics of the profile `wide`, by the theories beside Core; each name also with `QF_` before it.
 WIDE_LOGICS = (
-    ((), "UF DT UFDT"),
+    ((), "UF DT UFDT SAT"),
     ((INTS,), "IDL LIA NIA UFIDL UFLIA UFNIA UFDTLIA UFDTNIA"),
     ((REALS,), "RDL LRA NRA UFRDL UFLRA UFNRA"),
     ((INTS, REALS), "LIRA NIRA UFLIRA UFNIRA UFDTLIRA UFDTNIRA"),
@@ -56,11 +58,12 @@ LOGICS = {BASE: theories_of(), WIDE: wide_theories_of()}
 
 
 class Faulty(Exception):
-    """The first fault of a name, a sort, a term or an item: F1 to F8."""
+    """The first fault of a name, a sort, a term or an item, F1 to F8; and of some, what is counted of them."""
 
-    def __init__(self, letter):
+    def __init__(self, letter, kind=None):
         super().__init__(letter)
         self.letter = letter
+        self.kind = kind
 
 
 # The symbols that are elements of a declared sort of the profile `wide`, by the sort's name.
@@ -68,12 +71,25 @@ ELEMENT = re.compile(r"(?:(.*)!val!|@uc_(.*)_)(?:0|[1-9][0-9]*)", re.DOTALL)
 
 
 def element_sort(name, abbreviations):
-    """The declared sort of which a symbol is an element, or None."""
+    """The declared sort in force in whose elements' form a symbol is, or None: an abbreviation's own name makes no elements."""
     found = ELEMENT.fullmatch(name)
     if found is None:
         return None
-    sort = abbreviations.get(found.group(2) if found.group(1) is None else found.group(1))
-    return sort if type(sort) is Free else None
+    own = found.group(2) if found.group(1) is None else found.group(1)
+    sort = abbreviations.get(own)
+    return sort if type(sort) is Free and sort.name == own else None
+
+
+def like_element(name):
+    """Whether a symbol would be an element of some sort."""
+    return ELEMENT.fullmatch(name) is not None
+
+
+def of_abbreviation(name, abbreviations):
+    """Whether a symbol would be an element, were the abbreviation of a declared sort its name."""
+    found = ELEMENT.fullmatch(name)
+    own = found and (found.group(2) if found.group(1) is None else found.group(1))
+    return type(abbreviations.get(own)) is Free and abbreviations[own].name != own
 
 
 def is_bits(sort):

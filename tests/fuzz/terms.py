@@ -2,7 +2,7 @@
 from collections import namedtuple
 
 from operators import indexed_operator, operators_in
-from sorts import BITS, BOOL, INT, INTS, WIDEST, Faulty, Free, element_sort, sort_of
+from sorts import BITS, BOOL, INT, INTS, WIDEST, Faulty, Free, element_sort, of_abbreviation, sort_of
 from text import BINARY, DECIMAL, HEXADECIMAL, KEYWORD, NUMERAL, RESERVED, STRING, SYMBOL, begins_with, is_kind, is_symbol, is_word
 from values import HIGHEST, OPEN, element
 
@@ -24,13 +24,14 @@ Label = namedtuple("Label", "name sort node")
 
 class Context:
     """What terms are checked in: the theories, the sorts that names abbreviate, the ranks of the names in force, and whether terms may
-    name elements of declared sorts."""
+    name elements of declared sorts. Then `script` has the names of the script, which name no elements."""
 
-    def __init__(self, theories, abbreviations, ranks, elements=False):
+    def __init__(self, theories, abbreviations, ranks, elements=False, script=()):
         self.theories = theories
         self.abbreviations = abbreviations
         self.ranks = ranks
         self.elements = elements
+        self.script = script
         self.operators = operators_in(theories)
 
     def sort(self, tree):
@@ -110,18 +111,24 @@ class Checker:
         if name in self.context.operators:
             return self.constant(self.context.operators[name])
         sort = element_sort(name, self.context.abbreviations) if self.context.elements else None
+        if sort is not None and name in self.context.script:
+            raise Faulty("F3", "a name of the script in an element's form, F3")
         if sort is not None:
             return sort, Literal(element(name))
-        raise Faulty("F3")
+        of_another = self.context.elements and of_abbreviation(name, self.context.abbreviations)
+        raise Faulty("F3", "a name by an abbreviation, F3" if of_another else None)
 
     def check_element(self, tree):
         """An element with its sort, as `(as @x S)`."""
         if len(tree) != 3 or not is_symbol(tree[1]) or not tree[1].text.startswith("@"):
             raise Faulty("F2")
+        name = tree[1].text
+        if name in self.context.script or name in self.context.ranks:
+            raise Faulty("F7", "a name of %s behind as, F7" % ("the script" if name in self.context.script else "an item"))
         sort = self.context.sort(tree[2])
         if type(sort) is not Free:
             raise Faulty("F4")
-        return sort, Literal(element(tree[1].text))
+        return sort, Literal(element(name))
 
     def constant(self, operator):
         """An operator without arguments."""

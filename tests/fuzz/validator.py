@@ -3,13 +3,14 @@
 `report` gives the lines that the program should print on a script and its answers. Everything below it recurs as deep as terms nest and
 names use one another: `with_deep_stack` runs what calls it.
 """
+import re
 import sys
 import threading
 
-from models import CONFIRMED, judged
+from models import CONFIRMED, items_of, judged
 from script import CHANGING, CHECKS, Abbreviation, Assertion, Declaration, Definition, Force, Refused, command_of, is_literal
 from script import is_define_const, is_option
-from sorts import BASE, LOGICS, WIDE, WIDE_LOGICS
+from sorts import BASE, LOGICS, WIDE, WIDE_LOGICS, WIDE_SORTS, element_sort
 from terms import labels_of
 from text import STRING, begins_with, is_kind, is_symbol, read
 
@@ -93,7 +94,7 @@ def takes(command, print_success, profile=BASE):
         return NEEDED if is_option(parts[1], "true") else IF_FITS, is_general
     if print_success:
         return NEEDED, is_general
-    if word in ("set-option", "set-info") or profile == WIDE and word == "set-logic":
+    if word in ("set-option", "set-info") or profile == WIDE and word == "set-logic" and parts[0].text not in LOGICS[WIDE]:
         return IF_FITS, lambda answer: is_one_of(answer, "unsupported")
     return NONE, None
 
@@ -185,6 +186,8 @@ class Dialogue:
             self.count("assuming: " + kind)
         if self.force.profile == WIDE and form_of(tree):
             self.count("wide: %s, %s" % (form_of(tree), kind))
+        if self.force.profile == WIDE and kind == "fault C7 F7" and tree[0].text.endswith("-sort") and tree[1].text in WIDE_SORTS:
+            self.count("wide: %s of %s" % (tree[0].text, tree[1].text))
         if kind == "fault C5":
             self.count("global: fault C5" if begins_with(tree, "set-option") else "global: a logic that is late")
         if kind == "fault C7 F7" and is_symbol(tree[1]) and self.force.outlived:
@@ -275,6 +278,8 @@ class Dialogue:
             return
         name = command.parts[0].text
         kind = "unknown logic"
+        if answer is None and name in LOGICS[WIDE] and is_one_of(self.answers.next(), "unsupported"):
+            self.count("wide: logic that leaves unsupported")
         for _, names in WIDE_LOGICS:
             if name.replace("QF_", "", 1) in names.split() and name in LOGICS[WIDE]:
                 kind = "logic like %s, %s QF_" % (names.split()[0], "with" if name.startswith("QF_") else "without")
@@ -304,6 +309,16 @@ class Dialogue:
             elif name in self.force.ranks:
                 self.count("wide: item of a declared name")
             met.add(name)
+
+    def count_meanings(self, model, outcome):
+        """Counts of which names an item has `F7` for the form of an element."""
+        found = re.fullmatch(r"item (\d+) F7", outcome)
+        if self.reached is None or self.force.profile != WIDE or not found:
+            return
+        item = items_of(model)[int(found.group(1)) - 1]
+        if element_sort(item[1].text, self.force.abbreviations) is not None:
+            things = [thing for thing in self.force.brought if hasattr(thing, "rank") and thing.name == item[1].text]
+            self.count("wide: F7 of %s, %s" % (item[0].text, self.words_of(things[0]) if things else "no name of the script"))
 
     def is_inner(self, thing):
         """Whether a definition is a label that stands inside an assertion."""
@@ -389,6 +404,7 @@ class Dialogue:
             return
         self.count_items(model)
         outcome = judged(model, self.force, self.window.assumed, self.steps, self.reached)
+        self.count_meanings(model, outcome)
         self.window.models += 1
         if self.reached is not None and self.force.outlived:
             self.count_model(outcome)

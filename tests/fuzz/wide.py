@@ -3,18 +3,19 @@ import random
 
 from dialogues import AIMS, Dialogue, Story, aims, is_right_form, soup_of
 from flaws import LETTERS, SORT_LETTERS, templates
-from inventor import NAMES
+from inventor import BEHIND_AS, ELEMENT_NAMES, NAMES
 from script import Definition
-from sorts import BOOL, INT, INTS, LOGICS, WIDE, WIDE_LOGICS, Faulty, Free, element_sort
+from sorts import BOOL, INT, INTS, LOGICS, WIDE, WIDE_LOGICS, WIDE_SORTS, Faulty, Free, element_sort
 from text import NUMERAL, begins_with, is_kind, is_symbol, is_word, read
 from trees import copied, keyword, listed, lists_in, numeral, symbol, word, written
 from values import OPEN
 
-WIDE_AIMS = AIMS + aims(
+WIDE_AIMS = AIMS + aims("global", {"late": 6, "twice": 6}) + aims(
     "wide",
     {
-        "repeated": 8, "rank": 16, "gone": 4, "inner": 4, "logic": 14, "assumed": 12, "const": 14, "bare": 10, "declared": 3, "twice": 2,
-        "body": 3, "sort": 8, "element": 24, "universe": 16, "two meanings": 6, "gone sort": 3,
+        "repeated": 8, "rank": 32, "gone": 4, "inner": 4, "logic": 14, "assumed": 12, "const": 20, "bare": 10, "declared": 3, "twice": 2,
+        "body": 3, "sort": 8, "element": 24, "universe": 16, "two meanings": 94, "gone sort": 6,
+        "new sort": 16, "long element": 6,
     },
 )
 
@@ -64,7 +65,18 @@ UNIVERSES = templates(
     (declare-const ELEMENT SORT) (exists ((x SORT)) true) (declare-fun |ELEMENT| () |SORT|) (declare-fun ELEMENT () SORT SORT) (forall ())
     """
 )
+# What has a name in the form of an element, and where a model has that name.
+TWO_MEANINGS = [
+    (whose, where)
+    for where in ("body", "item", "as", "told", "applied")
+    for whose in ("constant", "label", "declared", "function", "gone", "abbreviation")
+]
+TWO_MEANINGS += [("item", "as"), ("abbreviation", "body"), ("abbreviation", "item"), ("none", "item"), ("none", "told")] * 2
+TWO_MEANINGS += [("label", "told"), ("declared", "told"), ("none", "told"), ("abbreviation", "item")]
+TWO_MEANINGS += [("variable", where) for where in ("body", "as", "applied")]
 SORT_NAMES = ("U", "V", "S", "my sort", "U!val", "x", "uc_U", "Elem", "", "let", "!val!0", "_")
+# Sorts whose elements have names of 31 bytes, the longest that are known, and of 32.
+LONG_SORTS = ("a_sort_of_just_25_letters", "one_sort_of_all_26_letters")
 
 
 def filled(tree, names):
@@ -97,9 +109,12 @@ class WideStory(Story):
 
     PROFILE = WIDE
     LOGIC_NAMES = sorted(LOGICS[WIDE]) + ["ALL", "QF_BV", "QF_LIA", "QF_UFBV", "ALL_SUPPORTED"] * 8 + ["AX", "QF_AX"] * 3
+    SHORT_SORTS = ("word", "S", "String", "BitVec", "x", "let", "T", "U", "V", "V", "W")
 
     def __init__(self, rng, aim, turn, with_steps, sorts):
         super().__init__(rng, aim, turn, with_steps)
+        # The sorts that were declared, also those that are gone: what was ever their name.
+        self.sorts_met = []
         # How many definitions a model repeats, and which names were defined or were labels.
         self.repeats = rng.choice((0, 0.3, 0.7, 1, 1))
         self.defined = set()
@@ -112,13 +127,63 @@ class WideStory(Story):
         """A command, in one of its forms."""
         done = super().do(reformed(tree) if self.rng.random() < 0.5 else tree, answer)
         self.defined.update(thing.name for thing in self.force.of_kind(Definition))
+        for name, sort in self.force.abbreviations.items():
+            if type(sort) is Free and name not in self.sorts_met:
+                self.sorts_met.append(name)
         return done
 
     def answer_to(self, command, need):
         """What the solver answers: it may not know a logic."""
-        if command.word == "set-logic" and self.rng.random() < 0.25:
-            return symbol("unsupported") if not self.force.print_success else self.no_effect()
+        if command.word == "set-logic":
+            left = not self.force.print_success and command.parts[0].text in LOGICS[WIDE]
+            if self.rng.random() < (0.03 if left else 0.25):
+                return symbol("unsupported") if not self.force.print_success else self.no_effect()
         return super().answer_to(command, need)
+
+    # Names that are elements', or nearly
+
+    def element_name(self):
+        """A name in the form of an element: of a sort in force, of what abbreviates one, of a sort that is gone or that never was."""
+        rng = self.rng
+        names = [name for name, sort in self.force.abbreviations.items() if type(sort) is Free]
+        own = rng.choice(names or ["U"]) if rng.random() < 0.8 else rng.choice(self.sorts_met + ["U", "V", "Int"])
+        return rng.choice(ELEMENT_NAMES + BEHIND_AS).replace("%", own)
+
+    def free_name(self):
+        """A name for something new: now and then such a one."""
+        if self.sorts_met and self.rng.random() < 0.2:
+            name = self.element_name()
+            # A declared name that no item can have leaves no model whole.
+            own = element_sort(name, self.force.abbreviations) is not None
+            if not self.force.context().is_taken(name) and (not own or self.rng.random() < 0.3):
+                return name
+        return super().free_name()
+
+    def label_names(self):
+        """Different names for labels."""
+        found = super().label_names()
+        if self.sorts_met and self.rng.random() < 0.5:
+            found = list(dict.fromkeys(found[:2] + [self.element_name() for _ in range(3)]))
+        return found
+
+    def helper_name(self):
+        """A name for a helper."""
+        if self.sorts_met and self.rng.random() < 0.5:
+            name = self.element_name()
+            if element_sort(name, self.force.abbreviations) is None or self.chance(0.1):
+                return name
+        return super().helper_name()
+
+    def settle_items(self):
+        """Gives up the items that have no right name or body any more."""
+        if self.sorts_met:
+            for name in list(self.helpers):
+                if element_sort(name, self.force.abbreviations) is not None and self.rng.random() < 0.9:
+                    del self.helpers[name]
+            if self.rng.random() < 0.8:
+                self.helpers = {name: item for name, item in self.helpers.items() if self.is_right(item)}
+                self.secret = {name: item for name, item in self.secret.items() if self.is_right(item)}
+        super().settle_items()
 
     # Declared sorts
 
@@ -127,13 +192,15 @@ class WideStory(Story):
         if self.begins_with_sort or self.rng.random() < self.sorted:
             self.begins_with_sort = False
             self.declare_sort()
+            if not self.over and self.rng.random() < 0.4:
+                self.make_helper()
         else:
             super().step()
 
     def declare_sort(self):
         """A sort, whose name is free mostly, and perhaps a constant of it."""
         rng = self.rng
-        name = rng.choice(SORT_NAMES)
+        name = rng.choice(SORT_NAMES if rng.random() < 0.93 else LONG_SORTS)
         if name in self.force.abbreviations and not self.chance(0.2):
             name += str(rng.randrange(10))
         if self.chance(0.05):
@@ -164,6 +231,9 @@ class WideStory(Story):
         """What a check assumes: terms too, mostly such as are true in the secret model."""
         rng = self.rng
         found = super().literals()
+        if self.sorts_met and self.chance(0.03):
+            name = symbol(self.element_name())
+            found.append(name if rng.random() < 0.5 else listed("=", name, copied(name)))
         for _ in range(rng.choice((0, 0, 1, 1, 2, 3))):
             term = self.true_term(rng.choice((2, 3, 5, 8)))
             if self.chance(0.05):
@@ -249,9 +319,9 @@ class WideStory(Story):
         elif kind == 2:
             item[3] = sort
         elif kind == 3:
-            item[3] = self.flaws(inventor, turn // 10).sort(rng.choice(SORT_LETTERS))
+            item[3] = self.flaws(inventor, turn // 10).sort(rng.choice([*SORT_LETTERS, "F5"]))
         elif kind == 4:
-            item[2] = [listed("extra", self.flaws(inventor, turn // 10).sort(rng.choice(SORT_LETTERS)))] + item[2]
+            item[2] = [listed("extra", self.flaws(inventor, turn // 10).sort(rng.choice([*SORT_LETTERS, "F5"])))] + item[2]
         elif kind == 5:
             item[2] = item[2] + [listed("twice", sort), listed("twice", sort)]
         elif kind == 6:
@@ -447,27 +517,112 @@ class WideStory(Story):
         names = self.with_sorts()
         if names is None:
             return
-        element = self.rng.choice(SYMBOLS).replace("%", names[0])
+        element = self.rng.choice(SYMBOLS if self.rng.random() < 0.5 else ELEMENT_NAMES).replace("%", names[0])
         item = filled(copied(UNIVERSES[self.turn % len(UNIVERSES)]), {"SORT": names[0], "OTHER": names[1], "ELEMENT": element})
         self.sat_with(lambda items: self.put(items, item))
 
     def aim_at_two_meanings(self):
-        """A name of the script or of an item that is an element's too."""
+        """A name of the script, of an item or of a variable that is an element's too; and a model that has it somewhere."""
         rng = self.rng
         names = self.with_sorts()
         if names is None:
             return
-        name = symbol(rng.choice(SYMBOLS[:2] + SYMBOLS[11:13]).replace("%", names[0]))
-        kind = rng.random()
-        if kind < 0.4:
-            self.do(listed("declare-const", name, symbol(names[0])))
-        elif kind < 0.6:
-            self.do([word("define-fun"), name, [], symbol("Bool"), symbol("true")])
-        if kind > 0.5 and not self.over:
-            item = [word("define-fun"), name, [], symbol(names[0]), copied(name)]
-            self.sat_with(lambda items: self.put(items, item))
-        elif not self.over:
-            self.sat_with(lambda items: None)
+        whose, where = TWO_MEANINGS[self.turn % len(TWO_MEANINGS)]
+        own = names[0]
+        if whose == "abbreviation":
+            self.fresh += 1
+            own = "A%d" % self.fresh
+            self.do([word("define-sort"), symbol(own), [], symbol(names[0])])
+        name = rng.choice(BEHIND_AS if where == "as" else ELEMENT_NAMES).replace("%", own)
+        if whose == "gone" and not self.over:
+            self.do(listed("push", 1))
+        if not self.over and not self.force.context().is_taken(name):
+            self.bring(whose, name, names[0])
+        if whose == "gone" and not self.over:
+            self.do(rng.choice((listed("pop", 1), listed("pop", 1), listed("reset-assertions"))))
+        if not self.over:
+            self.sat_with(lambda items: self.put_meaning(items, whose, where, name, names[0]))
+
+    def bring(self, whose, name, sort):
+        """A command by which the script has a name."""
+        rng = self.rng
+        kind = rng.choice(("constant", "function", "label")) if whose == "gone" else whose
+        result = symbol(sort if rng.random() < 0.5 else "Bool")
+        if kind == "declared":
+            self.do([word("declare-fun"), symbol(name), [symbol(sort)] * rng.choice((0, 0, 1)), result])
+        elif kind == "constant":
+            body = self.inventor().leaf(self.force.abbreviations.get(sort, BOOL), {}) if result.text == sort else symbol("true")
+            self.do([word("define-fun"), symbol(name), [], result, body])
+        elif kind == "function":
+            self.do([word("define-fun"), symbol(name), [listed("y", symbol(sort))], symbol(sort), symbol("y")])
+        elif kind == "label":
+            self.assert_tree(listed("!", self.inventor().term(BOOL, 2, {}), keyword(":named"), symbol(name)))
+
+    def put_meaning(self, items, whose, where, name, sort):
+        """Puts an item with a name that has two meanings into a model, or nearly."""
+        rng = self.rng
+        if whose == "declared" and where != "item":
+            # Its own item would have the first fault.
+            items[:] = [item for item in items if not is_right_form(item) or item[1].text != name]
+        tree = symbol(name) if where != "as" else [word("as"), symbol(name), symbol(sort)]
+        if rng.random() < 0.3 and where == "as":
+            tree[2] = self.flaws(self.inventor()).sort()
+        result = symbol(sort)
+        parameters = []
+        if whose == "variable":
+            parameters = [listed(symbol(name), symbol(sort))]
+            if rng.random() < 0.5:
+                parameters, tree = [], [word("let"), [[symbol(name), listed("as", "@o", symbol(sort))]], tree]
+        if where == "applied":
+            tree = [tree, listed("as", "@o", symbol(sort))]
+        if rng.random() < 0.3:
+            tree, result = listed("=", tree, copied(tree)), symbol("Bool")
+        item = [word("define-fun"), symbol("extra.item"), parameters, result, tree]
+        if where == "item":
+            thing = self.thing_named(name)
+            item = self.repeated(thing) if thing is not None else [word("define-fun"), symbol(name), [], result, listed("as", "@o", symbol(sort))]
+            if thing is not None and rng.random() < 0.3:
+                self.spoil_rank(item, rng.randrange(20))
+        elif where == "told":
+            told = symbol(sort if rng.random() < 0.6 else "Bool") if rng.random() < 0.7 else self.flaws(self.inventor()).sort()
+            item = [word("declare-fun"), symbol(name), [], told]
+        if whose == "item":
+            items.insert(0, [word("define-fun"), symbol(name), [], symbol("Bool"), symbol("true")])
+            items.append(item)
+        else:
+            self.put(items, item)
+
+    def aim_at_new_sort(self):
+        """A new sort of a name that the profile keeps."""
+        name = WIDE_SORTS[self.turn % 2]
+        sort = self.inventor().sort_tree(BOOL) if self.rng.random() < 0.7 else self.flaws(self.inventor()).sort()
+        abbreviated = [word("define-sort"), symbol(name), [], sort]
+        self.do(abbreviated if self.turn // 2 % 2 else [word("declare-sort"), symbol(name), numeral(0)])
+
+    def aim_at_long_element(self):
+        """A constant whose value has a name of 31 bytes, which is known, or of 32."""
+        size = (31, 32)[self.turn % 2]
+        self.fresh += 1
+        constant = "long%d" % self.fresh
+        name = "@%d".ljust(size + 1, "_") % (self.fresh % 10)
+        sort, body = "L%d" % self.fresh, [word("as"), symbol(name)]
+        if self.turn // 2 % 3 < 2:
+            sort = sort.ljust(size - 6, "-")
+            body = symbol(("%s!val!0", "@uc_%s_0")[self.turn // 2 % 3] % sort)
+        else:
+            body.append(symbol(sort))
+        for tree in ([word("declare-sort"), symbol(sort), numeral(0)], listed("declare-const", constant, symbol(sort))):
+            if not self.over:
+                self.do(tree)
+        if not self.over:
+            self.do(listed("assert", listed("=", constant, constant)))
+
+        def change(items):
+            for item in items:
+                if is_right_form(item) and item[1].text == constant:
+                    item[4] = body
+
+        self.sat_with(change)
 
     def aim_at_gone_sort(self):
         """A sort whose level is gone, or another of its name; and an element of it."""
@@ -477,9 +632,19 @@ class WideStory(Story):
         if names is None:
             return
         self.do(rng.choice((listed("pop", 1), listed("reset-assertions"))))
-        if not self.over and rng.random() < 0.5:
-            self.do([word("declare-sort"), symbol(names[0]), numeral(0)])
-        self.body_with(symbol(rng.choice(SYMBOLS[:2]).replace("%", names[0])))
+        kind = rng.random()
+        others = [name for name, sort in self.force.abbreviations.items() if type(sort) is Free]
+        if not self.over and names[0] not in self.force.abbreviations:
+            if kind < 0.4:
+                self.do([word("declare-sort"), symbol(names[0]), numeral(0)])
+            elif kind < 0.7:
+                self.do([word("define-sort"), symbol(names[0]), [], symbol(rng.choice(others + ["Bool"]))])
+        name = symbol(rng.choice(ELEMENT_NAMES).replace("%", names[0]))
+        if rng.random() < 0.5:
+            self.body_with(name)
+        else:
+            item = [word("define-fun"), name, [], symbol("Bool"), symbol("true")]
+            self.sat_with(lambda items: self.put(items, item))
 
     def aim_at_logic(self):
         """A logic, that the solver knows or not."""
@@ -491,8 +656,12 @@ class WideStory(Story):
         names = WIDE_LOGICS[self.turn % len(WIDE_LOGICS)][1].split()
         name = rng.choice(("", "QF_")) + rng.choice(names) if known else rng.choice(NO_LOGICS)
         answer = symbol("unsupported") if rng.random() < (0.4 if known else 0.8) else None
+        left = answer is not None and known and not self.force.print_success
         if not self.over:
-            self.do(listed("set-logic", symbol(name)), answer)
+            self.do(listed("set-logic", symbol(name)), None if left else answer)
+        if left and not self.over:
+            # That answer is left for the next command.
+            self.do(rng.choice((listed("get-info", keyword(":foo")), listed("check-sat"), listed("get-assertions"))), answer)
         for _ in range(rng.choice((1, 2))):
             if not self.over:
                 self.declare(rng.random() < 0.5)

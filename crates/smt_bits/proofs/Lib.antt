@@ -2,8 +2,10 @@ pub mod ArithmeticLemmas
 pub mod BitLawLemmas
 pub mod BitwiseLemmas
 pub mod LiteralLemmas
+pub mod ModuloLemmas
 pub mod PartLemmas
 pub mod PlaceLemmas
+pub mod RoundingLemmas
 pub mod ShiftLemmas
 pub mod SignedDivisionLemmas
 pub mod SignedLawLemmas

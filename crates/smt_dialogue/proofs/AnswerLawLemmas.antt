@@ -144,7 +144,7 @@ SaysSo answer = (answer ≡ Atom Symbol (codes "unsupported"))
     ⊎ ((message : List ℕ) × (answer ≡ Items (Cons (Atom Symbol (codes "error")) (Cons (Atom Text message) Nil))))
 
 -- the symbol of a name
-named : (name : List ℕ) (x : Sexp) → is_symbol name x ≡ true → x ≡ Atom Symbol name
+pub named : (name : List ℕ) (x : Sexp) → is_symbol name x ≡ true → x ≡ Atom Symbol name
 named name (Atom Symbol bytes) h = ap (Atom Symbol) (same_text bytes name (sym h))
 named name (Atom Keyword bytes) h = cc
 named name (Atom Numeral bytes) h = cc

@@ -464,7 +464,7 @@ goes_on profile s pairs c o count = by (kind_of c) refl
     by kinds.Check is = check_goes profile s pairs c o is count
     by kinds.Model is = subst (GoesOn profile s pairs (pair_of c o)) (sym (model_after profile s pairs c o is))
         (model_goes profile s pairs s.pending c (is_effective_with o) o is refl refl)
-    by kinds.Logic is = changes profile s pairs c o (ap asks_check is) (ap changes_force is)
+    by (kinds.Logic known) is = changes profile s pairs c o (ap asks_check is) (ap changes_force is)
     by kinds.Change is = changes profile s pairs c o (ap asks_check is) (ap changes_force is)
     by kinds.Reset is = changes profile s pairs c o (ap asks_check is) (ap changes_force is)
     by (kinds.PrintSuccess on) is = pass (kinds.PrintSuccess on) is refl refl refl

@@ -26,7 +26,6 @@ use Rattle.smt_dialogue.specs.declared.options.Options.{Options}
 use Rattle.smt_report.specs.declared.line.CheckAnswer.{CheckAnswer}
 use Rattle.smt_report.specs.declared.line.Line.{Line}
 use Rattle.smt_report.specs.declared.line.Line.TheVariants as lines
-use Rattle.smt_theory.specs.declared.profile.Profile.{Profile}
 
 -- ## A check whose window has ended
 

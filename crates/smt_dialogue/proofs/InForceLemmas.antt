@@ -8,8 +8,8 @@ use Rattle.std.proofs.lemmas.Grind.{flat_map-append}
 use Rattle.std.proofs.lemmas.List.Sums.{fold-append}
 use Rattle.smt_theory.specs.Theories.{all_theories}
 use Rattle.smt_theory.specs.declared.profile.Profile.{Profile}
-use Rattle.smt_theory.specs.declared.sort.Sort.{Sort}
 use Rattle.smt_theory.specs.declared.theories.Theories.{Theories}
+use Rattle.smt_terms.specs.declared.named_sort.NamedSort.{NamedSort}
 use Rattle.smt_terms.specs.Signature.{Entry, Signature}
 use Rattle.smt_trees.specs.Sexp.{Sexp, Sexps}
 use Rattle.smt_script.specs.Command.{Command, Effect, AllButOptions, Assumes, Everything, Nothing, Removes, Removing}
@@ -307,6 +307,6 @@ signature-quiet profile cs c quiet =
       entries =
           es;
     }) entries
-    ∙ ap (λ (as' : List (List ℕ × Sort)).
+    ∙ ap (λ (as' : List (List ℕ × NamedSort)).
     record { theories = theories_in_force profile cs; elements = None; abbreviations = as'; entries = entries_of old })
     abbreviations

@@ -39,3 +39,4 @@ pub mod RunLemmas
 pub mod ClaimLemmas
 pub mod TakenClaimLemmas
 pub mod AnswerLawLemmas
+pub mod AnswerFormLemmas

@@ -56,10 +56,11 @@ abbrev pub general_need : Need
 general_need = Needed forms.General
 
 -- what a command that sets a logic needs where `success` is not printed: in Wide it may be told that its logic
--- is not known
-abbrev pub silent_logic_need : Profile → Need
-silent_logic_need Base = Nothing
-silent_logic_need Wide = Optional forms.Unsupported
+-- is not known, where Wide has none of its name
+abbrev pub silent_logic_need : Profile → Bool → Need
+silent_logic_need Base known = Nothing
+silent_logic_need Wide true = Nothing
+silent_logic_need Wide false = Optional forms.Unsupported
 
 -- what a command needs of the answers, where `success` is printed for a command that has no answer of its
 -- own, or is not. A command that sets whether it is printed goes by the value that it sets
@@ -71,7 +72,7 @@ need_of_kind profile on kinds.Query = Needed forms.Other
 need_of_kind profile on kinds.Exit = Optional forms.Success
 need_of_kind profile on (kinds.PrintSuccess value) = if value then general_need else Optional forms.General
 need_of_kind profile on kinds.Setting = if on then general_need else Optional forms.Unsupported
-need_of_kind profile on kinds.Logic = if on then general_need else silent_logic_need profile
+need_of_kind profile on (kinds.Logic known) = if on then general_need else silent_logic_need profile known
 need_of_kind profile on kinds.Change = if on then general_need else Nothing
 need_of_kind profile on kinds.Reset = if on then general_need else Nothing
 

@@ -100,7 +100,7 @@ impl Checks {
         match kind {
             Kind::Check => Ok(self.take_check(number, answer)),
             Kind::Model => self.judge_answer(number, answer, stack),
-            Kind::Logic | Kind::Change | Kind::Reset => Ok(self.end_window_if(answer)),
+            Kind::Logic { .. } | Kind::Change | Kind::Reset => Ok(self.end_window_if(answer)),
             Kind::PrintSuccess { .. } | Kind::Setting | Kind::Exit => Ok(NewLines::of_ended(None)),
             Kind::Echo | Kind::Query => Ok(NewLines::of_ended(None)),
         }

@@ -49,22 +49,23 @@ pub(crate) fn need_of(profile: Profile, print_success: bool, kind: Kind) -> Need
         Kind::Exit => Need::Optional(AnswerForm::Success),
         Kind::PrintSuccess { on: true } => Need::Needed(AnswerForm::General),
         Kind::PrintSuccess { on: false } => Need::Optional(AnswerForm::General),
-        Kind::Setting | Kind::Logic | Kind::Change | Kind::Reset if print_success => {
+        Kind::Setting | Kind::Logic { .. } | Kind::Change | Kind::Reset if print_success => {
             Need::Needed(AnswerForm::General)
         }
         Kind::Setting => Need::Optional(AnswerForm::Unsupported),
-        Kind::Logic => silent_logic_need(profile),
+        Kind::Logic { is_known } => silent_logic_need(profile, is_known),
         Kind::Change | Kind::Reset => Need::Nothing,
     }
 }
 
 // What a command that sets a logic needs where the solver prints no `success`: in the wide profile the solver may
-// answer that it does not know the logic.
-fn silent_logic_need(profile: Profile) -> Need
-    ensures { result ≡ answers.silent_logic_need profile }
+// answer that it does not know the logic, where the profile does not know it either.
+fn silent_logic_need(profile: Profile, is_known: bool) -> Need
+    ensures { result ≡ answers.silent_logic_need profile is_known }
 {
     match profile {
         Profile::Base => Need::Nothing,
+        Profile::Wide if is_known => Need::Nothing,
         Profile::Wide => Need::Optional(AnswerForm::Unsupported),
     }
 }

@@ -7,11 +7,11 @@ use Rattle.std.specs.Option.{option_or}
 use Rattle.smt_trees.specs.Sexp.{Sexp, Sexps, Nil, Cons}
 use Rattle.smt_theory.specs.Words.{result_and_then}
 use Rattle.smt_theory.specs.declared.theories.Theories.{Theories}
+use Rattle.smt_terms.specs.Elements.{ElementNames}
 use Rattle.smt_terms.specs.Items.{item_in, items_before, list_of}
 use Rattle.smt_terms.specs.Signature.{AreDistinct, Entry, Origin, Declared, Defined, IsDeclared, KeepsRank}
 use Rattle.smt_terms.specs.Signature.{Signature, declared_named, entry_named, if_declared, names_of}
 use Rattle.smt_terms.specs.Freshness.{is_taken, item_elements}
-use Rattle.smt_terms.specs.SortTrees.{SortNames}
 use Rattle.smt_terms.specs.WellSorted.{AreWellSorted, IsWellSorted}
 use Rattle.smt_faults.specs.declared.term_flaw.TermFlaw.{TermFlaw}
 use Rattle.smt_eval.proofs.EntryLemmas.{entry_named-skip}
@@ -42,7 +42,7 @@ TakenAreItems = (script : Signature) (earlier : List Entry) (tree : Sexp) (e : E
     → item_in script earlier tree ≡ Ok (Some e) → IsItem script earlier e
 
 -- one more at the end
-AreWellSorted-more : (theories : Theories) (elements : Option SortNames) (before xs : List Entry) (e : Entry)
+AreWellSorted-more : (theories : Theories) (elements : Option ElementNames) (before xs : List Entry) (e : Entry)
     → AreWellSorted theories elements before xs → IsWellSorted theories elements (before ++ xs) e
     → AreWellSorted theories elements before (xs ++ e ∷ [])
 AreWellSorted-more theories elements before [] e h i =

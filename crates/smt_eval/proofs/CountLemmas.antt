@@ -1,5 +1,5 @@
 -- What lists cost, by their forms, and what is left when they were counted.
-use Rattle.std.proofs.Common.{◌≡◌, ◌≤◌, ℕ, ◌+◌, ◌-◌, List, ◌++◌, map, Result, Ok, Err, None, OnOk, refl, ap, arith}
+use Rattle.std.proofs.Common.{◌≡◌, ◌≤◌, ℕ, ◌+◌, ◌-◌, List, ◌++◌, map, Result, Ok, Err, None, OnOk, ap, arith}
 use Rattle.std.proofs.Common.{false}
 use Rattle.smt_trees.specs.Sexp.{Sexp, Sexps, Atom, Reserved, Items, Nil, Cons}
 use Rattle.smt_trees.specs.declared.reserved.Word.TheVariants.{Let}

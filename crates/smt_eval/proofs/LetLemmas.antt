@@ -203,7 +203,7 @@ by_own_name m e args = by (bytes_eq e.name e.name) ((bytes_eq-Decides e.name e.n
     by true h = refl
     by false h = cc
 
-by_other_name : (m : Meaning) (e : Entry) (f : List ℕ) (args : List Element) → f ≢ e.name
+pub by_other_name : (m : Meaning) (e : Entry) (f : List ℕ) (args : List Element) → f ≢ e.name
     → with_definition m e (Plain f) args ≡ m (Plain f) args
 by_other_name m e f args other = by (bytes_eq f e.name) (bytes_eq-Decides f e.name).0
   where
@@ -239,4 +239,5 @@ call_is_let z s e ps body first rest is same =
     let m = meaning_in z s in
     last_call z s e ps body (values_of (meaning_in z (with_entry s e)) [] args) is
     ∙ ap (λ vs. value_of m (zip ps vs) body) same
-    ∙ ap (λ (r : Variables). value_of m r body) (sym (zipped m ps args) ∙ sym (append-nil (values_bound m [] (bindings_of (zip ps (trees_of args))))))
+    ∙ ap (λ (r : Variables). value_of m r body)
+    (sym (zipped m ps args) ∙ sym (append-nil (values_bound m [] (bindings_of (zip ps (trees_of args))))))

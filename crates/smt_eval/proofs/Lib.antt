@@ -12,6 +12,7 @@ pub mod GivenBodyLemmas
 pub mod ClosedLemmas
 pub mod FoundLemmas
 pub mod ReadLemmas
+pub mod RelatedValueLemmas
 pub mod RenamingLemmas
 pub mod SetAsideLemmas
 pub mod PlainLemmas
@@ -33,3 +34,4 @@ pub mod StructureCostLemmas
 pub mod TermCostLemmas
 pub mod CostExampleLemmas
 pub mod LetLemmas
+pub mod ElementNameLemmas

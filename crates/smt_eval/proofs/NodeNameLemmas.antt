@@ -23,10 +23,10 @@ use Rattle.smt_machine.specs.Nodes.{Frame, Giving, node_value, parts}
 use Rattle.smt_machine.specs.Tables.{call, resolved, shifted}
 use Rattle.smt_terms.specs.Denotes.{Denotes, HasBodyBelow, Head, Table, applied_node, named_node, node_at}
 use Rattle.smt_terms.specs.Denotes.{slots_from}
-use Rattle.smt_terms.specs.Elements.{element_among, if_free}
+use Rattle.smt_terms.specs.Elements.{ElementNames, element_among, if_declared}
+use Rattle.smt_forms.specs.Variables.{is_among}
 use Rattle.smt_terms.specs.Library.{declared_among}
 use Rattle.smt_terms.specs.Signature.{AreDistinct, Entry, Origin, Signature, entry_named}
-use Rattle.smt_terms.specs.SortTrees.{SortNames}
 use Rattle.smt_terms.specs.TermsOf.{AreBodies, IsBody, first_heads, heads_of}
 use Rattle.smt_terms.specs.declared.library.Found.{Found}
 use Rattle.smt_terms.specs.declared.library.Found.TheVariants as place
@@ -93,15 +93,17 @@ node_of_head head js n h = by (length js == head.arity) refl h
 -- ---- elements
 
 -- what may be named as an element has the form of one
-has_form : (elements : Option SortNames) (x : List ℕ) (sort : Sort) → element_among elements x ≡ Some sort
+has_form : (elements : Option ElementNames) (x : List ℕ) (sort : Sort) → element_among elements x ≡ Some sort
     → option_and_then (λ of. name_element x) (sort_of_element x) ≡ name_element x
 has_form None x sort among = cc
-has_form (Some sorts) x sort among = by (sort_of_element x) among
+has_form (Some elements) x sort among = by (is_among elements.taken x) (sort_of_element x) among
   where
-    by : (o : Option (List ℕ)) → option_and_then if_free (option_and_then (look_up sorts.abbreviations) o) ≡ Some sort
+    by : (b : Bool) (o : Option (List ℕ))
+        → cond b None (option_and_then if_declared (option_and_then (look_up elements.sorts.abbreviations) o)) ≡ Some sort
         → option_and_then (λ of. name_element x) o ≡ name_element x
-    by None is = cc
-    by (Some name) is = refl
+    by true o is = cc
+    by false None is = cc
+    by false (Some name) is = refl
 
 -- ---- over definitions
 

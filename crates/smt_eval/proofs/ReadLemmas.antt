@@ -1,5 +1,5 @@
 -- Models, one item at a time, and as a whole.
-use Rattle.std.proofs.Common.{◌≡◌, inl, inr, ℕ, ◌+◌, List, [], ◌∷◌, ◌++◌}
+use Rattle.std.proofs.Common.{◌≡◌, inl, inr, ℕ, ◌+◌, List, [], ◌++◌}
 use Rattle.std.proofs.Common.{Option, Result, Ok, Err, refl, ap, sym, ◌∙◌}
 use Rattle.smt_trees.specs.Sexp.{Sexp, Sexps, Cons}
 use Rattle.smt_theory.specs.Words.{result_and_then}

@@ -1,18 +1,16 @@
--- Where no element is named, values are renamed as those of the variables are.
-use Rattle.std.proofs.Common.{◌≡◌, ◌≤◌, ℕ, Bool, true, false, cond, not, ◌&&◌, ◌||◌, List, [], ◌∷◌, ◌++◌, map}
-use Rattle.std.proofs.Common.{length, Option, Some, None, is_some, option_map, Result, Ok, Err, refl, ap, ap₂, sym}
+-- Where the elements that are named keep their names, values are renamed as those of the variables are; and values
+-- have the names of these elements alone.
+use Rattle.std.proofs.Common.{◌≡◌, ℕ, zero, suc, Bool, true, false, cond, not, ◌&&◌, ◌||◌, List, [], ◌∷◌, ◌++◌, map}
+use Rattle.std.proofs.Common.{Option, Some, None, Result, Ok, Err, refl, ap, ap₂, sym}
 use Rattle.std.proofs.Common.{◌∙◌, subst, arith}
-use Rattle.std.specs.List.{list_all, list_any, zip}
-use Rattle.std.specs.Prelude.{bytes_eq, fold, ok_or, unwrap_or}
+use Rattle.std.specs.List.{All, list_all, list_any}
+use Rattle.std.specs.Prelude.{bytes_eq, fold}
+use Rattle.std.proofs.lemmas.List.Elements.{All-head, All-tail}
 use Rattle.std.proofs.lemmas.Slice.Eq.{bytes_eq-Decides}
 use Rattle.smt_bits.specs.BitVector.{BitVector}
 use Rattle.std.specs.Prelude.{ℤ}
-use Rattle.smt_trees.specs.Sexp as sexp
-use Rattle.smt_trees.specs.Sexp.{Sexp, Sexps, Atom, Reserved, Items, Nil, Cons, Symbol, Keyword, Numeral}
-use Rattle.smt_trees.specs.Sexp.{Hexadecimal, Binary, count}
+use Rattle.smt_trees.specs.Sexp.{Sexp, Sexps, Atom, Reserved, Items, Nil, Cons, Symbol, count}
 use Rattle.smt_trees.specs.declared.reserved.Word.TheVariants.{As, Bang, Let, Underscore}
-use Rattle.smt_theory.specs.Index.{IndexView}
-use Rattle.smt_theory.specs.Operators.{plain_op}
 use Rattle.smt_theory.specs.Words.{look_up}
 use Rattle.smt_theory.specs.declared.op.Arithmetic.TheVariants.{Minus}
 use Rattle.smt_theory.specs.declared.op.BitsOp.{BitsOp}
@@ -23,36 +21,25 @@ use Rattle.smt_theory.specs.declared.op.IntsOp.{IntsOp}
 use Rattle.smt_theory.specs.declared.op.IntsOp.TheVariants as ints
 use Rattle.smt_theory.specs.declared.op.Op.{Op}
 use Rattle.smt_theory.specs.declared.op.Op.TheVariants.{Core, Ints, Bits}
-use Rattle.smt_theory.specs.declared.op.OpFault.{OpFault}
-use Rattle.smt_theory.specs.declared.op.OpFault.TheVariants.{Unknown}
-use Rattle.smt_theory.specs.declared.theories.Theories.{Theories}
 use Rattle.smt_values.specs.BitOperations.{operate_bits}
 use Rattle.smt_values.specs.Element.{Element, Truth, Integer, Vector, Abstract}
 use Rattle.smt_values.specs.Lists.{are_chained, are_distinct}
 use Rattle.smt_values.specs.Operations.{DivisionByZero, chosen, exclusive_or, integer_of, is_implied, is_same}
 use Rattle.smt_values.specs.Operations.{negated, operate, operate_core, operate_ints, truth_of, vector_of}
 use Rattle.smt_faults.specs.declared.term_flaw.TermFlaw.{TermFlaw}
-use Rattle.smt_faults.specs.declared.term_flaw.TermFlaw.TheVariants.{Form}
 use Rattle.smt_forms.specs.Bindings.{named_trees}
-use Rattle.smt_forms.specs.Identifier.{Identifier, Plain, Indexed, all_indexes, applied, indexed, operator_of}
+use Rattle.smt_forms.specs.Identifier.{Identifier, Plain, Indexed, applied}
 use Rattle.smt_forms.specs.Variables.{is_among}
 use Rattle.smt_terms.specs.Signature.{Entry, Origin, Declared, Defined, Signature}
-use Rattle.smt_eval.specs.Meaning.{Meaning, defined_value, element_by, meaning_after, meaning_in, meaning_of_op}
-use Rattle.smt_eval.specs.Meaning.{operators, value_of, values_bound, values_of, with_definition}
+use Rattle.smt_eval.specs.Meaning.{meaning_in, value_of}
+use Rattle.smt_eval.specs.NamedElements.{AllNameOnly, BindingsNameOnly, BodiesNameOnly, BodyNamesOnly}
+use Rattle.smt_eval.specs.NamedElements.{DefinitionsNameOnly, IsAmong, IsHeadUsedFor, IsOfName, IsUsedFor, KeepsName}
+use Rattle.smt_eval.specs.NamedElements.{NamesOnly, OfNames}
 use Rattle.smt_eval.specs.Renaming.{AllNameNone, BindingsNameNone, BodiesNameNone, BodyNamesNone, DefinitionsNameNone}
 use Rattle.smt_eval.specs.Renaming.{IsHeadMet, IsInjective, IsMet, NamesNone, Parameters, Renaming, UnlessVariable}
-use Rattle.smt_eval.specs.Renaming.{operators_take, parameters_after, parameters_in, parameters_of, renamed}
-use Rattle.smt_eval.specs.Renaming.{renamed_variables, with_parameters}
-
-abbrev Variables : Type 0
-Variables = List (List ℕ × Element)
-
--- what names with all their arguments mean is renamed as the arguments are
-pub record IsRenamed (g : Renaming) (takes : Parameters) (m : Meaning) : Type 0 where
-  pub named : (x : List ℕ) (es : List Element) → IsMet (takes x) (length es)
-      → m (Plain x) (map (renamed g) es) ≡ renamed g (m (Plain x) es)
-  pub numbered : (x : List ℕ) (indexes : List IndexView) (es : List Element)
-      → m (Indexed x indexes) (map (renamed g) es) ≡ renamed g (m (Indexed x indexes) es)
+use Rattle.smt_eval.specs.Renaming.{operators_take, parameters_in, renamed, renamed_variables, with_parameters}
+use Rattle.smt_eval.proofs.RelatedValueLemmas.{AllRelated, AreRelated, IsKept, OptionRelated, Relation, Variables}
+use Rattle.smt_eval.proofs.RelatedValueLemmas.{values_stay_related}
 
 -- ---- operators
 
@@ -188,214 +175,205 @@ module _ (g : Renaming) (injective : IsInjective g) where
   result_renamed z (Bits op) es =
       ap (operate_bits op) (kept vector_of vector_stays es) ∙ sym (bits_stay op (map vector_of es))
 
-  -- ---- meanings
+  -- ---- elements that keep their names
 
-  operators_renamed : (z : DivisionByZero) (theories : Theories)
-      → IsRenamed g (operators_take theories) (operators z theories)
-  operators_renamed z theories = record {
-    named = λ x es met. plain x es (plain_op theories x) met;
-    numbered = λ x indexes es. with_indexes x indexes es (operator_of theories (Indexed x indexes));
+  abbrev IsOther : Relation
+  IsOther d e = d ≡ renamed g e
+
+  all_others : (ds es : List Element) → AllRelated IsOther ds es → ds ≡ all_renamed es
+  all_others [] [] all = refl
+  all_others (d ∷ ds) (e ∷ es) all = ap₂ (λ a rest. a ∷ rest) all.0 (all_others ds es all.1)
+  all_others [] (e ∷ es) all = absurd all
+  all_others (d ∷ ds) [] all = absurd all
+
+  others_kept : IsKept (KeepsName g) IsOther
+  others_kept = record {
+    truths = λ b. refl;
+    integers = λ z. refl;
+    vectors = λ v. refl;
+    names = λ x same. ap Abstract (sym same);
+    results = λ z op ds es all. ap (operate z op) (all_others ds es all) ∙ result_renamed z op es;
   }
-    where
-      plain : (x : List ℕ) (es : List Element) (o : Option Op)
-          → IsMet (cond (is_some o) (Some 0) None) (length es)
-          → meaning_of_op z (ok_or o Unknown) (Plain x) (all_renamed es)
-          ≡ renamed g (meaning_of_op z (ok_or o Unknown) (Plain x) es)
-      plain x es (Some op) met = result_renamed z op es
-      plain x [] None met = absurd (omega (arith, met))
-      plain x (e ∷ es) None met = refl
 
-      with_indexes : (x : List ℕ) (indexes : List IndexView) (es : List Element) (o : Result Op OpFault)
-          → meaning_of_op z o (Indexed x indexes) (all_renamed es)
-          ≡ renamed g (meaning_of_op z o (Indexed x indexes) es)
-      with_indexes x indexes es (Ok op) = result_renamed z op es
-      with_indexes x indexes es (Err fault) = refl
-
-  -- ---- variables
-
-  -- the first have the values of the second, renamed
-  abbrev pub AreRenamed : Variables → Variables → Type 0
-  AreRenamed s r = (x : List ℕ) → look_up s x ≡ option_map (renamed g) (look_up r x)
-
-  -- each of these names has a value
-  abbrev pub HaveValues : List (List ℕ) → Variables → Type 0
-  HaveValues names r = (x : List ℕ) → is_among names x ≡ true → is_some (look_up r x) ≡ true
-
-  variables_renamed : (r : Variables) → AreRenamed (renamed_variables g r) r
-  variables_renamed [] x = refl
+  variables_renamed : (r : Variables) → AreRelated IsOther (renamed_variables g r) r
+  variables_renamed [] x = tt
   variables_renamed (v ∷ r) x = by (bytes_eq x v.0) (variables_renamed r x)
     where
-      by : (b : Bool) → look_up (renamed_variables g r) x ≡ option_map (renamed g) (look_up r x)
-          → cond b (Some (renamed g v.1)) (look_up (renamed_variables g r) x)
-          ≡ option_map (renamed g) (cond b (Some v.1) (look_up r x))
+      by : (b : Bool) → OptionRelated IsOther (look_up (renamed_variables g r) x) (look_up r x)
+          → OptionRelated IsOther (cond b (Some (renamed g v.1)) (look_up (renamed_variables g r) x))
+          (cond b (Some v.1) (look_up r x))
       by true rest = refl
       by false rest = rest
 
-  variables_have : (r : Variables) → HaveValues (map (λ v. v.0) r) r
-  variables_have [] x among = among
-  variables_have (v ∷ r) x among = by (bytes_eq x v.0) among (variables_have r x)
-    where
-      by : (b : Bool) → b || is_among (map (λ w. w.0) r) x ≡ true
-          → (is_among (map (λ w. w.0) r) x ≡ true → is_some (look_up r x) ≡ true)
-          → is_some (cond b (Some v.1) (look_up r x)) ≡ true
-      by true among rest = refl
-      by false among rest = rest among
-
-  zip_renamed : (ps : List (List ℕ)) (es : List Element) → AreRenamed (zip ps (all_renamed es)) (zip ps es)
-  zip_renamed [] es x = refl
-  zip_renamed (p ∷ ps) [] x = refl
-  zip_renamed (p ∷ ps) (e ∷ es) x = by (bytes_eq x p) (zip_renamed ps es x)
-    where
-      by : (b : Bool) → look_up (zip ps (all_renamed es)) x ≡ option_map (renamed g) (look_up (zip ps es) x)
-          → cond b (Some (renamed g e)) (look_up (zip ps (all_renamed es)) x)
-          ≡ option_map (renamed g) (cond b (Some e) (look_up (zip ps es) x))
-      by true rest = refl
-      by false rest = rest
-
-  zip_has : (ps : List (List ℕ)) (es : List Element) → length ps ≤ length es → HaveValues ps (zip ps es)
-  zip_has [] es all x among = cc
-  zip_has (p ∷ ps) [] all x among = absurd (omega (arith, all))
-  zip_has (p ∷ ps) (e ∷ es) all x among = by (bytes_eq x p) among (zip_has ps es (omega (arith, all)) x)
-    where
-      by : (b : Bool) → b || is_among ps x ≡ true
-          → (is_among ps x ≡ true → is_some (look_up (zip ps es) x) ≡ true)
-          → is_some (cond b (Some e) (look_up (zip ps es) x)) ≡ true
-      by true among rest = refl
-      by false among rest = rest among
-
-  -- ---- terms
-
-  counted : (m : Meaning) (r : Variables) (ts : Sexps) → length (values_of m r ts) ≡ count ts
-  counted m r Nil = refl
-  counted m r (Cons t ts) = let rest = counted m r ts in omega (arith, rest)
-
-  -- an identifier with indexes is no symbol
-  never_plain : (x : List ℕ) (parts : Sexps) → indexed parts ≡ Ok (Plain x) → ⊥
-  never_plain x (Cons (Atom Symbol y) (Cons t ts)) h = by (all_indexes (Cons t ts)) h
-    where
-      by : (o : Option (List IndexView)) → ok_or (option_map (λ is. Indexed y is) o) Form ≡ Ok (Plain x) → ⊥
-      by None h = cc
-      by (Some is) h = cc
-  never_plain x _ h = cc
-
-  module _ (takes : Parameters) (m : Meaning) (are : IsRenamed g takes m) where
-    symbol_renamed : (x : List ℕ) (b : Bool) (v w : Option Element) → w ≡ option_map (renamed g) v
-        → (b ≡ true → is_some v ≡ true) → UnlessVariable b (IsMet (takes x) 0)
-        → unwrap_or w (m (Plain x) []) ≡ renamed g (unwrap_or v (m (Plain x) []))
-    symbol_renamed x b (Some e) w is has none = ap (λ o. unwrap_or o (m (Plain x) [])) is
-    symbol_renamed x true None w is has none = let some = has refl in cc
-    symbol_renamed x false None w is has none =
-        ap (λ o. unwrap_or o (m (Plain x) [])) is ∙ are.named x [] none
-
-    indexed_renamed : (parts : Sexps) (o : Result Identifier TermFlaw) → indexed parts ≡ o
-        → element_by o (λ f. m f []) ≡ renamed g (element_by o (λ f. m f []))
-    indexed_renamed parts (Err fault) is = refl
-    indexed_renamed parts (Ok (Plain x)) is = absurd (never_plain x parts is)
-    indexed_renamed parts (Ok (Indexed x indexes)) is = are.numbered x indexes []
-
-    call_renamed : (o : Result Identifier TermFlaw) (vs ws : List Element) (n : ℕ) → ws ≡ all_renamed vs
-        → length vs ≡ n → IsHeadMet takes o n
-        → element_by o (λ f. m f ws) ≡ renamed g (element_by o (λ f. m f vs))
-    call_renamed (Err fault) vs ws n is long met = refl
-    call_renamed (Ok (Plain x)) vs ws n is long met =
-        ap (m (Plain x)) is ∙ are.named x vs (subst (IsMet (takes x)) (sym long) met)
-    call_renamed (Ok (Indexed x indexes)) vs ws n is long met =
-        ap (m (Indexed x indexes)) is ∙ are.numbered x indexes vs
-
-    value_in_front : (b : Bool) (v w : Element) (o p : Option Element) → w ≡ renamed g v
-        → p ≡ option_map (renamed g) o → cond b (Some w) p ≡ option_map (renamed g) (cond b (Some v) o)
-    value_in_front true v w o p here rest = ap Some here
-    value_in_front false v w o p here rest = rest
-
-    bound_have : (names : List (List ℕ)) (r : Variables) (bs : Sexps) → HaveValues names r
-        → HaveValues (map (λ b. b.0) (named_trees bs) ++ names) (values_bound m r bs ++ r)
-    bound_have names r (Cons (Items (Cons (Atom Symbol y) (Cons t Nil))) rest) have x among =
-        by (bytes_eq x y) among (bound_have names r rest have x)
-      where
-        by : (b : Bool) → b || is_among (map (λ b. b.0) (named_trees rest) ++ names) x ≡ true
-            → (is_among (map (λ b. b.0) (named_trees rest) ++ names) x ≡ true
-            → is_some (look_up (values_bound m r rest ++ r) x) ≡ true)
-            → is_some (cond b (Some (value_of m r t)) (look_up (values_bound m r rest ++ r) x)) ≡ true
-        by true among rest = refl
-        by false among rest = rest among
-    bound_have names r _ have x among = have x among
-
-    mutual
-      value_renamed : (names : List (List ℕ)) (s r : Variables) → AreRenamed s r → HaveValues names r
-          → (t : Sexp) → NamesNone takes names t → value_of m s t ≡ renamed g (value_of m r t)
-      value_renamed names s r same have (Atom Symbol x) none =
-          symbol_renamed x (is_among names x) (look_up r x) (look_up s x) (same x) (have x) none
-      value_renamed names s r same have (Atom Numeral x) none = refl
-      value_renamed names s r same have (Atom Hexadecimal x) none = refl
-      value_renamed names s r same have (Atom Binary x) none = refl
-      value_renamed names s r same have (Atom sexp.Decimal x) none = refl
-      value_renamed names s r same have (Atom sexp.Text x) none = refl
-      value_renamed names s r same have (Atom Keyword x) none = refl
-      value_renamed names s r same have (Reserved word) none = refl
-      value_renamed names s r same have (Items Nil) none = refl
-      value_renamed names s r same have (Items (Cons (Reserved Underscore) parts)) none =
-          indexed_renamed parts (indexed parts) refl
-      value_renamed names s r same have (Items (Cons (Reserved As) parts)) none = absurd none
-      value_renamed names s r same have
-          (Items (Cons (Reserved Let) (Cons (Items bindings) (Cons body Nil)))) none =
-          value_renamed (map (λ b. b.0) (named_trees bindings) ++ names) (values_bound m s bindings ++ s)
-          (values_bound m r bindings ++ r) (bound_renamed names s r same have bindings none.0)
-          (bound_have names r bindings have) body none.1
-      value_renamed names s r same have (Items (Cons (Reserved Bang) (Cons term attributes))) none =
-          value_renamed names s r same have term none
-      value_renamed names s r same have (Items (Cons head args)) none =
-          call_renamed (applied head args) (values_of m r args) (values_of m s args) (count args)
-          (values_renamed names s r same have args none.1) (counted m r args) none.0
-
-      values_renamed : (names : List (List ℕ)) (s r : Variables) → AreRenamed s r → HaveValues names r
-          → (ts : Sexps) → AllNameNone takes names ts → values_of m s ts ≡ all_renamed (values_of m r ts)
-      values_renamed names s r same have Nil none = refl
-      values_renamed names s r same have (Cons t ts) none = ap₂ (λ v vs. v ∷ vs)
-          (value_renamed names s r same have t none.0) (values_renamed names s r same have ts none.1)
-
-      bound_renamed : (names : List (List ℕ)) (s r : Variables) → AreRenamed s r → HaveValues names r
-          → (bs : Sexps) → BindingsNameNone takes names bs
-          → AreRenamed (values_bound m s bs ++ s) (values_bound m r bs ++ r)
-      bound_renamed names s r same have (Cons (Items (Cons (Atom Symbol y) (Cons t Nil))) rest) none x =
-          value_in_front (bytes_eq x y) (value_of m r t) (value_of m s t)
-          (look_up (values_bound m r rest ++ r) x) (look_up (values_bound m s rest ++ s) x)
-          (value_renamed names s r same have t none.0) (bound_renamed names s r same have rest none.1 x)
-      bound_renamed names s r same have _ none x = same x
-
-    -- ---- definitions
-
-    body_renamed : (o : Origin) → BodyNamesNone takes o → (es : List Element) → parameters_of o ≤ length es
-        → defined_value m o (all_renamed es) ≡ renamed g (defined_value m o es)
-    body_renamed (Declared command) none es all = refl
-    body_renamed (Defined ps body) none es all =
-        value_renamed ps (zip ps (all_renamed es)) (zip ps es) (zip_renamed ps es) (zip_has ps es all) body none
-
-    renamed_with : (e : Entry) → BodyNamesNone takes e.origin
-        → IsRenamed g (with_parameters takes e) (with_definition m e)
-    renamed_with e none = record {
-      named = λ x es met. by x es (bytes_eq x e.name) met;
-      numbered = λ x indexes es. are.numbered x indexes es;
-    }
-      where
-        by : (x : List ℕ) (es : List Element) (b : Bool)
-            → IsMet (cond b (Some (parameters_of e.origin)) (takes x)) (length es)
-            → cond b (defined_value m e.origin (all_renamed es)) (m (Plain x) (all_renamed es))
-            ≡ renamed g (cond b (defined_value m e.origin es) (m (Plain x) es))
-        by x es true met = body_renamed e.origin none es met
-        by x es false met = are.named x es met
-
-  renamed_after : (takes : Parameters) (m : Meaning) (es : List Entry) → IsRenamed g takes m
-      → BodiesNameNone takes es → IsRenamed g (parameters_after takes es) (meaning_after m es)
-  renamed_after takes m [] are none = are
-  renamed_after takes m (e ∷ es) are none =
-      renamed_after (with_parameters takes e) (with_definition m e) es (renamed_with takes m are e none.0) none.1
+  names_stay : (r : Variables) → map (λ (v : List ℕ × Element). v.0) (renamed_variables g r) ≡ map (λ v. v.0) r
+  names_stay [] = refl
+  names_stay (v ∷ r) = ap (λ names. v.0 ∷ names) (names_stay r)
 
   pub renamed_value : (z : DivisionByZero) (definitions : Signature) (r : Variables) (term : Sexp)
-      → DefinitionsNameNone definitions → NamesNone (parameters_in definitions) (map (λ v. v.0) r) term
+      → DefinitionsNameOnly (KeepsName g) definitions
+      → NamesOnly (KeepsName g) (parameters_in definitions) (map (λ v. v.0) r) term
       → value_of (meaning_in z definitions) (renamed_variables g r) term
       ≡ renamed g (value_of (meaning_in z definitions) r term)
-  renamed_value z definitions r term bodies none =
-      value_renamed (parameters_in definitions) (meaning_in z definitions)
-      (renamed_after (operators_take definitions.theories) (operators z definitions.theories) definitions.entries
-      (operators_renamed z definitions.theories) bodies) (map (λ v. v.0) r) (renamed_variables g r) r
-      (variables_renamed r) (variables_have r) term none
+  renamed_value z definitions r term bodies only =
+      values_stay_related (KeepsName g) IsOther others_kept z definitions (renamed_variables g r) r term
+      (variables_renamed r) bodies
+      (subst (λ names. NamesOnly (KeepsName g) (parameters_in definitions) names term) (sym (names_stay r)) only)
+
+-- ---- terms that name no element name no other
+
+module _ (P : OfNames) where
+  used_for : (x : List ℕ) (o : Option ℕ) (n : ℕ) → IsMet o n → IsUsedFor P x o n
+  used_for x None zero met = absurd (omega (arith, met))
+  used_for x None (suc n) met = tt
+  used_for x (Some parameters) n met = met
+
+  head_used_for : (takes : Parameters) (o : Result Identifier TermFlaw) (n : ℕ) → IsHeadMet takes o n
+      → IsHeadUsedFor P takes o n
+  head_used_for takes (Ok (Plain f)) n met = used_for f (takes f) n met
+  head_used_for takes (Ok (Indexed f indexes)) n met = tt
+  head_used_for takes (Err fault) n met = tt
+
+  symbol_used_for : (x : List ℕ) (b : Bool) (o : Option ℕ) → UnlessVariable b (IsMet o 0)
+      → UnlessVariable b (IsUsedFor P x o 0)
+  symbol_used_for x true o none = tt
+  symbol_used_for x false o none = used_for x o 0 none
+
+  mutual
+    none_other : (takes : Parameters) (names : List (List ℕ)) (t : Sexp) → NamesNone takes names t
+        → NamesOnly P takes names t
+    none_other takes names (Atom Symbol x) none = symbol_used_for x (is_among names x) (takes x) none
+    none_other takes names (Items (Cons (Reserved Underscore) parts)) none = tt
+    none_other takes names (Items (Cons (Reserved As) parts)) none = absurd none
+    none_other takes names (Items (Cons (Reserved Let) (Cons (Items bindings) (Cons body Nil)))) none = (
+      bindings_none_other takes names bindings none.0,
+      none_other takes (map (λ b. b.0) (named_trees bindings) ++ names) body none.1,
+    )
+    none_other takes names (Items (Cons (Reserved Bang) (Cons term attributes))) none =
+        none_other takes names term none
+    none_other takes names (Items (Cons head args)) none =
+        (head_used_for takes (applied head args) (count args) none.0, all_none_other takes names args none.1)
+    none_other takes names _ none = tt
+
+    all_none_other : (takes : Parameters) (names : List (List ℕ)) (ts : Sexps) → AllNameNone takes names ts
+        → AllNameOnly P takes names ts
+    all_none_other takes names Nil none = tt
+    all_none_other takes names (Cons t ts) none =
+        (none_other takes names t none.0, all_none_other takes names ts none.1)
+
+    bindings_none_other : (takes : Parameters) (names : List (List ℕ)) (bs : Sexps)
+        → BindingsNameNone takes names bs → BindingsNameOnly P takes names bs
+    bindings_none_other takes names (Cons (Items (Cons (Atom Symbol y) (Cons t Nil))) rest) none =
+        (none_other takes names t none.0, bindings_none_other takes names rest none.1)
+    bindings_none_other takes names _ none = tt
+
+  body_none_other : (takes : Parameters) (o : Origin) → BodyNamesNone takes o → BodyNamesOnly P takes o
+  body_none_other takes (Defined ps body) none = none_other takes ps body none
+  body_none_other takes (Declared command) none = tt
+
+  bodies_none_other : (takes : Parameters) (es : List Entry) → BodiesNameNone takes es
+      → BodiesNameOnly P takes es
+  bodies_none_other takes [] none = tt
+  bodies_none_other takes (e ∷ es) none =
+      (body_none_other takes e.origin none.0, bodies_none_other (with_parameters takes e) es none.1)
+
+pub renamed_alone : (g : Renaming) → IsInjective g → (z : DivisionByZero) (definitions : Signature) (r : Variables)
+    (term : Sexp) → DefinitionsNameNone definitions
+    → NamesNone (parameters_in definitions) (map (λ v. v.0) r) term
+    → value_of (meaning_in z definitions) (renamed_variables g r) term
+    ≡ renamed g (value_of (meaning_in z definitions) r term)
+renamed_alone g injective z definitions r term bodies none = renamed_value g injective z definitions r term
+    (bodies_none_other (KeepsName g) (operators_take definitions.theories) definitions.entries bodies)
+    (none_other (KeepsName g) (parameters_in definitions) (map (λ v. v.0) r) term none)
+
+-- ---- values are named
+
+module _ (names : List (List ℕ)) where
+  abbrev IsSameOf : Relation
+  IsSameOf d e = (d ≡ e) × IsOfName (IsAmong names) e
+
+  all_same : (ds es : List Element) → AllRelated IsSameOf ds es
+      → (ds ≡ es) × AllRelated (λ d e. IsOfName (IsAmong names) e) es es
+  all_same [] [] all = (refl, tt)
+  all_same (d ∷ ds) (e ∷ es) all =
+      let rest = all_same ds es all.1 in (ap₂ (λ a xs. a ∷ xs) all.0.0 rest.0, (all.0.1, rest.1))
+  all_same [] (e ∷ es) all = absurd all
+  all_same (d ∷ ds) [] all = absurd all
+
+  choice_named : (es : List Element) → AllRelated (λ d e. IsOfName (IsAmong names) e) es es
+      → IsOfName (IsAmong names) (chosen es)
+  choice_named [] all = tt
+  choice_named (c ∷ []) all = tt
+  choice_named (c ∷ d ∷ []) all = tt
+  choice_named (c ∷ d ∷ e ∷ []) all = by (truth_of c)
+    where
+      by : (t : Bool) → IsOfName (IsAmong names) (cond t d e)
+      by true = all.1.0
+      by false = all.1.1.0
+  choice_named (c ∷ d ∷ e ∷ f ∷ es) all = tt
+
+  core_named : (op : CoreOp) (es : List Element) → AllRelated (λ d e. IsOfName (IsAmong names) e) es es
+      → IsOfName (IsAmong names) (operate_core op es)
+  core_named cores.Ite es all = choice_named es all
+  core_named _ es all = tt
+
+  ints_named : (z : DivisionByZero) (op : IntsOp) (zs : List ℤ)
+      → IsOfName (IsAmong names) (operate_ints z op zs)
+  ints_named z (ints.Arithmetic Minus) (a ∷ []) = tt
+  ints_named z (ints.Arithmetic op) (a ∷ rest) = tt
+  ints_named z (ints.Comparison op) zs = tt
+  ints_named z ints.Mod (a ∷ n ∷ []) = tt
+  ints_named z ints.Abs (a ∷ []) = tt
+  ints_named z (ints.Divisible n) (a ∷ []) = tt
+  ints_named z _ _ = tt
+
+  bits_named : (op : BitsOp) (vs : List BitVector) → IsOfName (IsAmong names) (operate_bits op vs)
+  bits_named (bits.Constant x n) vs = tt
+  bits_named bits.Concat (s ∷ rest) = tt
+  bits_named (bits.Extract i j) (s ∷ []) = tt
+  bits_named (bits.Unary op) (s ∷ []) = tt
+  bits_named (bits.Folded op) (s ∷ rest) = tt
+  bits_named (bits.Binary op) (s ∷ t ∷ []) = tt
+  bits_named (bits.Comparison op) (s ∷ t ∷ []) = tt
+  bits_named bits.Comp (s ∷ t ∷ []) = tt
+  bits_named (bits.Repeat i) (s ∷ []) = tt
+  bits_named (bits.ZeroExtend i) (s ∷ []) = tt
+  bits_named (bits.SignExtend i) (s ∷ []) = tt
+  bits_named (bits.RotateLeft i) (s ∷ []) = tt
+  bits_named (bits.RotateRight i) (s ∷ []) = tt
+  bits_named _ _ = tt
+
+  result_named : (z : DivisionByZero) (op : Op) (es : List Element)
+      → AllRelated (λ d e. IsOfName (IsAmong names) e) es es → IsOfName (IsAmong names) (operate z op es)
+  result_named z (Core op) es all = core_named op es all
+  result_named z (Ints op) es all = ints_named z op (map integer_of es)
+  result_named z (Bits op) es all = bits_named op (map vector_of es)
+
+  named_kept : IsKept (IsAmong names) IsSameOf
+  named_kept = record {
+    truths = λ b. (refl, tt);
+    integers = λ z. (refl, tt);
+    vectors = λ v. (refl, tt);
+    names = λ x among. (refl, among);
+    results = λ z op ds es all. let same = all_same ds es all in
+        (ap (operate z op) same.0, result_named z op es same.1);
+  }
+
+  variables_named : (r : Variables) → All (λ (v : List ℕ × Element). IsOfName (IsAmong names) v.1) r
+      → AreRelated IsSameOf r r
+  variables_named [] all x = tt
+  variables_named (v ∷ r) all x = by (bytes_eq x v.0)
+      (variables_named r (All-tail (λ (w : List ℕ × Element). IsOfName (IsAmong names) w.1) v r all) x)
+    where
+      by : (b : Bool) → OptionRelated IsSameOf (look_up r x) (look_up r x)
+          → OptionRelated IsSameOf (cond b (Some v.1) (look_up r x)) (cond b (Some v.1) (look_up r x))
+      by true rest = (refl, All-head (λ (w : List ℕ × Element). IsOfName (IsAmong names) w.1) v r all)
+      by false rest = rest
+
+  pub value_named : (z : DivisionByZero) (definitions : Signature) (r : Variables) (term : Sexp) (x : List ℕ)
+      → DefinitionsNameOnly (IsAmong names) definitions
+      → NamesOnly (IsAmong names) (parameters_in definitions) (map (λ v. v.0) r) term
+      → All (λ (v : List ℕ × Element). IsOfName (IsAmong names) v.1) r
+      → value_of (meaning_in z definitions) r term ≡ Abstract x → is_among names x ≡ true
+  value_named z definitions r term x bodies only all is =
+      subst (IsOfName (IsAmong names)) is (values_stay_related (IsAmong names) IsSameOf named_kept z definitions r r
+      term (variables_named r all) bodies only).1

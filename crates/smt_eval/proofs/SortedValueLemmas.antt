@@ -1,5 +1,5 @@
 -- The value of a well-sorted term is of the term's sort.
-use Rattle.std.proofs.Common.{◌≡◌, ℕ, Bool, true, false, cond, List, [], ◌∷◌, ◌++◌, Option, Some, None}
+use Rattle.std.proofs.Common.{◌≡◌, ℕ, Bool, true, false, cond, not, ◌||◌, List, [], ◌∷◌, ◌++◌, Option, Some, None}
 use Rattle.std.proofs.Common.{Result, Ok, Err, ◌&&◌, ◌*◌, ◌≤◌, length, nat_le, refl, ap, sym, ◌∙◌, subst}
 use Rattle.std.proofs.Common.{append_assoc, append-nil, arith, rules}
 use Rattle.std.proofs.Math.Nat.{mod-lt}
@@ -30,8 +30,10 @@ use Rattle.smt_terms.specs.Checking.{bound_in, flaw_of_labels, sort_applied, sor
 use Rattle.smt_terms.specs.Checking.{sort_of_name, sort_of_operator, sort_of_plain, sort_of_rank}
 use Rattle.smt_terms.specs.Checking.{sort_alone, sort_of_symbol, sort_unless_element, sort_unless_variable}
 use Rattle.smt_terms.specs.Checking.{unless}
-use Rattle.smt_terms.specs.Elements.{element_among, if_free, or_ill_sorted, qualified_sort}
-use Rattle.smt_terms.specs.SortTrees.{SortNames, sort_named}
+use Rattle.smt_terms.specs.Elements.{ElementNames, element_among, if_declared, if_free, or_ill_sorted, qualified_sort}
+use Rattle.smt_terms.specs.declared.named_sort.NamedSort.{NamedSort}
+use Rattle.smt_forms.specs.Variables.{is_among}
+use Rattle.smt_terms.specs.SortTrees.{sort_named}
 use Rattle.smt_forms.specs.ElementNames.{begins_at, qualified_symbol, sort_of_element}
 use Rattle.smt_forms.specs.Heads.{begins_indexed}
 use Rattle.smt_forms.specs.Identifier.{Identifier, Plain, Indexed, applied, indexed, operator_of}
@@ -41,7 +43,7 @@ use Rattle.smt_terms.specs.Signature.{unlabelled_over}
 use Rattle.smt_terms.specs.WellSorted.{AreWellSorted, IsWellSorted, IsWellSortedFrom}
 use Rattle.smt_faults.specs.declared.term_flaw.TermFlaw.{TermFlaw}
 use Rattle.smt_faults.specs.declared.term_flaw.TermFlaw.TheVariants.{BoundTwice, Form, IllSorted, Unknown}
-use Rattle.smt_faults.specs.declared.term_flaw.TermFlaw.TheVariants.{Index, Unsupported}
+use Rattle.smt_faults.specs.declared.term_flaw.TermFlaw.TheVariants.{Index, NotFresh, Unsupported}
 use Rattle.smt_eval.proofs.NameLemmas.{same_name, same_self, none_step}
 use Rattle.smt_eval.specs.Agreement.{FitsScope, IsOfSorts}
 use Rattle.smt_eval.specs.Meaning.{Meaning, element_by, value_of, values_bound, values_of, meaning_of_op}
@@ -84,7 +86,7 @@ operator-fits law z (Ok op) f sorts sort es is h = by (rank_of op sorts) refl is
         let same : found ≡ sort = cc in law z op sorts sort es (ranked ∙ ap (λ (s : Sort). Some s) same) h
 
 applied-operators : ResultsAreOfTheirSorts
-    → (z : DivisionByZero) (theories : Theories) (elements : Option SortNames)
+    → (z : DivisionByZero) (theories : Theories) (elements : Option ElementNames)
     → FitsApplied (unlabelled_over theories elements []) (operators z theories)
 applied-operators law z theories elements (Plain f) sorts sort es is h =
     operator-fits law z (operator_of theories (Plain f)) (Plain f) sorts sort es is h
@@ -98,37 +100,49 @@ free-fits : (s sort : Sort) (x : List ℕ) → if_free s ≡ Some sort → IsOfS
 free-fits (Free n) sort x is = let same : Free n ≡ sort = cc in subst (λ t. IsOfSort t (Abstract x)) same tt
 free-fits _ sort x is = cc
 
-element-fits : (elements : Option SortNames) (y x : List ℕ) (sort : Sort)
+element-fits : (elements : Option ElementNames) (y x : List ℕ) (sort : Sort)
     → element_among elements y ≡ Some sort → IsOfSort sort (Abstract x)
 element-fits None y x sort is = cc
-element-fits (Some sorts) y x sort is =
-    by (option_and_then (look_up sorts.abbreviations) (sort_of_element y)) is
+element-fits (Some elements) y x sort is =
+    among (is_among elements.taken y)
+    (option_and_then (look_up elements.sorts.abbreviations) (sort_of_element y)) is
   where
-    by : (o : Option Sort) → option_and_then if_free o ≡ Some sort → IsOfSort sort (Abstract x)
+    own : (s : Sort) (b : Bool) → cond b (if_free s) None ≡ Some sort → IsOfSort sort (Abstract x)
+    own s true h = free-fits s sort x h
+    own s false h = cc
+
+    by : (o : Option NamedSort) → option_and_then if_declared o ≡ Some sort → IsOfSort sort (Abstract x)
     by None h = cc
-    by (Some s) h = free-fits s sort x h
+    by (Some named) h = own named.sort named.is_declared h
+
+    among : (b : Bool) (o : Option NamedSort) → cond b None (option_and_then if_declared o) ≡ Some sort
+        → IsOfSort sort (Abstract x)
+    among true o h = cc
+    among false o h = by o h
 
 -- the element behind an `as`
-qualified-fits : (elements : Option SortNames) (parts : Sexps) (sort : Sort)
-    → qualified_sort elements parts ≡ Ok sort → IsOfSort sort (element_of_symbol (qualified_symbol parts))
-qualified-fits None parts sort is = cc
-qualified-fits (Some sorts) (Cons (Atom Symbol x) (Cons tree Nil)) sort is =
-    by (begins_at x) (sort_named sorts tree) is
+qualified-fits : {A : Type 0} (elements : Option ElementNames) (names : List (List ℕ × A)) (parts : Sexps) (sort : Sort)
+    → qualified_sort elements names parts ≡ Ok sort → IsOfSort sort (element_of_symbol (qualified_symbol parts))
+qualified-fits None names parts sort is = cc
+qualified-fits (Some elements) names (Cons (Atom Symbol x) (Cons tree Nil)) sort is =
+    by (begins_at x) (is_among elements.taken x || is_some (look_up names x)) (sort_named elements.sorts tree) is
   where
     named : (o s : Option Sort) → o ≡ s → or_ill_sorted s ≡ Ok sort → o ≡ Some sort
     named o None e h = cc
     named o (Some t) e h = let same : t ≡ sort = cc in e ∙ ap (λ (s : Sort). Some s) same
 
-    by : (b : Bool) (r : Result Sort TermFlaw)
-        → cond b (result_and_then r (λ s. or_ill_sorted (if_free s))) (Err Unsupported) ≡ Ok sort
+    by : (b t : Bool) (r : Result Sort TermFlaw)
+        → cond (not b) (Err Unsupported)
+        (cond t (Err NotFresh) (result_and_then r (λ s. or_ill_sorted (if_free s)))) ≡ Ok sort
         → IsOfSort sort (Abstract x)
-    by false r h = cc
-    by true (Err fault) h = cc
-    by true (Ok s) h = free-fits s sort x (named (if_free s) (if_free s) refl h)
-qualified-fits (Some sorts) _ sort is = cc
+    by false t r h = cc
+    by true true r h = cc
+    by true false (Err fault) h = cc
+    by true false (Ok s) h = free-fits s sort x (named (if_free s) (if_free s) refl h)
+qualified-fits (Some elements) names _ sort is = cc
 
 -- an operator without arguments, or else an element
-unless-element-fits : ResultsAreOfTheirSorts → (z : DivisionByZero) (elements : Option SortNames) (x : List ℕ)
+unless-element-fits : ResultsAreOfTheirSorts → (z : DivisionByZero) (elements : Option ElementNames) (x : List ℕ)
     (o : Option Sort) (op : Result Op OpFault) (sort : Sort) → element_among elements x ≡ o
     → sort_unless_element o op ≡ Ok sort → IsOfSort sort (meaning_of_op z op (Plain x) [])
 unless-element-fits law z elements x None op sort among is =
@@ -140,7 +154,7 @@ unless-element-fits law z elements x (Some s) (Ok op) sort among is =
     operator-fits law z (Ok op) (Plain x) [] sort [] is tt
 
 Fits-operators : ResultsAreOfTheirSorts
-    → (z : DivisionByZero) (theories : Theories) (elements : Option SortNames)
+    → (z : DivisionByZero) (theories : Theories) (elements : Option ElementNames)
     → Fits (unlabelled_over theories elements []) (operators z theories)
 Fits-operators law z theories elements = record {
   called = applied-operators law z theories elements;
@@ -296,7 +310,7 @@ module _ (N : Names) (m : Meaning) (fits : Fits (unlabelled N) m) where
     term-fits scope r fit (Atom Keyword x) sort is = cc
     term-fits scope r fit (Reserved word) sort is = cc
     term-fits scope r fit (Items Nil) sort is = cc
-    term-fits scope r fit (Items (Cons (Reserved As) parts)) sort is = qualified-fits N.elements parts sort is
+    term-fits scope r fit (Items (Cons (Reserved As) parts)) sort is = qualified-fits N.elements N.ranks parts sort is
     term-fits scope r fit (Items (Cons (Reserved Let) (Cons (Items bindings) (Cons body Nil)))) sort is =
         let p = first_ok (bound_in (unlabelled N) scope [] bindings)
         (λ bound. sort_in (unlabelled N) (bound ++ scope) body) sort
@@ -365,7 +379,7 @@ FitsScope-zip (p ∷ ps) (s ∷ sorts) (e ∷ es) h x = by_name (bytes_eq x p) s
 -- ---- definitions
 
 -- the names of entries
-abbrev pub names_over : Theories → Option SortNames → List Entry → Names
+abbrev pub names_over : Theories → Option ElementNames → List Entry → Names
 names_over theories elements es = unlabelled_over theories elements es
 
 option_or_none : {A : Type 0} (o : Option A) → option_or o None ≡ o
@@ -444,7 +458,7 @@ name-fits same rank sorts sort is = by (are_exactly rank.parameters sorts) refl 
     by false all is = cc
 
 -- what a definition gives
-definition-fits : (theories : Theories) (elements : Option SortNames) (earlier : List Entry) (m : Meaning)
+definition-fits : (theories : Theories) (elements : Option ElementNames) (earlier : List Entry) (m : Meaning)
     (sorts : List Sort) (sort : Sort) (origin : Origin) (es : List Element)
     → Fits (names_over theories elements earlier) m
     → IsWellSortedFrom (names_over theories elements earlier) sorts sort origin → AreOfSorts sorts es
@@ -455,7 +469,7 @@ definition-fits theories elements earlier m sorts sort (Defined ps body) es fits
     (FitsScope-zip ps sorts es h) body sort sorted.sorted
 
 -- one more definition
-module _ (same : SameSorts) (theories : Theories) (elements : Option SortNames) (earlier : List Entry) (m : Meaning)
+module _ (same : SameSorts) (theories : Theories) (elements : Option ElementNames) (earlier : List Entry) (m : Meaning)
     (e : Entry) (fits : Fits (names_over theories elements earlier) m)
     (sorted : IsWellSorted theories elements earlier e) (fresh : entry_named earlier e.name ≡ None) where
   abbrev more : Names
@@ -509,7 +523,7 @@ module _ (same : SameSorts) (theories : Theories) (elements : Option SortNames) 
   Fits-with = record { called = applied-with; alone = alone-with }
 
 -- and any
-Fits-after : SameSorts → (theories : Theories) (elements : Option SortNames) (earlier es : List Entry)
+Fits-after : SameSorts → (theories : Theories) (elements : Option ElementNames) (earlier es : List Entry)
     (m : Meaning) → Fits (names_over theories elements earlier) m → AreWellSorted theories elements earlier es
     → AreDistinct (earlier ++ es) → Fits (names_over theories elements (earlier ++ es)) (meaning_after m es)
 Fits-after same theories elements earlier [] m fits sorted distinct =

@@ -6,12 +6,12 @@ use Rattle.smt_trees.specs.Sexp.{Sexps}
 use Rattle.smt_theory.specs.Operators.{is_plain_operator}
 use Rattle.smt_theory.specs.Words.{look_up}
 use Rattle.smt_theory.specs.declared.theories.Theories.{Theories}
+use Rattle.smt_terms.specs.Elements.{ElementNames}
 use Rattle.smt_terms.specs.Library.{defined_among, is_declared}
 use Rattle.smt_terms.specs.Signature.{AreDistinct, Entry, Origin, Declared, Defined, IsDeclared, Signature}
 use Rattle.smt_terms.specs.Signature.{declared_named, entry_named, if_declared, names_of, rank_of_entry}
 use Rattle.smt_terms.specs.Signature.{ranks_of, unlabelled_over}
 use Rattle.smt_terms.specs.Freshness.{is_element, is_taken, item_elements}
-use Rattle.smt_terms.specs.SortTrees.{SortNames}
 use Rattle.smt_terms.specs.WellSorted.{AreWellSorted, IsWellSortedFrom}
 use Rattle.smt_eval.specs.Internal.DefinitionValues.{AllDefined, IsDefined}
 use Rattle.smt_eval.specs.Structure.{structure_of}
@@ -20,7 +20,7 @@ use Rattle.smt_eval.proofs.CompleteModelLemmas.{AreFree, AreSound, AreSound-from
 use Rattle.smt_eval.proofs.PlaceLemmas.{declared_alone, none_among, none_in_both}
 
 -- definitions that are well sorted are definitions
-pub sorted_defined : (theories : Theories) (elements : Option SortNames) (before es : List Entry)
+pub sorted_defined : (theories : Theories) (elements : Option ElementNames) (before es : List Entry)
     → AreWellSorted theories elements before es → AllDefined es
 sorted_defined theories elements before [] h = tt
 sorted_defined theories elements before (e ∷ es) h =

@@ -19,13 +19,13 @@ use Rattle.smt_machine.specs.Given.{given}
 use Rattle.smt_machine.specs.Nodes as machine
 use Rattle.smt_machine.specs.Nodes.{Frame, node_value}
 use Rattle.smt_machine.specs.Tables.{resolved}
+use Rattle.smt_terms.specs.Elements.{ElementNames}
 use Rattle.smt_terms.specs.Denotes.{Denotes, Head, IsNameOf, IsRow, Slots, Table, UsesNone, unless_labelled}
 use Rattle.smt_terms.specs.Elements.{element_among}
 use Rattle.smt_terms.specs.Library.{declared_among, defined_among, is_declared}
 use Rattle.smt_terms.specs.Signature.{AreDistinct, Entry, Origin, Declared, Defined, Signature, entry_named}
 use Rattle.smt_terms.specs.TermsOf.{AreTermsOf, first_heads, heads_from, place_behind, with_declared}
 use Rattle.smt_terms.specs.TermsOf.{with_defined}
-use Rattle.smt_terms.specs.SortTrees.{SortNames}
 use Rattle.smt_eval.proofs.EvaluatorLemmas.{all_first}
 use Rattle.smt_eval.proofs.HeadLemmas.{IsBodyOf, body_at, none_declared}
 use Rattle.smt_eval.proofs.NameLemmas.{same_name}
@@ -137,7 +137,7 @@ not_headed declared defined (suc n) (e ∷ es) more x h none = by (bytes_eq x e.
     by true none next = cc
     by false none next = next none
 
-no_element : (elements : Option SortNames) (x : List ℕ) (sort : Sort) → elements ≡ None
+no_element : (elements : Option ElementNames) (x : List ℕ) (sort : Sort) → elements ≡ None
     → element_among elements x ≡ Some sort → ⊥
 no_element None x sort is among = cc
 no_element (Some sorts) x sort is among = cc

@@ -10,13 +10,13 @@ use Rattle.smt_theory.specs.Operators.{is_plain_operator}
 use Rattle.smt_theory.specs.Words.{look_up}
 use Rattle.smt_theory.specs.declared.sort.Sort.{Sort}
 use Rattle.smt_theory.specs.declared.theories.Theories.{Theories}
+use Rattle.smt_terms.specs.Elements.{ElementNames}
 use Rattle.smt_terms.specs.Checking.{sort_in}
 use Rattle.smt_terms.specs.Library.{defined_among, is_declared}
 use Rattle.smt_terms.specs.Signature.{AreDistinct, Entry, IsDeclared, KeepsRank, Names, Origin, Declared}
 use Rattle.smt_terms.specs.Signature.{Defined, Rank, Signature, declared_named, entry_named, if_declared}
 use Rattle.smt_terms.specs.Signature.{names_of, rank_of_entry, ranks_of, unlabelled_over}
 use Rattle.smt_terms.specs.Freshness.{is_element, is_taken, item_elements}
-use Rattle.smt_terms.specs.SortTrees.{SortNames}
 use Rattle.smt_terms.specs.WellSorted.{AreIntroduced, AreWellSorted, IsDefinition, IsSortedIfDefined}
 use Rattle.smt_terms.specs.WellSorted.{IsWellSortedFrom, Keeps}
 use Rattle.smt_eval.proofs.NameLemmas.{same_name, same_self}
@@ -96,7 +96,7 @@ introduced_free theories earlier (c ∷ es) x e all h =
 
 -- ---- definitions, one after another
 
-sorted_both : (theories : Theories) (elements : Option SortNames) (earlier xs ys : List Entry)
+sorted_both : (theories : Theories) (elements : Option ElementNames) (earlier xs ys : List Entry)
     → AreWellSorted theories elements earlier xs → AreWellSorted theories elements (earlier ++ xs) ys
     → AreWellSorted theories elements earlier (xs ++ ys)
 sorted_both theories elements earlier [] ys h g =
@@ -126,7 +126,7 @@ abbrev pub SortsAreKept : Type 0
 SortsAreKept = (names more : Names) (scope : List (List ℕ × Sort)) (term : Sexp) (sort : Sort)
     → Keeps names more → sort_in names scope term ≡ Ok sort → sort_in more scope term ≡ Ok sort
 
-module _ (law : SortsAreKept) (s d : Signature) (elements : Option SortNames)
+module _ (law : SortsAreKept) (s d : Signature) (elements : Option ElementNames)
     (introduced : AreIntroduced s.theories None [] s.entries)
     (sorted : AreWellSorted s.theories elements [] d.entries)
     (complete : (x : List ℕ) (e : Entry) → entry_named s.entries x ≡ Some e → IsDeclared e.origin
@@ -329,7 +329,7 @@ pub structure_of_model : SortsAreKept → (s d : Signature) (parts : Sexps)
 structure_of_model law s d parts introduced sound model = record {
   well_sorted = subst (λ (t : Theories). AreWellSorted t d.elements [] (structure_of s d).entries)
       (sym model.theories)
-      (subst (λ (o : Option SortNames). AreWellSorted s.theories o [] (structure_of s d).entries)
+      (subst (λ (o : Option ElementNames). AreWellSorted s.theories o [] (structure_of s d).entries)
       (sym model.elements) (structure_sorted law s d (item_elements s) introduced sound.sorted model.complete
       (free_at s d.entries sound.free)));
   distinct = structure_distinct s d (introduced_distinct s.theories [] s.entries introduced) sound;

@@ -11,6 +11,7 @@ pub mod CompleteModel
 pub mod Structure
 pub mod Substitution
 pub mod Renaming
+pub mod NamedElements
 pub mod Interpretation
 pub mod ClosedTerm
 pub mod PlainTerm

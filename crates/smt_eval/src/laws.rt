@@ -1,15 +1,17 @@
 //! Laws of the definitions that the contracts name. Nothing here does anything: each contract is a law.
 
+pub mod elements;
 pub mod terms;
 
 ghost use Rattle.std.specs.Prelude.{◌≡◌, ◌≤◌, ◌↔◌, ℕ, ◌+◌, ◌*◌, ◌^◌, List, [], ◌∷◌, Ok, Err, Option, None, length};
-ghost use Rattle.std.specs.Prelude.{map};
+ghost use Rattle.std.specs.Prelude.{All, map, true};
 ghost use Rattle.smt_trees.specs.Sexp.{Cons, Sexp, Sexps, append};
 ghost use Rattle.smt_trees.specs.View.{sexp_of};
 ghost use Rattle.smt_theory.specs.declared.sort.Sort.{Sort};
 ghost use Rattle.smt_theory.specs.declared.theories.Theories.{Theories};
-ghost use Rattle.smt_values.specs.Element.{Agrees, Element, IsOfSort};
+ghost use Rattle.smt_values.specs.Element.{Abstract, Agrees, Element, IsOfSort};
 ghost use Rattle.smt_values.specs.Operations.{DivisionByZero};
+ghost use Rattle.smt_forms.specs.Variables.{is_among};
 ghost use Rattle.smt_machine.specs.Costs.{cost};
 ghost use Rattle.smt_machine.specs.Given.{given};
 ghost use Rattle.smt_machine.specs.Least.{least};
@@ -17,7 +19,7 @@ ghost use Rattle.smt_terms.specs.Checking.{sort_in};
 ghost use Rattle.smt_terms.specs.Denotes.{Denotes, Table};
 ghost use Rattle.smt_terms.specs.Items.{items_before};
 ghost use Rattle.smt_terms.specs.Library.{IsTerm, StandsFor};
-ghost use Rattle.smt_terms.specs.Repeated.{IsRepeated};
+ghost use Rattle.smt_terms.specs.Repeated.{IsRepeated, IsTold};
 ghost use Rattle.smt_terms.specs.Signature.{AreDistinct, Entry, Signature, names_of, unlabelled};
 ghost use Rattle.smt_terms.specs.TermsOf.{AreTermsOf};
 ghost use Rattle.smt_terms.specs.WellSorted.{AreIntroduced, AreWellSorted};
@@ -34,6 +36,7 @@ ghost use Rattle.smt_eval.specs.Meaning.{value_over};
 ghost use Rattle.smt_eval.specs.Model.{AreDefined, AreItems, HasFirstFlaw, IsFirstLacking, items_of};
 ghost use Rattle.smt_eval.specs.Model.{model_in};
 ghost use Rattle.smt_eval.specs.NodeValues.{GivesBodies, arounds_over, nodes_over};
+ghost use Rattle.smt_eval.specs.NamedElements.{DefinitionsNameOnly, IsAmong, IsOfName, KeepsName, NamesOnly};
 ghost use Rattle.smt_eval.specs.Renaming.{DefinitionsNameNone, IsInjective, NamesNone, Renaming, parameters_in};
 ghost use Rattle.smt_eval.specs.Renaming.{renamed, renamed_variables};
 ghost use Rattle.smt_eval.specs.Structure.{IsStructure, structure_of};
@@ -46,6 +49,7 @@ use crate::checked::Checked;
 use crate::closed::Closed;
 use crate::plain;
 use smt_machine::laws::{nodes_have_their_costs, nodes_have_their_least, nodes_have_their_values};
+use smt_terms::laws::elements::items_that_tell_of_elements_are_set_aside;
 use smt_terms::laws::{items_are_well_sorted, repeated_items_are_set_aside, sorts_are_kept};
 use smt_theory::laws::{ranks_are_the_table, sorts_are_compared};
 use smt_values::laws::{known_results_are_true, results_are_of_their_sorts};
@@ -87,6 +91,26 @@ pub fn elements_matter_by_their_names_alone()
         → NamesNone (parameters_in definitions) (map (λ v. v.0) r) term
         → value_over z definitions (renamed_variables g r) term
         ≡ renamed g (value_over z definitions r term) }
+{}
+
+/// Other names for elements change no value where those that the definitions and the term name keep theirs: different
+/// names for different elements, and the same name for each that is named, give the value by its other name.
+pub fn elements_that_are_not_named_may_have_other_names()
+    ensures { (z : DivisionByZero) (definitions : Signature) (g : Renaming) (r : List (List ℕ × Element))
+        (term : Sexp) → IsInjective g → DefinitionsNameOnly (KeepsName g) definitions
+        → NamesOnly (KeepsName g) (parameters_in definitions) (map (λ v. v.0) r) term
+        → value_over z definitions (renamed_variables g r) term
+        ≡ renamed g (value_over z definitions r term) }
+{}
+
+/// The value of a term is an element that the definitions or the term name, or that a variable has, where it is an
+/// element of a declared sort.
+pub fn values_are_elements_that_are_named()
+    ensures { (z : DivisionByZero) (definitions : Signature) (r : List (List ℕ × Element)) (term : Sexp)
+        (names : List (List ℕ)) (x : List ℕ) → DefinitionsNameOnly (IsAmong names) definitions
+        → NamesOnly (IsAmong names) (parameters_in definitions) (map (λ v. v.0) r) term
+        → All (λ v. IsOfName (IsAmong names) v.1) r
+        → value_over z definitions r term ≡ Abstract x → is_among names x ≡ true }
 {}
 
 /// The definitions of a model are over the script's theories, are well sorted and have different names. Each
@@ -148,15 +172,20 @@ pub fn models_are_their_items()
         ↔ (AreItems script [] (items_of parts) items × AreDefined script.entries items) }
 {}
 
-/// In the wide profile, an item that repeats a definition or a label of the script changes nothing of a
-/// model. With it and without it the model has the same definitions, and so gives the same structure.
+/// In the wide profile, an item that repeats a definition or a label of the script, or tells of elements, changes
+/// nothing of a model. With it and without it the model has the same definitions, and so gives the same structure.
 pub fn repeated_items_change_no_structure()
-    ensures { (script definitions : Signature) (parts fewer before after : Sexps) (tree : Sexp)
+    ensures repeated { (script definitions : Signature) (parts fewer before after : Sexps) (tree : Sexp)
         → IsRepeated script tree → items_of parts ≡ append before (Cons tree after)
+        → items_of fewer ≡ append before after
+        → (model_in script parts ≡ Ok definitions) ↔ (model_in script fewer ≡ Ok definitions) }
+    ensures told { (script definitions : Signature) (parts fewer before after : Sexps) (tree : Sexp)
+        → IsTold script tree → items_of parts ≡ append before (Cons tree after)
         → items_of fewer ≡ append before after
         → (model_in script parts ≡ Ok definitions) ↔ (model_in script fewer ≡ Ok definitions) }
 {
     repeated_items_are_set_aside();
+    items_that_tell_of_elements_are_set_aside();
 }
 
 /// The reported fault of a model is its first. Where an item is reported, the items before it are

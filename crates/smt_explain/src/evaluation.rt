@@ -20,11 +20,32 @@ use std::alloc::{AllocError, AllocFailed, Global};
 /// The evaluator looks through this many names for one step of evaluation.
 const NAMES: u64 = 64;
 
+/// The deepest terms that are evaluated, as `Cost` counts: the evaluator takes the machine's stack for each term within
+/// another, also in the bodies of definitions. A tree of a text, at most 1,000 deep, is less deep without these.
+const MOST_DEPTH: u64 = 1_100;
+
+/// What is written for the value of a term that is deeper.
+pub(crate) const TOO_DEEP: &[u8] = b"(not shown: its definitions are nested too deep)";
+
+/// A term is too deep to be evaluated, with the definitions that it uses.
+#[derive(Clone, Copy)]
+pub(crate) struct TooDeep;
+
+/// The value of a term: `None` where it is open.
+pub(crate) type Found = Result<Option<Value>, TooDeep>;
+
+/// Whether the value of a term is `false`.
+pub(crate) fn is_false(found: Found) -> bool {
+    matches!(found, Ok(Some(Value::Bool(false))))
+}
+
 /// A variable that a part sees: the constant of its value, the term that gives the value, and the scope of that term.
 #[derive(Drop)]
 pub(crate) struct Bound<'a> {
     pub(crate) name: &'a [u8],
     pub(crate) constant: OwnedTree,
+    /// Whether its value is not known since its term is too deep.
+    pub(crate) is_deep: bool,
     pub(crate) term: Tree<'a>,
     /// The scope of the term, and the scope outside this variable. A scope is the number of its innermost variable,
     /// from 1; 0 is the empty scope.
@@ -107,18 +128,21 @@ pub(crate) fn known(
     .value()
 }
 
-/// The value of a closed term over the definitions of a world; `None` where it is open. It uses up the steps that
-/// the term costs, as docs/LANGUAGE.md counts them. Each step counts once, and once more for every 64 names that
-/// the evaluator looks through.
+/// The value of a closed term over the definitions of a world. It uses up the steps that the term costs, as
+/// docs/LANGUAGE.md counts them. Each step counts once, and once more for every 64 names that the evaluator looks
+/// through.
 pub(crate) fn value_of(
     over: &Over<'_, '_>,
     work: &mut Work,
     term: Tree<'_>,
-) -> Result<Option<Value>, Stopped> {
+) -> Result<Found, Stopped> {
     let (used, cost) = used_by(over.alloc, over.world, over.index, &mut work.costs, term)?;
     let names = cost.width.saturating_add(used.len() as u64);
     work.take(cost.steps.saturating_mul(1 + names / NAMES))?;
-    Ok(known(over.alloc, used.as_slice(), term)?)
+    if cost.depth > MOST_DEPTH {
+        return Ok(Err(TooDeep));
+    }
+    Ok(Ok(known(over.alloc, used.as_slice(), term)?))
 }
 
 fn bound_at<'b, 'a>(bounds: &'b [Bound<'a>], scope: usize) -> Option<&'b Bound<'a>> {
@@ -145,19 +169,38 @@ pub(crate) fn find<'b, 'a>(
     None
 }
 
-/// The value of a term that sees variables, each replaced by the constant of its value; `None` where it is open.
+/// The value of a term that sees variables, each replaced by the constant of its value. Where one of these is too deep,
+/// a term is not said to be open.
 pub(crate) fn value_in(
     over: &Over<'_, '_>,
     work: &mut Work,
     bounds: &[Bound<'_>],
     scope: usize,
     term: Tree<'_>,
-) -> Result<Option<Value>, Stopped> {
+) -> Result<Found, Stopped> {
     if scope == 0 {
         return value_of(over, work, term);
     }
     let closed = close(over.alloc, bounds, scope, term)?;
-    value_of(over, work, closed.view())
+    match value_of(over, work, closed.view())? {
+        Ok(None) if sees_deep(bounds, scope) => Ok(Err(TooDeep)),
+        found => Ok(found),
+    }
+}
+
+// Whether a variable of a scope has a term that is too deep.
+fn sees_deep(bounds: &[Bound<'_>], scope: usize) -> bool {
+    let mut scope = scope;
+    for _ in 0..bounds.len() {
+        let Some(bound) = bound_at(bounds, scope) else {
+            break;
+        };
+        if bound.is_deep {
+            return true;
+        }
+        scope = bound.outer;
+    }
+    false
 }
 
 fn close(
@@ -199,14 +242,15 @@ pub(crate) fn bind<'a>(
     alloc: Global,
     bounds: &mut Vec<Bound<'a>>,
     name: &'a [u8],
-    value: Option<Value>,
+    found: Found,
     term: Tree<'a>,
     term_scope: usize,
     outer: usize,
 ) -> Result<usize, Memory> {
     bounds.push(Bound {
         name,
-        constant: constant(alloc, &value)?,
+        constant: constant(alloc, &found.unwrap_or(None))?,
+        is_deep: found.is_err(),
         term,
         term_scope,
         outer,

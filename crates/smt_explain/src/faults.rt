@@ -449,7 +449,16 @@ fn tell_item_in_use(
                 number,
             )
         }
+        _ if is_declared(dialogue, known.names.find(name)) => Ok(()),
         _ => tell_bringer(page, dialogue, known.names.find(name), name),
+    }
+}
+
+// Whether the command at this place declares its name. An item of such a name is not refused for it.
+fn is_declared(dialogue: &Dialogue<'_>, bringer: Option<usize>) -> bool {
+    match bringer {
+        Some(place) => matches!(dialogue.commands().at(place), Some((Head::Declare, _))),
+        None => false,
     }
 }
 

@@ -108,7 +108,7 @@ fn theories_before(commands: Commands<'_>, before: usize) -> Theories {
             theories = all_theories(commands.profile);
         }
         if pair.effective
-            && pair.head == Head::Logic
+            && matches!(pair.head, Head::Logic(_))
             && let Some((_, text)) = commands.at(place)
             && let Some(named) = theories_of(commands.profile, word(text, 1))
         {

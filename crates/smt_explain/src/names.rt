@@ -17,11 +17,13 @@ pub(crate) fn index_of<'a>(alloc: Global, world: &'a World) -> Result<Scope<'a, 
 }
 
 /// The cost of evaluating a term. `steps` counts as docs/LANGUAGE.md does, and 2^64 - 1 means that or more. `width`
-/// is the most variables that one term sees, in the term itself or in a definition that it uses.
+/// is the most variables that one term sees, in the term itself or in a definition that it uses. `depth` is how many
+/// terms are within one another, where the body of a definition is within each term that uses it.
 #[derive(Clone, Copy)]
 pub(crate) struct Cost {
     pub(crate) steps: u64,
     pub(crate) width: u64,
+    pub(crate) depth: u64,
 }
 
 /// For each definition of a world, by its place: the cost of its body, once it was asked for, and whether the
@@ -62,11 +64,13 @@ impl Costs {
         let mut cost = Cost {
             steps: outline.own,
             width: outline.width,
+            depth: outline.depth,
         };
-        for place in outline.calls.as_slice() {
+        for (place, depth) in outline.calls.as_slice() {
             if let Some(Some(body)) = self.known.get(*place) {
                 cost.steps = cost.steps.saturating_add(body.steps);
                 cost.width = cost.width.max(body.width);
+                cost.depth = cost.depth.max(depth.saturating_add(body.depth));
             }
         }
         cost
@@ -169,7 +173,7 @@ fn find_all(
 // Adds the places in an outline that were not yet met. (Where memory is refused, a place stays marked: no walk
 // comes after this one.)
 fn add_calls(costs: &mut Costs, outline: &Outline, places: &mut Vec<usize>) -> Result<(), Memory> {
-    for place in outline.calls.as_slice() {
+    for (place, _) in outline.calls.as_slice() {
         if costs.meet(*place) {
             places.push(*place)?;
         }
@@ -179,13 +183,14 @@ fn add_calls(costs: &mut Costs, outline: &Outline, places: &mut Vec<usize>) -> R
 
 // ---- outlines
 
-/// A term without the bodies of the names in it: its own cost, the most variables that a term in it sees, and the
-/// definitions it calls. `calls` has the place of a definition once for each use.
+/// A term without the bodies of the names in it: its own cost, the most variables that a term in it sees, how deep it
+/// is, and the definitions it calls. `calls` has the place of a definition once for each use, with the depth there.
 #[derive(Drop)]
 struct Outline {
     own: u64,
     width: u64,
-    calls: Vec<usize>,
+    depth: u64,
+    calls: Vec<(usize, u64)>,
 }
 
 fn outline_of_body(
@@ -203,8 +208,8 @@ fn outline_of_body(
 /// The next task of the walk that makes an outline.
 #[derive(Clone, Copy)]
 enum Task<'a> {
-    /// Count a term.
-    Count(Tree<'a>),
+    /// Count a term at this depth, 1 for the outermost.
+    Count(Tree<'a>, u64),
     /// Let the variables of these bindings be seen from here on.
     Enter(Trees<'a>),
     /// Let only the variables before this number be seen.
@@ -227,10 +232,11 @@ fn outline_of<'a>(
 ) -> Result<Outline, Memory> {
     let mut bound = variables;
     let mut tasks = Vec::new(alloc);
-    push_task(&mut tasks, Task::Count(term))?;
+    push_task(&mut tasks, Task::Count(term, 1))?;
     let mut outline = Outline {
         own: 0,
         width: bound.len() as u64,
+        depth: 0,
         calls: Vec::new(alloc),
     };
     for _ in 0..u64::MAX {
@@ -238,10 +244,13 @@ fn outline_of<'a>(
             break;
         };
         match task {
-            Task::Count(term) => {
+            Task::Count(term, depth) => {
                 outline.own = outline.own.saturating_add(1);
-                add_call(index, &bound, term, &mut outline.calls)?;
-                push_parts(&mut tasks, bound.len(), term)?;
+                outline.depth = outline.depth.max(depth);
+                if let Some(place) = called_by(index, &bound, term) {
+                    outline.calls.push((place, depth))?;
+                }
+                push_parts(&mut tasks, bound.len(), term, depth.saturating_add(1))?;
             }
             Task::Enter(bindings) => {
                 enter(&mut bound, bindings)?;
@@ -265,22 +274,14 @@ fn enter<'a>(bound: &mut Scope<'a, ()>, bindings: Trees<'a>) -> Result<(), Memor
     Ok(())
 }
 
-// Adds the place of the definition of the name that a term is or applies.
-fn add_call(
-    index: &Scope<'_, usize>,
-    bound: &Scope<'_, ()>,
-    term: Tree<'_>,
-    calls: &mut Vec<usize>,
-) -> Result<(), Memory> {
-    let Some(name) = name_of(term) else {
-        return Ok(());
-    };
-    if let Some(place) = index.find(name)
-        && bound.find(name).is_none()
-    {
-        calls.push(place)?;
+// The place of the definition of the name that a term is or applies.
+fn called_by(index: &Scope<'_, usize>, bound: &Scope<'_, ()>, term: Tree<'_>) -> Option<usize> {
+    let name = name_of(term)?;
+    let place = index.find(name)?;
+    match bound.find(name) {
+        Some(_) => None,
+        None => Some(place),
     }
-    Ok(())
 }
 
 // The name that a term is or begins with.
@@ -295,8 +296,13 @@ fn name_of(term: Tree<'_>) -> Option<&[u8]> {
     }
 }
 
-// Adds a task for each term in a term; the task added last is done first.
-fn push_parts<'a>(tasks: &mut Vec<Task<'a>>, seen: usize, term: Tree<'a>) -> Result<(), Memory> {
+// Adds a task for each term in a term, which are at this depth; the task added last is done first.
+fn push_parts<'a>(
+    tasks: &mut Vec<Task<'a>>,
+    seen: usize,
+    term: Tree<'a>,
+    depth: u64,
+) -> Result<(), Memory> {
     let Tree::List(parts) = term else {
         return Ok(());
     };
@@ -308,37 +314,42 @@ fn push_parts<'a>(tasks: &mut Vec<Task<'a>>, seen: usize, term: Tree<'a>) -> Res
     }
     if is_bang(head) {
         return match args.split_first() {
-            Some((inner, _)) => push_task(tasks, Task::Count(inner)),
+            Some((inner, _)) => push_task(tasks, Task::Count(inner, depth)),
             None => Ok(()),
         };
     }
     if is_let(head) {
-        return push_let(tasks, seen, args);
+        return push_let(tasks, seen, args, depth);
     }
     let mut left = args;
     for _ in 0..args.len() {
         let Some((arg, rest)) = left.split_first() else {
             break;
         };
-        push_task(tasks, Task::Count(arg))?;
+        push_task(tasks, Task::Count(arg, depth))?;
         left = rest;
     }
     Ok(())
 }
 
-fn push_let<'a>(tasks: &mut Vec<Task<'a>>, seen: usize, args: Trees<'a>) -> Result<(), Memory> {
+fn push_let<'a>(
+    tasks: &mut Vec<Task<'a>>,
+    seen: usize,
+    args: Trees<'a>,
+    depth: u64,
+) -> Result<(), Memory> {
     let Some((bindings, body)) = split_let(args) else {
         return Ok(());
     };
     push_task(tasks, Task::Leave(seen))?;
-    push_task(tasks, Task::Count(body))?;
+    push_task(tasks, Task::Count(body, depth))?;
     push_task(tasks, Task::Enter(bindings))?;
     let mut left = bindings;
     for _ in 0..bindings.len() {
         let Some((_, term, rest)) = split_named(left) else {
             break;
         };
-        push_task(tasks, Task::Count(term))?;
+        push_task(tasks, Task::Count(term, depth))?;
         left = rest;
     }
     Ok(())

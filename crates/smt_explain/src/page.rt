@@ -6,13 +6,16 @@ use smt_faults::Memory;
 use std::alloc::Global;
 
 /// The most bytes of a line, without its end.
-const WIDTH: usize = 200;
+pub(crate) const WIDTH: usize = 200;
 
 /// The most lines for one line of the report.
 const LINES: u64 = 200;
 
 /// The most bytes of a text that is written without a gap in its middle.
 const TEXT: usize = 120;
+
+/// The most steps in which sorts are tried, for all lines of the report together.
+const TRIALS: u64 = 10_000;
 
 /// An explanation that is being written.
 #[derive(Drop)]
@@ -21,6 +24,7 @@ pub(crate) struct Page {
     out: Vec<u8>,
     line: Vec<u8>,
     lines: u64,
+    trials: u64,
     /// The names of declared sorts, each with the number of its command.
     sorts: Vec<(u32, Vec<u8>)>,
 }
@@ -32,6 +36,7 @@ impl Page {
             out: Vec::new(alloc),
             line: Vec::new(alloc),
             lines: 0,
+            trials: TRIALS,
             sorts: Vec::new(alloc),
         }
     }
@@ -51,6 +56,16 @@ impl Page {
     /// Whether a line fits, and another after it.
     pub(crate) fn has_room(&self) -> bool {
         self.lines.saturating_add(1) < LINES
+    }
+
+    /// Uses up steps in which sorts are tried, or returns `false` where fewer are left.
+    pub(crate) fn take_trials(&mut self, steps: usize) -> bool {
+        let steps = steps as u64;
+        if steps > self.trials {
+            return false;
+        }
+        self.trials = self.trials.saturating_sub(steps);
+        true
     }
 
     /// Adds bytes at the end of the line, up to its width, with `?` for each that is not printable ASCII.

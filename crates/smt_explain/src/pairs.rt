@@ -2,7 +2,7 @@
 
 use crate::scan::{Span, is_word, part, text_at};
 use smt_faults::Memory;
-use smt_theory::Profile;
+use smt_theory::{Profile, theories_of};
 use std::alloc::Global;
 
 /// The kind of a command, as far as its answer and what is in force depend on it.
@@ -25,7 +25,8 @@ pub(crate) enum Head {
     Prints(bool),
     Global(bool),
     Setting,
-    Logic,
+    /// Whether the wide profile has a logic of that name.
+    Logic(bool),
     Other,
 }
 
@@ -130,14 +131,15 @@ fn need_of(head: Head, prints: bool, start: &Start) -> Need {
         Head::Prints(true) => Need::Needed,
         Head::Prints(false) => Need::General,
         Head::Setting | Head::Global(_) => needed_or(prints, Need::Unsupported),
-        Head::Logic => needed_or(prints, unsupported_if_wide(start)),
+        Head::Logic(known) => needed_or(prints, unsupported_if_unknown(known, start)),
         _ => needed_or(prints, Need::Nothing),
     }
 }
 
-fn unsupported_if_wide(start: &Start) -> Need {
+fn unsupported_if_unknown(known: bool, start: &Start) -> Need {
     match start.profile {
         Profile::Base => Need::Nothing,
+        Profile::Wide if known => Need::Nothing,
         Profile::Wide => Need::Unsupported,
     }
 }
@@ -176,7 +178,7 @@ pub(crate) fn head_of(text: &[u8]) -> Head {
         b"get-model" => Head::Model,
         b"echo" => Head::Echo,
         b"exit" => Head::Exit,
-        b"set-logic" => Head::Logic,
+        b"set-logic" => Head::Logic(theories_of(Profile::Wide, word(text, 1)).is_some()),
         b"set-option" => option_of(text),
         b"set-info" => Head::Setting,
         other => {

@@ -1,6 +1,6 @@
 //! The smallest parts of a claim that make it false, true or open. This file evaluates no term itself.
 
-use crate::evaluation::{Bound, Over, Stopped, Work, bind, find, value_in};
+use crate::evaluation::{Bound, Found, Over, Stopped, Work, bind, find, value_in};
 use crate::page::Page;
 use crate::values::tell_part;
 use crate::walk::two_of;
@@ -17,6 +17,8 @@ pub(crate) enum Known {
     /// A value other than `true` and `false`.
     Else,
     Open,
+    /// The part is too deep to be evaluated.
+    TooDeep,
 }
 
 /// A part of a claim, with its scope and its value.
@@ -29,12 +31,13 @@ pub(crate) struct Part<'a> {
     pub(crate) within: Option<usize>,
 }
 
-fn known_as(value: Option<Value>) -> Known {
-    match value {
-        None => Known::Open,
-        Some(Value::Bool(true)) => Known::True,
-        Some(Value::Bool(false)) => Known::False,
-        Some(_) => Known::Else,
+fn known_as(found: Found) -> Known {
+    match found {
+        Err(_) => Known::TooDeep,
+        Ok(None) => Known::Open,
+        Ok(Some(Value::Bool(true))) => Known::True,
+        Ok(Some(Value::Bool(false))) => Known::False,
+        Ok(Some(_)) => Known::Else,
     }
 }
 
@@ -166,8 +169,7 @@ fn go_into_let<'a>(
         let Some((name, term, behind)) = split_named(rest) else {
             break;
         };
-        let value = value_in(over, work, bounds.as_slice(), part.scope, term)?;
-        scope = bind(over.alloc, bounds, name, value, term, part.scope, scope)?;
+        scope = bind_value(over, work, bounds, name, term, part.scope, scope)?;
         rest = behind;
     }
     push_part(
@@ -178,6 +180,20 @@ fn go_into_let<'a>(
             ..part
         },
     )
+}
+
+// Binds a name to the value that a term has in a scope, and gives the scope with it.
+fn bind_value<'a>(
+    over: &Over<'a, '_>,
+    work: &mut Work,
+    bounds: &mut Vec<Bound<'a>>,
+    name: &'a [u8],
+    term: Tree<'a>,
+    term_scope: usize,
+    outer: usize,
+) -> Result<usize, Stopped> {
+    let value = value_in(over, work, bounds.as_slice(), term_scope, term)?;
+    Ok(bind(over.alloc, bounds, name, value, term, term_scope, outer)?)
 }
 
 fn go_into_call<'a>(
@@ -200,16 +216,8 @@ fn go_into_call<'a>(
                 let Some((arg, behind)) = rest.split_first() else {
                     break;
                 };
-                let value = value_in(over, work, bounds.as_slice(), part.scope, arg)?;
-                scope = bind(
-                    over.alloc,
-                    bounds,
-                    param.0.as_slice(),
-                    value,
-                    arg,
-                    part.scope,
-                    scope,
-                )?;
+                let name = param.0.as_slice();
+                scope = bind_value(over, work, bounds, name, arg, part.scope, scope)?;
                 rest = behind;
             }
             push_part(
@@ -235,31 +243,74 @@ fn go_into_operator<'a>(
     args: Trees<'a>,
     left: &mut Vec<Part<'a>>,
 ) -> Result<(), Stopped> {
-    let mut inner: Vec<Part<'a>> = Vec::new(over.alloc);
-    let mut rest = args;
-    for _ in 0..args.len() {
-        let Some((arg, behind)) = rest.split_first() else {
-            break;
-        };
-        inner.push(Part {
-            term: arg,
-            value: known_as(value_in(over, work, bounds, part.scope, arg)?),
-            ..part
-        })?;
-        rest = behind;
-    }
+    let inner = parts_in(over, work, bounds, part, name, args)?;
     let before = left.len();
     match part.value {
         Known::Open => push_one(inner.as_slice(), Known::Open, left)?,
         Known::True => push_deciding(name, true, inner.as_slice(), left)?,
         Known::False => push_deciding(name, false, inner.as_slice(), left)?,
-        Known::Else => {}
+        Known::Else | Known::TooDeep => {}
     }
     // (The part added last is on top, where the first has to be.)
     if let Some(added) = left.as_mut_slice().get_mut(before..) {
         added.reverse();
     }
     Ok(())
+}
+
+// What is known of the value of a term in a scope.
+fn known_in<'a>(
+    over: &Over<'a, '_>,
+    work: &mut Work,
+    bounds: &[Bound<'a>],
+    scope: usize,
+    term: Tree<'a>,
+) -> Result<Known, Stopped> {
+    Ok(known_as(value_in(over, work, bounds, scope, term)?))
+}
+
+// The arguments of an operator, with their values.
+fn parts_in<'a>(
+    over: &Over<'a, '_>,
+    work: &mut Work,
+    bounds: &[Bound<'a>],
+    part: Part<'a>,
+    name: &[u8],
+    args: Trees<'a>,
+) -> Result<Vec<Part<'a>>, Stopped> {
+    let mut inner = Vec::new(over.alloc);
+    let mut rest = args;
+    for _ in 0..args.len() {
+        let Some((arg, behind)) = rest.split_first() else {
+            break;
+        };
+        let value = match implied(name, part.value, behind.split_first().is_none()) {
+            Some(value) => value,
+            None => known_in(over, work, bounds, part.scope, arg)?,
+        };
+        push_part(
+            &mut inner,
+            Part {
+                term: arg,
+                value,
+                ..part
+            },
+        )?;
+        rest = behind;
+    }
+    Ok(inner)
+}
+
+// The value that an argument of a connective has by the value of the whole, whatever the others are: nothing has to be
+// evaluated for it.
+fn implied(name: &[u8], whole: Known, is_last: bool) -> Option<Known> {
+    match (name, whole) {
+        (b"not", Known::True) | (b"or", Known::False) => Some(Known::False),
+        (b"not", Known::False) | (b"and", Known::True) => Some(Known::True),
+        (b"=>", Known::False) if is_last => Some(Known::False),
+        (b"=>", Known::False) => Some(Known::True),
+        _ => None,
+    }
 }
 
 // Adds the arguments that make a connective true or false.
@@ -276,7 +327,7 @@ fn push_deciding<'a>(
         b"or" if value => push_one(inner, Known::True, left),
         b"or" => push_those(inner, Known::False, left),
         b"=>" => push_implied(value, inner, left),
-        b"ite" => push_branch(inner, left),
+        b"ite" => push_branch(value, inner, left),
         _ => Ok(()),
     }
 }
@@ -332,17 +383,23 @@ fn push_implied<'a>(
     push_one(premises, Known::False, left)
 }
 
-fn push_branch<'a>(inner: &[Part<'a>], left: &mut Vec<Part<'a>>) -> Result<(), Stopped> {
-    if let [condition, then, otherwise] = inner {
-        let branch = if condition.value == Known::True {
-            then
-        } else {
-            otherwise
-        };
-        push_part(left, *branch)?;
-        push_part(left, *condition)?;
-    }
-    Ok(())
+// Adds the condition and the branch that it chooses, which has the value of the whole.
+fn push_branch<'a>(
+    value: bool,
+    inner: &[Part<'a>],
+    left: &mut Vec<Part<'a>>,
+) -> Result<(), Stopped> {
+    let [condition, then, otherwise] = inner else {
+        return Ok(());
+    };
+    let branch = match condition.value {
+        Known::True => then,
+        Known::False => otherwise,
+        _ => return Ok(()),
+    };
+    let value = if value { Known::True } else { Known::False };
+    push_part(left, Part { value, ..*branch })?;
+    push_part(left, *condition)
 }
 
 /// Whether a term is a literal: a constant as a text has it.

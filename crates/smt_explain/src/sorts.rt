@@ -2,7 +2,7 @@
 //! and the sort needed there. This file knows no values and no command.
 
 use crate::library::{sort_named, sort_over};
-use crate::page::Page;
+use crate::page::{Page, WIDTH};
 use crate::show::{constant_of, symbol, text_of};
 use crate::walk::{tree_at, two_of};
 use smt_faults::Memory;
@@ -363,8 +363,18 @@ fn put_argument(page: &mut Page, alloc: Global, index: usize, arg: Tree<'_>) -> 
     page.put(b",")
 }
 
-// Writes which argument does not fit an operator: the last one for which another sort would fit. Where there is
-// none, it writes the sorts of all arguments.
+// What came of trying other sorts in the places of arguments.
+#[derive(Clone, Copy)]
+enum Trial {
+    /// This sort fits in the place of the argument with this index.
+    Fits(usize, Sort),
+    NoneFits,
+    /// The steps for trials did not suffice.
+    Ended,
+}
+
+// Writes which argument does not fit an operator: the last one for which another sort would fit. Where none was found,
+// it writes the sorts of all arguments, and whether some were not tried.
 fn tell_operator(
     page: &mut Page,
     alloc: Global,
@@ -373,49 +383,83 @@ fn tell_operator(
     args: Trees<'_>,
     sorts: &[Sort],
 ) -> Result<(), Memory> {
-    let most = args.len().min(MOST_ARGUMENTS);
-    for index in (0..most).rev() {
-        if let Some(wanted) = fitting(alloc, library, head, sorts, index)?
-            && let Some(sort) = sorts.get(index)
-            && let Some(arg) = tree_at(args, index)
-        {
-            put_argument(page, alloc, index, arg)?;
-            return tell_difference(page, *sort, wanted);
+    let was_ended = match try_sorts(page, alloc, library, head, sorts)? {
+        Trial::Fits(index, wanted) => {
+            if let (Some(sort), Some(arg)) = (sorts.get(index), tree_at(args, index)) {
+                put_argument(page, alloc, index, arg)?;
+                return tell_difference(page, *sort, wanted);
+            }
+            false
         }
-    }
+        Trial::NoneFits => false,
+        Trial::Ended => true,
+    };
     page.put(b"    the sorts of its arguments:")?;
-    for sort in sorts {
+    // (no line has room for more)
+    for sort in &sorts[..sorts.len().min(WIDTH)] {
         page.put(b" ")?;
         put_sort(page, *sort)?;
     }
-    page.end()
+    page.end()?;
+    if was_ended {
+        page.line(b"    (not all sorts were tried in the places of these)")?;
+    }
+    Ok(())
 }
 
-// The first sort that fits in the place of an argument. It tries the sorts of all arguments, then `Bool`, `Int`,
-// and vectors of 1, 8, 16, 32, 64 and 128 bits.
-fn fitting(
+// The first sort that fits in the place of an argument, from the last argument on. It takes a step for each argument
+// whose sort is looked at.
+fn try_sorts(
+    page: &mut Page,
+    alloc: Global,
+    library: &mut Library<'_>,
+    head: Tree<'_>,
+    sorts: &[Sort],
+) -> Result<Trial, Memory> {
+    let Some(candidates) = candidates_of(page, alloc, sorts)? else {
+        return Ok(Trial::Ended);
+    };
+    for index in (0..sorts.len().min(MOST_ARGUMENTS)).rev() {
+        for candidate in candidates.as_slice() {
+            if !page.take_trials(sorts.len()) {
+                return Ok(Trial::Ended);
+            }
+            if fits(alloc, library, head, sorts, index, *candidate)? {
+                return Ok(Trial::Fits(index, *candidate));
+            }
+        }
+    }
+    Ok(Trial::NoneFits)
+}
+
+// Whether arguments of these sorts fit, where that of one is another.
+fn fits(
     alloc: Global,
     library: &mut Library<'_>,
     head: Tree<'_>,
     sorts: &[Sort],
     index: usize,
-) -> Result<Option<Sort>, Memory> {
-    let candidates = candidates_of(alloc, sorts)?;
-    for candidate in candidates.as_slice() {
-        let mut changed = Vec::with_capacity(alloc, sorts.len())?;
-        for (place, sort) in sorts.iter().enumerate() {
-            changed.push(if place == index { *candidate } else { *sort })?;
-        }
-        if sort_applied(alloc, library, head, changed.as_slice())?.is_some() {
-            return Ok(Some(*candidate));
-        }
+    candidate: Sort,
+) -> Result<bool, Memory> {
+    let mut changed = Vec::with_capacity(alloc, sorts.len())?;
+    for (place, sort) in sorts.iter().enumerate() {
+        changed.push(if place == index { candidate } else { *sort })?;
     }
-    Ok(None)
+    Ok(sort_applied(alloc, library, head, changed.as_slice())?.is_some())
 }
 
-fn candidates_of(alloc: Global, sorts: &[Sort]) -> Result<Vec<Sort>, Memory> {
+// The sorts to be tried: those of all arguments, then `Bool`, `Int`, and vectors of 1, 8, 16, 32, 64 and 128 bits;
+// `None` where the steps for trials do not suffice.
+fn candidates_of(
+    page: &mut Page,
+    alloc: Global,
+    sorts: &[Sort],
+) -> Result<Option<Vec<Sort>>, Memory> {
     let mut candidates = Vec::new(alloc);
     for sort in sorts {
+        if !page.take_trials(candidates.len().max(1)) {
+            return Ok(None);
+        }
         add_sort(&mut candidates, *sort)?;
     }
     add_sort(&mut candidates, Sort::Bool)?;
@@ -425,7 +469,7 @@ fn candidates_of(alloc: Global, sorts: &[Sort]) -> Result<Vec<Sort>, Memory> {
             add_sort(&mut candidates, Sort::Bits(width))?;
         }
     }
-    Ok(candidates)
+    Ok(Some(candidates))
 }
 
 fn add_sort(sorts: &mut Vec<Sort>, sort: Sort) -> Result<(), Memory> {

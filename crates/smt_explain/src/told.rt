@@ -1,6 +1,6 @@
 //! The explanation of a report, line by line. This file finds no line itself: it is given the lines.
 
-use crate::evaluation::{Over, Stopped, Work, value_of};
+use crate::evaluation::{Over, Stopped, Work, is_false, value_of};
 use crate::faults::{tell_command_fault, tell_item_fault, tell_pairing, tell_text_fault};
 use crate::force::{Commands, Stand, has_label, in_force};
 use crate::library::command_of;
@@ -17,7 +17,6 @@ use smt_forms::Scope;
 use smt_report::{Claim, Line};
 use smt_theory::Profile;
 use smt_trees::{OwnedTree, Tree, Trees};
-use smt_values::Value;
 use std::alloc::Global;
 
 /// How many bytes of commands and models may be read for all checks together, beyond the size of both texts.
@@ -539,7 +538,7 @@ fn tell_assertions(
             continue;
         };
         if let Some(term) = claim_term(tree.view(), Claim::Assertion { command: number })
-            && value_of(over, work, term)? == Some(Value::Bool(false))
+            && is_false(value_of(over, work, term)?)
         {
             tell_command(page, dialogue, b"  also false: ", number)?;
         }
@@ -575,7 +574,7 @@ fn tell_assumptions(
         if place <= told || !page.has_room() {
             continue;
         }
-        if value_of(over, work, literal)? == Some(Value::Bool(false)) {
+        if is_false(value_of(over, work, literal)?) {
             page.put(b"  also false: assumption ")?;
             page.put_number(place)?;
             page.put(b" of the check: ")?;

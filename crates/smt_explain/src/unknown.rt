@@ -22,8 +22,12 @@ use std::alloc::Global;
 pub(crate) struct Brought<'a> {
     pub(crate) names: Scope<'a, usize>,
     pub(crate) sorts: Scope<'a, usize>,
+    /// The sorts that commands declared by these very names.
+    pub(crate) declared_sorts: Scope<'a, usize>,
     /// Whether terms may name elements of the sorts.
     pub(crate) has_elements: bool,
+    /// Names of the script, which are no element's.
+    pub(crate) taken: Scope<'a, usize>,
 }
 
 /// The names that these commands brought, labels included.
@@ -35,16 +39,26 @@ pub(crate) fn brought_by<'a>(
     let mut brought = Brought {
         names: Scope::new(alloc),
         sorts: Scope::new(alloc),
+        declared_sorts: Scope::new(alloc),
         has_elements: false,
+        taken: Scope::new(alloc),
     };
     for stand in standing {
         if let Some((head, text)) = commands.at(stand.place) {
             match head {
-                Head::DeclareSort | Head::DefineSort => {
-                    brought.sorts.push(word(text, 1), stand.place)?
+                Head::DeclareSort => {
+                    brought.sorts.push(word(text, 1), stand.place)?;
+                    brought.declared_sorts.push(word(text, 1), stand.place)?
                 }
-                Head::Assert => add_labels(alloc, &mut brought.names, text, stand.place)?,
-                _ => brought.names.push(word(text, 1), stand.place)?,
+                Head::DefineSort => brought.sorts.push(word(text, 1), stand.place)?,
+                Head::Assert => {
+                    add_labels(alloc, &mut brought.names, text, stand.place)?;
+                    add_labels(alloc, &mut brought.taken, text, stand.place)?
+                }
+                _ => {
+                    brought.names.push(word(text, 1), stand.place)?;
+                    brought.taken.push(word(text, 1), stand.place)?
+                }
             }
         }
     }
@@ -268,12 +282,12 @@ fn unknown_in_term<'a>(
 
 /// Whether a name is that of an element of a sort in force, where terms may name one.
 pub(crate) fn is_element(known: &Brought<'_>, name: &[u8]) -> bool {
-    known.has_elements && element_sort(known, name).is_some()
+    known.has_elements && known.taken.find(name).is_none() && element_sort(known, name).is_some()
 }
 
-/// The place of the command that brought the sort of which a symbol is an element.
+/// The place of the command that declared the sort for whose elements such a symbol is a name.
 pub(crate) fn element_sort(known: &Brought<'_>, symbol: &[u8]) -> Option<usize> {
-    known.sorts.find(sort_of_element(symbol)?)
+    known.declared_sorts.find(sort_of_element(symbol)?)
 }
 
 fn enter<'a>(bound: &mut Scope<'a, ()>, bindings: Trees<'a>) -> Result<(), Memory> {

@@ -1,6 +1,6 @@
 //! The lines on a smallest part: its text, its place, and the values in it. This file evaluates no term itself.
 
-use crate::evaluation::{Bound, Over, Stopped, Work, find, value_in};
+use crate::evaluation::{Bound, Found, Over, Stopped, TOO_DEEP, Work, find, value_in};
 use crate::page::Page;
 use crate::parts::{Known, Part, defined_at, is_literal};
 use crate::show::{put_name, shown, text_of};
@@ -25,7 +25,7 @@ pub(crate) fn tell_part<'a>(
     page.put(match part.value {
         Known::True => b"  true: ",
         Known::False => b"  false: ",
-        Known::Else => b"  value: ",
+        Known::Else | Known::TooDeep => b"  value: ",
         Known::Open => b"  open: ",
     })?;
     page.put_cut(text_of(over.alloc, part.term)?.as_slice())?;
@@ -54,13 +54,16 @@ pub(crate) fn tell_part<'a>(
     tell_values(page, over, work, bounds, part)
 }
 
-// The reason why a smallest part is open.
+// The reason why a smallest part is open, which nobody looked for where the part is too deep.
 fn reason(
     over: &Over<'_, '_>,
     work: &mut Work,
     bounds: &[Bound<'_>],
     part: Part<'_>,
 ) -> Result<&'static [u8], Stopped> {
+    if value_in(over, work, bounds, part.scope, part.term)?.is_err() {
+        return Ok(TOO_DEEP);
+    }
     let Tree::List(parts) = part.term else {
         return Ok(b"an integer below -2^127 or over 2^127 - 1");
     };
@@ -82,10 +85,10 @@ fn reason(
     Ok(b"an integer below -2^127 or over 2^127 - 1")
 }
 
-fn is_zero(value: Option<Value>) -> bool {
-    match value {
-        Some(value) => value.integer() == Some(0),
-        None => false,
+fn is_zero(found: Found) -> bool {
+    match found {
+        Ok(Some(value)) => value.integer() == Some(0),
+        _ => false,
     }
 }
 
@@ -189,7 +192,7 @@ fn tell_value<'a>(
     text: &[u8],
     any: bool,
 ) -> Result<(), Stopped> {
-    let value = value_in(over, work, bounds, next.scope, next.term)?;
+    let found = value_in(over, work, bounds, next.scope, next.term)?;
     page.put(if any { b", " } else { b"    " })?;
     page.put_cut(text)?;
     if let Tree::Symbol(name) = next.term
@@ -200,12 +203,14 @@ fn tell_value<'a>(
         page.put_cut(text_of(over.alloc, bound.term)?.as_slice())?;
     }
     page.put(b" = ")?;
-    if value.is_some() {
-        let written = shown(over.alloc, &value)?;
-        let text = text_of(over.alloc, written.view())?;
-        page.put(text.as_slice())?;
-    } else {
-        page.put(b"open")?;
+    match found {
+        Ok(Some(value)) => {
+            let written = shown(over.alloc, &Some(value))?;
+            let text = text_of(over.alloc, written.view())?;
+            page.put(text.as_slice())?;
+        }
+        Ok(None) => page.put(b"open")?,
+        Err(_) => page.put(TOO_DEEP)?,
     }
     Ok(())
 }

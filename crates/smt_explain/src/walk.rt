@@ -1,6 +1,7 @@
-//! The parts of a tree, without recursion. This file knows no term.
+//! The parts of a tree, without recursion. This file knows no term but those that are annotated.
 
 use smt_faults::Memory;
+use smt_forms::is_bang;
 use smt_trees::{Tree, Trees};
 use std::alloc::Global;
 
@@ -27,8 +28,11 @@ pub(crate) fn all_in<'a>(alloc: Global, tree: Tree<'a>) -> Result<Vec<Tree<'a>>,
     Ok(all)
 }
 
-/// A tree and all trees in it, each after its own parts, from the left.
-pub(crate) fn all_inside_first<'a>(alloc: Global, tree: Tree<'a>) -> Result<Vec<Tree<'a>>, Memory> {
+/// A tree and all trees in it but those in attributes of terms, each after its own parts, from the left.
+pub(crate) fn terms_inside_first<'a>(
+    alloc: Global,
+    tree: Tree<'a>,
+) -> Result<Vec<Tree<'a>>, Memory> {
     let mut all = Vec::new(alloc);
     let mut left = Vec::new(alloc);
     push_tree(&mut left, tree)?;
@@ -37,12 +41,27 @@ pub(crate) fn all_inside_first<'a>(alloc: Global, tree: Tree<'a>) -> Result<Vec<
             break;
         };
         push_tree(&mut all, next)?;
-        if let Tree::List(parts) = next {
-            push_trees(&mut left, parts)?;
+        match (annotated(next), next) {
+            (Some((term, _)), _) => push_tree(&mut left, term)?,
+            (None, Tree::List(parts)) => push_trees(&mut left, parts)?,
+            _ => {}
         }
     }
     all.as_mut_slice().reverse();
     Ok(all)
+}
+
+/// The term and the attributes of an annotated term.
+pub(crate) fn annotated(tree: Tree<'_>) -> Option<(Tree<'_>, Trees<'_>)> {
+    let Tree::List(parts) = tree else {
+        return None;
+    };
+    let (head, rest) = parts.split_first()?;
+    if is_bang(head) {
+        rest.split_first()
+    } else {
+        None
+    }
 }
 
 fn push_tree<'a>(trees: &mut Vec<Tree<'a>>, tree: Tree<'a>) -> Result<(), Memory> {

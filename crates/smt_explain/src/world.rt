@@ -3,9 +3,9 @@
 use crate::force::{Commands, Stand, has_label};
 use crate::pairs::Head;
 use crate::scan::{Place, Span, find_trees, part, text_at};
-use crate::walk::{all_inside_first, four_of, three_of};
+use crate::walk::{annotated, four_of, terms_inside_first, three_of};
 use smt_faults::{Memory, TextFault};
-use smt_forms::{ItemForm, NameSet, is_bang, item_form, label_at, split_named};
+use smt_forms::{ItemForm, NameSet, item_form, label_at, split_named};
 use smt_text::read_trees;
 use smt_theory::{Sort, Width};
 use smt_trees::{OwnedTree, Tree, Trees};
@@ -194,7 +194,7 @@ fn add_labels(
     tree: Tree<'_>,
     place: Place,
 ) -> Result<(), Memory> {
-    let all = all_inside_first(alloc, tree)?;
+    let all = terms_inside_first(alloc, tree)?;
     for part in all.as_slice() {
         if let Some((term, attributes)) = annotated(*part) {
             let mut left = attributes;
@@ -208,19 +208,6 @@ fn add_labels(
         }
     }
     Ok(())
-}
-
-// The term and the attributes of an annotated term.
-fn annotated(tree: Tree<'_>) -> Option<(Tree<'_>, Trees<'_>)> {
-    let Tree::List(parts) = tree else {
-        return None;
-    };
-    let (head, rest) = parts.split_first()?;
-    if is_bang(head) {
-        rest.split_first()
-    } else {
-        None
-    }
 }
 
 // The next label among attributes, and what follows its keyword.

@@ -7,3 +7,4 @@ pub mod PlaceLemmas
 pub mod ScopeLemmas
 pub mod RepeatedLemmas
 pub mod RefusalLemmas
+mod NumeralLemmas

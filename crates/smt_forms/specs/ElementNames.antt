@@ -28,7 +28,7 @@ is_numeral_behind (Some rest) = is_numeral rest
 abbrev pub before_numeral : (mark symbol : List ℕ) → Option (List ℕ)
 before_numeral mark [] = None
 before_numeral mark (c ∷ cs) = if is_numeral_behind (behind mark (c ∷ cs)) then Some []
-    else option_map (λ front. c ∷ front) (before_numeral mark cs)
+    else option_map (λ before. c ∷ before) (before_numeral mark cs)
 
 -- the name of the sort of which a symbol is an element: `U` for `U!val!0` and for `@uc_U_0`
 abbrev pub sort_of_element : List ℕ → Option (List ℕ)

@@ -2,8 +2,9 @@
 
 pub mod refusals;
 
-ghost use Rattle.std.specs.List.{AllPairs, Contains, flat_map};
-ghost use Rattle.std.specs.Prelude.{◌≡◌, ◌≢◌, ◌↔◌, ◌⊎◌, ◌++◌, ℕ, List, [], None, Some, codes, map, true};
+ghost use Rattle.std.specs.List.{All, AllPairs, Contains, flat_map};
+ghost use Rattle.std.specs.Prelude.{◌≡◌, ◌≢◌, ◌↔◌, ◌⊎◌, ◌++◌, ◌∷◌, ◌<◌, ◌≤◌, ℕ, List, [], None, Some, codes, map};
+ghost use Rattle.std.specs.Prelude.{true, false};
 ghost use Rattle.smt_trees.specs.Sexp.{Sexp, Sexps, Nil};
 ghost use Rattle.smt_theory.specs.declared.sort.Sort.{Sort};
 ghost use Rattle.smt_forms.specs.ElementNames.{is_numeral, sort_of_element};
@@ -41,8 +42,9 @@ pub fn none_repeated_where_all_differ()
     ensures { (names : List (List ℕ)) → (repeated_behind [] names ≡ None) ↔ AllPairs (λ x y. x ≢ y) names }
 {}
 
-/// A plain symbol is read as an element of the sort `U` exactly where it is `U!val!` or `@uc_U_` with a numeral
-/// behind it (SMT-LIB 2.6, section 3.1). No symbol is read in both ways.
+/// A plain symbol is spelled as an element of the sort `U` exactly where it is `U!val!` or `@uc_U_` with a numeral
+/// behind it (SMT-LIB 2.6, section 3.1). No symbol is spelled in both ways. The names in force decide whether it is an
+/// element.
 pub fn elements_name_their_sorts()
     ensures named { (sort numeral : List ℕ) → is_numeral numeral ≡ true
         → sort_of_element (sort ++ codes "!val!" ++ numeral) ≡ Some sort }
@@ -50,4 +52,15 @@ pub fn elements_name_their_sorts()
         ↔ ((numeral : List ℕ) × (is_numeral numeral ≡ true)
         × ((symbol ≡ sort ++ codes "!val!" ++ numeral)
         ⊎ (symbol ≡ codes "@uc_" ++ sort ++ codes "_" ++ numeral))) }
+{}
+
+/// A numeral is `0`, or digits of which the first is no `0` (SMT-LIB 2.6, section 3.1).
+pub fn numerals_begin_with_no_zero()
+    ensures zero { is_numeral (codes "0") ≡ true }
+    ensures digits { (d : ℕ) (ds : List ℕ) → 49 ≤ d → d ≤ 57 → All (λ e. (48 ≤ e) × (e ≤ 57)) ds
+        → is_numeral (d ∷ ds) ≡ true }
+    ensures padded { (d : ℕ) (ds : List ℕ) → is_numeral (48 ∷ d ∷ ds) ≡ false }
+    ensures others { (before after : List ℕ) (c : ℕ) → (c < 48) ⊎ (57 < c)
+        → is_numeral (before ++ c ∷ after) ≡ false }
+    ensures empty { is_numeral [] ≡ false }
 {}

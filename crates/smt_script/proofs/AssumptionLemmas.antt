@@ -11,7 +11,8 @@ use Rattle.smt_terms.specs.Denotes.{Denotes, Table}
 use Rattle.smt_terms.specs.Library.{terms_of}
 use Rattle.smt_terms.specs.Signature.{Names, Signature, names_of}
 use Rattle.smt_terms.specs.declared.library.Library.{Library}
-use Rattle.smt_script.specs.Command.{Command, SetLogic, DeclareConst, DeclareFun, DefineFun, DeclareSort, DefineSort, Assert}
+use Rattle.smt_script.specs.Command.{Command, SetLogic, DeclareConst, DeclareFun, DefineFun, DeclareSort, DefineSort}
+use Rattle.smt_script.specs.Command.{Assert}
 use Rattle.smt_script.specs.Command.{effect_of, SetPrintSuccess, SetGlobalDeclarations, SetOption, SetInfo, Push, Pop}
 use Rattle.smt_script.specs.Command.{Reset, ResetAssertions, Exit, CheckSat, CheckSatAssuming, GetModel, Echo, Get}
 use Rattle.smt_script.specs.Stack as spec

@@ -9,8 +9,8 @@ use Rattle.std.specs.Global.{Vec}
 use Rattle.smt_trees.specs.Sexp.{Sexp, Sexps, Nil}
 use Rattle.smt_theory.specs.Theories.{theories_named}
 use Rattle.smt_theory.specs.declared.profile.Profile.{Profile}
-use Rattle.smt_theory.specs.declared.sort.Sort.{Sort}
 use Rattle.smt_theory.specs.declared.theories.Theories.{Theories}
+use Rattle.smt_terms.specs.declared.named_sort.NamedSort.{NamedSort}
 use Rattle.smt_terms.specs.Assertions.{asserted_in}
 use Rattle.smt_terms.specs.Contents.{Contents, Extends, contents_of, first_of}
 use Rattle.smt_terms.specs.Definitions.{defined_in}
@@ -126,7 +126,7 @@ pub same_signature : (t u : Theories) (xs ys : List Brought) → t ≡ u → abb
 same_signature t u xs ys theories abbreviations entries =
     ap (λ (t : Theories). signature_of t xs) theories
     ∙ ap (λ (es : List Entry). record { theories = u; elements = None; abbreviations = abbreviations_of xs; entries = es }) entries
-    ∙ ap (λ (as' : List (List ℕ × Sort)). record { theories = u; elements = None; abbreviations = as'; entries = entries_of ys })
+    ∙ ap (λ (as' : List (List ℕ × NamedSort)). record { theories = u; elements = None; abbreviations = as'; entries = entries_of ys })
     abbreviations
 
 pub names_grow : (profile : Profile) (cs : List Numbered) (c : Numbered) → is_reset c.command ≡ false
@@ -158,7 +158,7 @@ signature-add profile cs c adds =
       entries = es;
     })
     (entries-push (in_force names_stand (history profile cs)) b)
-    ∙ ap (λ (as' : List (List ℕ × Sort)).
+    ∙ ap (λ (as' : List (List ℕ × NamedSort)).
     record {
       theories = theories_in_force profile cs;
       elements = None;
@@ -211,7 +211,7 @@ pub none_more : (xs : List Brought) (b : Brought) (u : Bool) → b.entries ≡ [
     × (abbreviations_of (xs ++ cond u (b ∷ []) []) ≡ abbreviations_of xs)
 none_more xs b true e a = (
   entries-push xs b ∙ ap (λ (l : List Entry). entries_of xs ++ l) e ∙ append-nil (entries_of xs),
-  abbreviations-push xs b ∙ ap (λ (l : List (List ℕ × Sort)). abbreviations_of xs ++ l) a
+  abbreviations-push xs b ∙ ap (λ (l : List (List ℕ × NamedSort)). abbreviations_of xs ++ l) a
       ∙ append-nil (abbreviations_of xs),
 )
 none_more xs b false e a = (ap entries_of (append-nil xs), ap abbreviations_of (append-nil xs))
@@ -357,7 +357,7 @@ pub nothing_brought : (l : Library) (s : Signature) (n : ℕ) (command : Command
     → library.StandsFor l (with_brought s n command)
 nothing_brought l s n command abbreviations entries h =
     let P : Signature → Type 0 = λ x. library.StandsFor l x in
-    subst P (sym (ap (λ (as' : List (List ℕ × Sort)).
+    subst P (sym (ap (λ (as' : List (List ℕ × NamedSort)).
     record {
       theories = s.theories;
       elements = s.elements;
@@ -371,7 +371,7 @@ nothing_brought l s n command abbreviations entries h =
     ∙ ap (λ (es : List Entry).
     record { theories = s.theories; elements = s.elements; abbreviations = s.abbreviations ++ []; entries = es })
     (append-nil s.entries)
-    ∙ ap (λ (as' : List (List ℕ × Sort)).
+    ∙ ap (λ (as' : List (List ℕ × NamedSort)).
     record { theories = s.theories; elements = s.elements; abbreviations = as'; entries = s.entries })
     (append-nil s.abbreviations))) h
 
@@ -464,7 +464,7 @@ one_entry : (l : Library) (s : Signature) (n : ℕ) (command : Command) (e : Ent
     → library.StandsFor l (with_brought s n command)
 one_entry l s n command e abbreviations entries h =
     let P : Signature → Type 0 = λ x. library.StandsFor l x in
-    subst P (sym (ap (λ (as' : List (List ℕ × Sort)).
+    subst P (sym (ap (λ (as' : List (List ℕ × NamedSort)).
     record {
       theories = s.theories;
       elements = s.elements;
@@ -475,7 +475,7 @@ one_entry l s n command e abbreviations entries h =
     ∙ ap (λ (es : List Entry).
     record { theories = s.theories; elements = s.elements; abbreviations = s.abbreviations ++ []; entries = s.entries ++ es })
     entries
-    ∙ ap (λ (as' : List (List ℕ × Sort)).
+    ∙ ap (λ (as' : List (List ℕ × NamedSort)).
     record { theories = s.theories; elements = s.elements; abbreviations = as'; entries = s.entries ++ e ∷ [] })
     (append-nil s.abbreviations))) h
 
@@ -545,15 +545,15 @@ define_effect law old l n x parameters sort body defines grown =
 abbrev pub AbbreviatesIn : Library → Library → List ℕ → Sexp → Type 0
 AbbreviatesIn old new x sort =
     (s : Signature) → library.StandsFor old s
-    → (found : Sort) × (abbreviated_in (sort_names_of s) x sort ≡ Ok found)
+    → (found : NamedSort) × (abbreviated_in (sort_names_of s) x sort ≡ Ok found)
     × library.StandsFor new (with_abbreviation s x found)
 
-one_abbreviation : (l : Library) (s : Signature) (n : ℕ) (command : Command) (x : List ℕ) (sort : Sort)
+one_abbreviation : (l : Library) (s : Signature) (n : ℕ) (command : Command) (x : List ℕ) (sort : NamedSort)
     → abbreviations_by s n command ≡ (x, sort) ∷ [] → entries_by s n command ≡ []
     → library.StandsFor l (with_abbreviation s x sort) → library.StandsFor l (with_brought s n command)
 one_abbreviation l s n command x sort abbreviations entries h =
     let P : Signature → Type 0 = λ y. library.StandsFor l y in
-    subst P (sym (ap (λ (as' : List (List ℕ × Sort)).
+    subst P (sym (ap (λ (as' : List (List ℕ × NamedSort)).
     record {
       theories = s.theories;
       elements = s.elements;
@@ -576,7 +576,7 @@ one_abbreviation l s n command x sort abbreviations entries h =
 abbrev pub DeclaresSortIn : Library → Library → ℕ → List ℕ → Type 0
 DeclaresSortIn old new n x =
     (s : Signature) → library.StandsFor old s
-    → (found : Sort) × (sort_declared_in (sort_names_of s) n x ≡ Ok found)
+    → (found : NamedSort) × (sort_declared_in (sort_names_of s) n x ≡ Ok found)
     × library.StandsFor new (with_abbreviation s x found)
 
 pub declare_sort_effect : ContentsAreKept → (old : Stack) (l : Library) (n : ℕ) (x : List ℕ)
@@ -592,7 +592,7 @@ declare_sort_effect law old l n x declares grown =
           let made = declares (signature_in_force (profile_of old) cs) h in (
             ap flaw_of made.1,
             one_abbreviation l (signature_in_force (profile_of old) cs) n (DeclareSort x) x made.0
-                (ap (λ (r : Result Sort TermFlaw). spec.named x (one_or_none r)) made.1) refl made.2,
+                (ap (λ (r : Result NamedSort TermFlaw). spec.named x (one_or_none r)) made.1) refl made.2,
           );
     })
 
@@ -609,7 +609,7 @@ define_sort_effect law old l n x sort abbreviates grown =
           let made = abbreviates (signature_in_force (profile_of old) cs) h in (
             ap flaw_of made.1,
             one_abbreviation l (signature_in_force (profile_of old) cs) n (DefineSort x sort) x made.0
-                (ap (λ (r : Result Sort TermFlaw). spec.named x (one_or_none r)) made.1) refl made.2,
+                (ap (λ (r : Result NamedSort TermFlaw). spec.named x (one_or_none r)) made.1) refl made.2,
           );
     })
 
@@ -626,7 +626,7 @@ some_entries : (l : Library) (s : Signature) (n : ℕ) (command : Command) (es :
     → library.StandsFor l (with_brought s n command)
 some_entries l s n command es abbreviations entries h =
     let P : Signature → Type 0 = λ x. library.StandsFor l x in
-    subst P (sym (ap (λ (as' : List (List ℕ × Sort)).
+    subst P (sym (ap (λ (as' : List (List ℕ × NamedSort)).
     record {
       theories = s.theories;
       elements = s.elements;
@@ -637,7 +637,7 @@ some_entries l s n command es abbreviations entries h =
     ∙ ap (λ (ds : List Entry).
     record { theories = s.theories; elements = s.elements; abbreviations = s.abbreviations ++ []; entries = s.entries ++ ds })
     entries
-    ∙ ap (λ (as' : List (List ℕ × Sort)).
+    ∙ ap (λ (as' : List (List ℕ × NamedSort)).
     record { theories = s.theories; elements = s.elements; abbreviations = as'; entries = s.entries ++ es })
     (append-nil s.abbreviations))) h
 

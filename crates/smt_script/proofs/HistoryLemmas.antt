@@ -9,10 +9,10 @@ use Rattle.std.proofs.lemmas.List.Elements.{filter-append}
 use Rattle.std.proofs.lemmas.List.Folds.{list_all-append, list_any-append}
 use Rattle.std.proofs.lemmas.List.Sums.{fold-append}
 use Rattle.std.proofs.lemmas.Grind.{flat_map-append}
-use Rattle.smt_theory.specs.declared.sort.Sort.{Sort}
 use Rattle.smt_theory.specs.declared.theories.Theories.{Theories}
 use Rattle.smt_theory.specs.Theories.{all_theories}
 use Rattle.smt_theory.specs.declared.profile.Profile.{Profile}
+use Rattle.smt_terms.specs.declared.named_sort.NamedSort.{NamedSort}
 use Rattle.smt_terms.specs.Signature.{Entry, Signature}
 use Rattle.smt_script.specs.Command.{Command, Effect, Removes, SetsLogic, Brings, Pushes, Pops, Removing, SetsGlobal}
 use Rattle.smt_script.specs.Command.{Assumes, AllButOptions, Everything, SetLogic, SetPrintSuccess, effect_of}
@@ -226,7 +226,7 @@ pub abbreviations-push : (xs : List Brought) (b : Brought)
     → abbreviations_of (xs ++ b ∷ []) ≡ abbreviations_of xs ++ b.abbreviations
 abbreviations-push xs b =
     flat_map-append (λ (x : Brought). x.abbreviations) xs (b ∷ [])
-    ∙ ap (λ (l : List (List ℕ × Sort)). abbreviations_of xs ++ l) (append-nil b.abbreviations)
+    ∙ ap (λ (l : List (List ℕ × NamedSort)). abbreviations_of xs ++ l) (append-nil b.abbreviations)
 
 pub assertions-push : (xs : List Brought) (b : Brought)
     → assertions_of (xs ++ b ∷ []) ≡ assertions_of xs ++ b.assertions
@@ -433,7 +433,7 @@ nothing_with : (names asserted : List Brought) (b : Brought) → entries_of name
     → Nothing (names ++ b ∷ []) (asserted ++ b ∷ [])
 nothing_with names asserted b e a t f g u = record {
   entries = entries-push names b ∙ ap (λ (l : List Entry). l ++ b.entries) e ∙ f;
-  abbreviations = abbreviations-push names b ∙ ap (λ (l : List (List ℕ × Sort)). l ++ b.abbreviations) a ∙ g;
+  abbreviations = abbreviations-push names b ∙ ap (λ (l : List (List ℕ × NamedSort)). l ++ b.abbreviations) a ∙ g;
   assertions = assertions-push asserted b ∙ ap (λ (l : List Assertion). l ++ b.assertions) t ∙ u;
 }
 
@@ -626,14 +626,14 @@ global_to_level k (b ∷ bs) h = one h.0 (global_to_level k bs h.1)
         × (abbreviations_of (names_to_level k bs) ≡ abbreviations_of bs) → Goal true
     with_it r = (
       ap (λ (l : List Entry). b.entries ++ l) r.0,
-      ap (λ (l : List (List ℕ × Sort)). b.abbreviations ++ l) r.1,
+      ap (λ (l : List (List ℕ × NamedSort)). b.abbreviations ++ l) r.1,
     )
 
     without : b.entries ≡ [] → b.abbreviations ≡ [] → (entries_of (names_to_level k bs) ≡ entries_of bs)
         × (abbreviations_of (names_to_level k bs) ≡ abbreviations_of bs) → Goal false
     without e a r = (
       r.0 ∙ ap (λ (l : List Entry). l ++ entries_of bs) (sym e),
-      r.1 ∙ ap (λ (l : List (List ℕ × Sort)). l ++ abbreviations_of bs) (sym a),
+      r.1 ∙ ap (λ (l : List (List ℕ × NamedSort)). l ++ abbreviations_of bs) (sym a),
     )
 
     either : (u : Bool) → b.entries ≡ [] → b.abbreviations ≡ [] → (entries_of (names_to_level k bs) ≡ entries_of bs)

@@ -13,6 +13,7 @@ use Rattle.smt_theory.specs.declared.profile.Profile.{Profile}
 use Rattle.smt_theory.specs.Words.{look_up, result_and_then}
 use Rattle.smt_theory.specs.declared.sort.Sort.{Sort}
 use Rattle.smt_theory.specs.declared.theories.Theories.{Theories}
+use Rattle.smt_terms.specs.Elements.{ElementNames}
 use Rattle.smt_terms.specs.Assertions.{asserted_in}
 use Rattle.smt_terms.specs.Definitions.{defined_in}
 use Rattle.smt_terms.specs.Declarations.{declaration, declared_in, rank_named}
@@ -21,7 +22,6 @@ use Rattle.smt_terms.specs.Signature.{Entry, Names, Origin, Declared, Defined, R
 use Rattle.smt_terms.specs.Signature.{names_of, no_names, rank_of_entry, ranks_of, sort_names_of, unlabelled_over}
 use Rattle.smt_terms.specs.WellSorted.{AreIntroduced, IsIntroduced, IsSortedIfDefined, IsWellSorted}
 use Rattle.smt_terms.specs.WellSorted.{IsWellSortedFrom}
-use Rattle.smt_terms.specs.SortTrees.{SortNames}
 use Rattle.smt_faults.specs.declared.term_flaw.TermFlaw.{TermFlaw}
 use Rattle.smt_faults.specs.declared.term_flaw.TermFlaw.TheVariants as terms
 use Rattle.smt_script.specs.Command.{Command, Effect, Addition, SetLogic, Pop, ResetAssertions, Declaration, Definition}
@@ -248,7 +248,7 @@ no_entry [] x h = refl
 no_entry (e ∷ es) x h = no_entry_by x e es (no_entry es x) (bytes_eq x e.name) h
 
 -- more names
-more_names : (theories : Theories) (elements : Option SortNames) (earlier es fs : List Entry)
+more_names : (theories : Theories) (elements : Option ElementNames) (earlier es fs : List Entry)
     → AreIntroduced theories elements earlier es → AreIntroduced theories elements (earlier ++ es) fs
     → AreIntroduced theories elements earlier (es ++ fs)
 more_names theories elements earlier [] fs h more =
@@ -261,7 +261,7 @@ more_names theories elements earlier (c ∷ es) fs h more = (
 )
 
 -- fewer names
-fewer_names : (theories : Theories) (elements : Option SortNames) (earlier es fs : List Entry)
+fewer_names : (theories : Theories) (elements : Option ElementNames) (earlier es fs : List Entry)
     → AreIntroduced theories elements earlier (es ++ fs) → AreIntroduced theories elements earlier es
 fewer_names theories elements earlier [] fs h = tt
 fewer_names theories elements earlier (c ∷ es) fs h =

@@ -5,8 +5,8 @@ use Rattle.std.specs.Prelude.{nat_le, nat_lt, ◌<◌}
 use Rattle.std.specs.List.{All}
 use Rattle.std.proofs.lemmas.List.{append-nil, length-append, length-take}
 use Rattle.std.proofs.lemmas.List.Elements.{All-cons, All-nil}
-use Rattle.smt_theory.specs.declared.sort.Sort.{Sort}
 use Rattle.smt_theory.specs.Theories.{all_theories}
+use Rattle.smt_terms.specs.declared.named_sort.NamedSort.{NamedSort}
 use Rattle.smt_terms.specs.Contents.{Contents, IsBelow, IsWithin, contents_of, first_of}
 use Rattle.smt_terms.specs.Library as library
 use Rattle.smt_terms.specs.Library.{Holds}
@@ -530,11 +530,11 @@ globals_stay b (x ∷ xs) some h = one h.0 (globals_stay b xs some h.1)
         → (entries_of rest ≡ entries_of xs) × (abbreviations_of rest ≡ abbreviations_of xs) → Goal u
     either true e a r = (
       ap (λ (l : List Entry). x.entries ++ l) r.0,
-      ap (λ (l : List (List ℕ × Sort)). x.abbreviations ++ l) r.1,
+      ap (λ (l : List (List ℕ × NamedSort)). x.abbreviations ++ l) r.1,
     )
     either false e a r = (
       r.0 ∙ ap (λ (l : List Entry). l ++ entries_of xs) (sym e),
-      r.1 ∙ ap (λ (l : List (List ℕ × Sort)). l ++ abbreviations_of xs) (sym a),
+      r.1 ∙ ap (λ (l : List (List ℕ × NamedSort)). l ++ abbreviations_of xs) (sym a),
     )
 
     one : IsAs true x → (entries_of rest ≡ entries_of xs) × (abbreviations_of rest ≡ abbreviations_of xs)
@@ -543,7 +543,7 @@ globals_stay b (x ∷ xs) some h = one h.0 (globals_stay b xs some h.1)
         subst Goal (sym (ap (λ (g : Bool). cond g (not (is_everything b.removes)) (stands_after x.level b)) is
         ∙ ap not some)) (
           ap (λ (l : List Entry). x.entries ++ l) r.0,
-          ap (λ (l : List (List ℕ × Sort)). x.abbreviations ++ l) r.1,
+          ap (λ (l : List (List ℕ × NamedSort)). x.abbreviations ++ l) r.1,
         )
     one (inr none) r = either (name_stands_after x b) none.0 none.1 r
 
@@ -563,7 +563,7 @@ others_go b (x ∷ xs) all h = one h.0 (others_go b xs all h.1)
         → (entries_of rest ≡ []) × (abbreviations_of rest ≡ []) → Goal u
     either true e a r = (
       ap (λ (l : List Entry). l ++ entries_of rest) e ∙ r.0,
-      ap (λ (l : List (List ℕ × Sort)). l ++ abbreviations_of rest) a ∙ r.1,
+      ap (λ (l : List (List ℕ × NamedSort)). l ++ abbreviations_of rest) a ∙ r.1,
     )
     either false e a r = r
 

@@ -5,6 +5,7 @@ use Rattle.std.specs.Prelude.{option_and_then, Result, Err, ok_or, bytes_eq, cod
 use Rattle.smt_trees.specs.Sexp.{Sexp, Sexps, Atom, Reserved, Items, Nil, Cons, Symbol, is_symbol}
 use Rattle.smt_trees.specs.declared.reserved.Word.{Word}
 use Rattle.smt_trees.specs.declared.reserved.Word.TheVariants as words
+use Rattle.smt_theory.specs.Theories.{theories_named}
 use Rattle.smt_theory.specs.declared.profile.Profile.{Profile}
 use Rattle.smt_theory.specs.declared.profile.Profile.TheVariants.{Base, Wide}
 use Rattle.smt_script.specs.declared.command.Kind.{Kind}
@@ -155,10 +156,14 @@ command_of profile _ = Err Form
 
 -- ---- what commands are
 
+-- whether the profile Wide has a logic of this name
+unfoldable pub is_known_logic : List ℕ → Bool
+is_known_logic name = is_some (theories_named Wide name)
+
 -- the kind of a command: all that is asked of commands but for what they do to the stack is asked of their
 -- kinds
 abbrev pub kind_of : Command → Kind
-kind_of (SetLogic name) = kinds.Logic
+kind_of (SetLogic name) = kinds.Logic (is_known_logic name)
 kind_of (SetPrintSuccess on) = kinds.PrintSuccess on
 kind_of (SetGlobalDeclarations on) = kinds.Setting
 kind_of (SetOption keyword value) = kinds.Setting
@@ -189,7 +194,7 @@ abbrev pub is_check : Command → Bool
 is_check command = asks_check (kind_of command)
 
 abbrev pub changes_force : Kind → Bool
-changes_force kinds.Logic = true
+changes_force (kinds.Logic known) = true
 changes_force kinds.Change = true
 changes_force kinds.Reset = true
 changes_force (kinds.PrintSuccess on) = false

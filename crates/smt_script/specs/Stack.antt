@@ -11,6 +11,7 @@ use Rattle.std.specs.Option.{option_or}
 use Rattle.smt_trees.specs.Sexp.{Sexp, Sexps, Nil, Cons}
 use Rattle.smt_theory.specs.Sort.{is_same_sort}
 use Rattle.smt_theory.specs.declared.sort.Sort.TheVariants.{Bool as Boolean}
+use Rattle.smt_terms.specs.declared.named_sort.NamedSort.{NamedSort}
 use Rattle.smt_terms.specs.Checking.{sort_in}
 use Rattle.smt_theory.specs.Theories.{all_theories, theories_named}
 use Rattle.smt_theory.specs.declared.profile.Profile.{Profile}
@@ -153,7 +154,7 @@ pub record Brought : Type 0 where
   pub global : Bool
   pub removes : Removes
   pub entries : List Entry
-  pub abbreviations : List (List ℕ × Sort)
+  pub abbreviations : List (List ℕ × NamedSort)
   pub assertions : List Assertion
 
 -- whether what came at a level stands after a later command, which left so many levels: that did not remove
@@ -183,7 +184,7 @@ in_force stands (b ∷ later) = (if stands b later then b ∷ [] else []) ++ in_
 abbrev pub entries_of : List Brought → List Entry
 entries_of brought = flat_map (λ b. b.entries) brought
 
-abbrev pub abbreviations_of : List Brought → List (List ℕ × Sort)
+abbrev pub abbreviations_of : List Brought → List (List ℕ × NamedSort)
 abbreviations_of brought = flat_map (λ b. b.abbreviations) brought
 
 abbrev pub assertions_of : List Brought → List Assertion
@@ -209,7 +210,7 @@ abbrev pub all_or_none : {A : Type 0} → Result (List A) TermFlaw → List A
 all_or_none (Ok xs) = xs
 all_or_none (Err fault) = []
 
-abbrev pub named : List ℕ → List Sort → List (List ℕ × Sort)
+abbrev pub named : List ℕ → List NamedSort → List (List ℕ × NamedSort)
 named x [] = []
 named x (sort ∷ sorts) = (x, sort) ∷ named x sorts
 
@@ -237,7 +238,7 @@ abbrev pub entries_by : Signature → ℕ → Command → List Entry
 entries_by s n command = entries_of_effect s n (effect_of command)
 
 -- the sorts that an item of command n declares, and what it abbreviates
-abbrev pub abbreviations_of_addition : Signature → ℕ → Addition → List (List ℕ × Sort)
+abbrev pub abbreviations_of_addition : Signature → ℕ → Addition → List (List ℕ × NamedSort)
 abbreviations_of_addition s n (items.Declaration x parameters sort) = []
 abbreviations_of_addition s n (items.Definition x parameters sort body) = []
 abbreviations_of_addition s n (items.SortDeclaration x) =
@@ -246,7 +247,7 @@ abbreviations_of_addition s n (items.Abbreviation x sort) =
     named x (one_or_none (abbreviated_in (sort_names_of s) x sort))
 abbreviations_of_addition s n (items.Assertion term) = []
 
-abbrev pub abbreviations_of_effect : Signature → ℕ → Effect → List (List ℕ × Sort)
+abbrev pub abbreviations_of_effect : Signature → ℕ → Effect → List (List ℕ × NamedSort)
 abbreviations_of_effect s n (SetsLogic name) = []
 abbreviations_of_effect s n (Brings item) = abbreviations_of_addition s n item
 abbreviations_of_effect s n (Pushes levels) = []
@@ -256,7 +257,7 @@ abbreviations_of_effect s n (SetsGlobal on) = []
 abbreviations_of_effect s n (Assumes literals) = []
 
 -- the declared sorts and the abbreviations that command n brings
-abbrev pub abbreviations_by : Signature → ℕ → Command → List (List ℕ × Sort)
+abbrev pub abbreviations_by : Signature → ℕ → Command → List (List ℕ × NamedSort)
 abbreviations_by s n command = abbreviations_of_effect s n (effect_of command)
 
 abbrev pub assertions_of_addition : ℕ → Addition → List Assertion
@@ -389,7 +390,7 @@ pub record NamesStand (commands earlier : List Numbered) (c : Numbered) : Type 0
   pub left : LeaveNames (global_in_force earlier) (earlier ++ c ∷ []) later
 
 abbrev pub is_set_by : Bool → Kind → Bool
-is_set_by set kinds.Logic = true
+is_set_by set (kinds.Logic known) = true
 is_set_by set kinds.Reset = false
 is_set_by set _ = set
 
@@ -404,7 +405,7 @@ is_logic_set commands = fold (λ set c. is_set_after set c.command) false comman
 abbrev pub fixes_logic : Kind → Bool
 fixes_logic kinds.Change = true
 fixes_logic kinds.Check = true
-fixes_logic kinds.Logic = false
+fixes_logic (kinds.Logic known) = false
 fixes_logic kinds.Reset = false
 fixes_logic (kinds.PrintSuccess on) = false
 fixes_logic kinds.Setting = false

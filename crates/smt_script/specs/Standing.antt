@@ -3,7 +3,7 @@ use Rattle.std.specs.Prelude.{◌≡◌, ◌⊎◌, ℕ, ◌+◌, List, [], ◌�
 use Rattle.std.specs.List.{list_any}
 use Rattle.smt_theory.specs.Theories.{theories_named}
 use Rattle.smt_theory.specs.declared.profile.Profile.{Profile}
-use Rattle.smt_theory.specs.declared.sort.Sort.{Sort}
+use Rattle.smt_terms.specs.declared.named_sort.NamedSort.{NamedSort}
 use Rattle.smt_terms.specs.Signature.{Entry}
 use Rattle.smt_script.specs.Command.{Command, Effect, SetsLogic, SetsGlobal, Pushes, Pops, effect_of, kind_of}
 use Rattle.smt_script.specs.declared.command.Kind.{Kind}
@@ -23,7 +23,7 @@ Brings A = List Numbered → Numbered → List A
 abbrev pub names_of_command : Profile → Brings Entry
 names_of_command profile earlier c = entries_by (signature_in_force profile earlier) c.number c.command
 
-abbrev pub abbreviations_of_command : Profile → Brings (List ℕ × Sort)
+abbrev pub abbreviations_of_command : Profile → Brings (List ℕ × NamedSort)
 abbreviations_of_command profile earlier c = abbreviations_by (signature_in_force profile earlier) c.number c.command
 
 abbrev pub assertions_of_command : Brings Assertion
@@ -85,7 +85,7 @@ abbrev pub is_whole_reset : Command → Bool
 is_whole_reset command = is_reset_kind (kind_of command)
 
 abbrev pub is_logic_kind : Kind → Bool
-is_logic_kind kinds.Logic = true
+is_logic_kind (kinds.Logic known) = true
 is_logic_kind _ = false
 
 abbrev pub sets_logic : Command → Bool

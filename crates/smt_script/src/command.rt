@@ -4,6 +4,7 @@ ghost use Rattle.std.specs.Prelude.{◌≡◌};
 ghost use Rattle.smt_script.specs.Command as commands;
 ghost use Rattle.smt_script.specs.CommandView.{command_view};
 
+use smt_theory::{Profile, theories_of};
 use smt_trees::{Tree, Trees};
 
 /// A command, which borrows its parts (SMT-LIB 2.6, section 4.2). Names are without bars, and keywords without
@@ -114,7 +115,9 @@ impl Command<'_> {
         ensures { result ≡ commands.kind_of (command_view self.now) }
     {
         match self {
-            Command::SetLogic { .. } => Kind::Logic,
+            Command::SetLogic { name } => Kind::Logic {
+                is_known: is_known_logic(name),
+            },
             Command::SetPrintSuccess { on } => Kind::PrintSuccess { on: *on },
             Command::SetGlobalDeclarations { .. } => Kind::Setting,
             Command::SetOption { .. } | Command::SetInfo { .. } => Kind::Setting,
@@ -133,12 +136,19 @@ impl Command<'_> {
     }
 }
 
+// Whether the wide profile has a logic of this name.
+fn is_known_logic(name: &[u8]) -> bool
+    ensures { result ≡ commands.is_known_logic name.now }
+{
+    theories_of(Profile::Wide, name).is_some()
+}
+
 /// The kind of a command. It settles all that is asked of a command, except for what the command does to the
 /// stack.
 #[derive(Clone, Copy)]
 pub enum Kind {
-    /// It sets the logic.
-    Logic,
+    /// It sets the logic. `is_known` says whether the wide profile has a logic of the name.
+    Logic { is_known: bool },
     /// It sets whether `success` is printed.
     PrintSuccess { on: bool },
     /// It sets another option, or information.

@@ -7,15 +7,15 @@ ghost use Rattle.std.specs.List.{list_any};
 ghost use Rattle.smt_trees.specs.Sexp.{Sexp, Sexps, Nil};
 ghost use Rattle.smt_theory.specs.Theories.{all_theories, theories_named};
 ghost use Rattle.smt_theory.specs.declared.profile.Profile.{Profile};
-ghost use Rattle.smt_theory.specs.declared.sort.Sort.{Sort};
 ghost use Rattle.smt_theory.specs.declared.theories.Theories.{Theories};
+ghost use Rattle.smt_terms.specs.declared.named_sort.NamedSort.{NamedSort};
 ghost use Rattle.smt_terms.specs.Assertions.{asserted_in};
 ghost use Rattle.smt_terms.specs.Definitions.{defined_in};
-ghost use Rattle.smt_terms.specs.Declarations.{abbreviated_in, declared_in};
+ghost use Rattle.smt_terms.specs.Declarations.{abbreviated_in, declared_in, sort_declared_in};
 ghost use Rattle.smt_terms.specs.Signature.{Entry, names_of, sort_names_of};
 ghost use Rattle.smt_terms.specs.WellSorted.{AreIntroduced};
 ghost use Rattle.smt_script.specs.Command.{Command, SetGlobalDeclarations, SetLogic, SetPrintSuccess};
-ghost use Rattle.smt_script.specs.Command.{DeclareConst, DeclareFun};
+ghost use Rattle.smt_script.specs.Command.{DeclareConst, DeclareFun, DeclareSort};
 ghost use Rattle.smt_script.specs.Command.{DefineFun, DefineSort, Assert, Push, Pop, Exit};
 ghost use Rattle.smt_script.specs.Stack.{Assertion, HaveNoFlaw, NamesStand, Numbered, Stands};
 ghost use Rattle.smt_script.specs.Stack.{global_in_force};
@@ -42,8 +42,8 @@ pub fn names_in_force_are_introduced()
     labels_are_introduced();
 }
 
-/// A declaration or a definition introduces its one name, an assertion its labels, and `define-sort` its one
-/// abbreviation (SMT-LIB 2.6, sections 4.2.3 and 4.2.4).
+/// A declaration or a definition introduces its one name, an assertion its labels, and `define-sort` and `declare-sort`
+/// their one name of a sort (SMT-LIB 2.6, sections 4.2.3 and 4.2.4).
 pub fn commands_bring_names()
     ensures constants { (profile : Profile) (earlier : List Numbered) (n : ℕ) (x : List ℕ) (sort : Sexp)
         → (e : Entry)
@@ -61,9 +61,12 @@ pub fn commands_bring_names()
         → asserted_in (names_of (signature_in_force profile earlier)) term ≡ Ok es
         → names_of_command profile earlier (numbered n (Assert term)) ≡ es }
     ensures abbreviations { (profile : Profile) (earlier : List Numbered) (n : ℕ) (x : List ℕ) (tree : Sexp)
-        → (sort : Sort)
-        → abbreviated_in (sort_names_of (signature_in_force profile earlier)) x tree ≡ Ok sort
-        → abbreviations_of_command profile earlier (numbered n (DefineSort x tree)) ≡ (x, sort) ∷ [] }
+        → (named : NamedSort)
+        → abbreviated_in (sort_names_of (signature_in_force profile earlier)) x tree ≡ Ok named
+        → abbreviations_of_command profile earlier (numbered n (DefineSort x tree)) ≡ (x, named) ∷ [] }
+    ensures sorts { (profile : Profile) (earlier : List Numbered) (n : ℕ) (x : List ℕ) (named : NamedSort)
+        → sort_declared_in (sort_names_of (signature_in_force profile earlier)) n x ≡ Ok named
+        → abbreviations_of_command profile earlier (numbered n (DeclareSort x)) ≡ (x, named) ∷ [] }
 {}
 
 /// The names in force are, in order, those of the commands that no `reset` followed and, where declarations
@@ -85,7 +88,7 @@ pub fn abbreviations_in_force_stand()
     ensures stands { (profile : Profile) (commands earlier : List Numbered) (c : Numbered)
         → NamesStand commands earlier c
         → AreAmong (abbreviations_of_command profile earlier c) (signature_in_force profile commands).abbreviations }
-    ensures found { (profile : Profile) (commands : List Numbered) (a : List ℕ × Sort)
+    ensures found { (profile : Profile) (commands : List Numbered) (a : List ℕ × NamedSort)
         → IsAmong a (signature_in_force profile commands).abbreviations
         → IsBrought NamesStand (abbreviations_of_command profile) commands a }
     ensures ordered { (profile : Profile) (commands : List Numbered)

@@ -185,8 +185,9 @@ impl Stack {
     ///   `Term` with the fault of the tree of the result's sort. Then `Term` with the first fault of the
     ///   body, which sees the parameters and not the name, and with `IllSorted` for a body of another sort
     ///   (section 4.2.3).
-    /// - `DefineSort`: `Term` with `NotFresh` for `Bool`, `Int` and a name that abbreviates a sort, and then
-    ///   with the fault of a tree that names no sort (section 4.2.3).
+    /// - `DefineSort`: `Term` with `NotFresh` for a name that stands for a sort, `Bool` and `Int`, in the wide
+    ///   profile also `Real` and `Array`, and then with the fault of a tree that names no sort (section
+    ///   4.2.3). `DeclareSort`: the same for its name.
     /// - `Assert`: `Term` with the first fault of its term, that of a label among them. Then `Term` with
     ///   `IllSorted` for a term that is no formula (sections 3.6.5 and 4.2.4).
     /// - `CheckSatAssuming`: `Term` with the fault of the first literal that has one, and with `IllSorted`

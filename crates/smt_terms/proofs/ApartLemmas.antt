@@ -4,8 +4,7 @@ use Rattle.std.proofs.Common.{Some, None, refl, ap, sym, ◌∙◌}
 use Rattle.std.specs.Prelude.{bytes_eq}
 use Rattle.smt_theory.specs.Words.{look_up}
 use Rattle.smt_terms.specs.Denotes.{AreApart, Head}
-use Rattle.smt_terms.specs.Elements.{element_among}
-use Rattle.smt_terms.specs.SortTrees.{SortNames}
+use Rattle.smt_terms.specs.Elements.{ElementNames, element_among}
 use Rattle.smt_terms.proofs.NameLemmas.{none_step, same_name}
 
 -- what is found is not missed
@@ -35,13 +34,13 @@ look_up-taken (suc n) (p ∷ xs) x a h = by (bytes_eq x p.0) h (look_up-taken n 
     by false h next = next h
 
 -- where no name comes, none is an element's
-pub apart_same : (elements : Option SortNames) (heads more : List (List ℕ × Head)) → more ≡ heads
+pub apart_same : (elements : Option ElementNames) (heads more : List (List ℕ × Head)) → more ≡ heads
     → AreApart elements heads more
 apart_same elements heads more same x head none some =
     missed (look_up heads x) head none (ap (λ hs. look_up hs x) (sym same) ∙ some)
 
 -- where one comes, it is that one
-pub apart_one : (elements : Option SortNames) (heads more : List (List ℕ × Head)) (name : List ℕ) (new : Head)
+pub apart_one : (elements : Option ElementNames) (heads more : List (List ℕ × Head)) (name : List ℕ) (new : Head)
     → more ≡ heads ++ (name, new) ∷ [] → element_among elements name ≡ None → AreApart elements heads more
 apart_one elements heads more name new is free x head none some =
     by (bytes_eq x name) refl
@@ -52,7 +51,7 @@ apart_one elements heads more name new is free x head none some =
     by false same g = cc
 
 -- names that come one after another
-pub apart_on : (elements : Option SortNames) (heads more most : List (List ℕ × Head))
+pub apart_on : (elements : Option ElementNames) (heads more most : List (List ℕ × Head))
     → AreApart elements heads more → AreApart elements more most → AreApart elements heads most
 apart_on elements heads more most first second x head none some = by (look_up more x) refl
   where
@@ -78,6 +77,6 @@ first_apart {G} more x head (suc n) (p ∷ heads) is none some =
     by true is none some rest = cc
     by false is none some rest = rest is none some
 
-pub apart_first : (elements : Option SortNames) (n : ℕ) (heads more : List (List ℕ × Head))
+pub apart_first : (elements : Option ElementNames) (n : ℕ) (heads more : List (List ℕ × Head))
     → AreApart elements heads (heads ++ more) → AreApart elements (take n heads) (take n (heads ++ more))
 apart_first elements n heads more apart x head none some = first_apart more x head n heads (apart x head) none some

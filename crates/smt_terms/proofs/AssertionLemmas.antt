@@ -21,7 +21,6 @@ use Rattle.smt_terms.specs.Internal.LabelsView.{AreNew, AreSorted, label_entry}
 use Rattle.smt_terms.specs.Internal.TableView.{AreNamed, names_of_definitions, table_with}
 use Rattle.smt_terms.specs.Internal.LibraryView.{elements_of_library, names_for, names_of_library}
 use Rattle.smt_terms.specs.Internal.LibraryView.{ranks_of_library}
-use Rattle.smt_terms.specs.Elements.{element_among}
 use Rattle.smt_terms.specs.Freshness.{is_element}
 use Rattle.smt_terms.specs.Labels as spec
 use Rattle.smt_forms.specs.Labels.{labels_in}
@@ -34,6 +33,7 @@ use Rattle.smt_faults.specs.declared.term_flaw.TermFlaw.TheVariants.{IllSorted}
 use Rattle.smt_terms.specs.declared.labels.Label.{Label}
 use Rattle.smt_terms.specs.declared.library.Library.{Library}
 use Rattle.smt_terms.specs.declared.library.marks.Mark.{Mark}
+use Rattle.smt_terms.proofs.ElementLemmas.{no_element}
 use Rattle.smt_terms.proofs.ClosedLemmas.{neither}
 use Rattle.smt_terms.proofs.ContentsLemmas.{extends_itself, extends_on, mark_kept}
 use Rattle.smt_terms.proofs.IntroducedLemmas.{AreFit, IsGivenList, IsGivenList-behind, any-split, fit}
@@ -86,7 +86,7 @@ fit_are_new names ranks (k ∷ ks) is leaves fits =
     (neither (is_element names k.name.items || is_some (look_up names.ranks k.name.items))
     (is_plain_operator names.theories k.name.items) fits.0.free).0 in (
       leaves k.name.items (none_of (look_up names.ranks k.name.items) n.1) fits.0.new,
-      none_of (element_among names.elements k.name.items) n.0,
+      no_element names.elements k.name.items n.0,
       fit_are_new (behind ((k.name.items, sexp_of k.body) ∷ []) names)
           (ranks ++ (k.name.items, rank_of_entry (label_entry k)) ∷ []) ks
           (IsGivenList-behind (k.name.items ∷ []) names.labels is)

@@ -1,18 +1,19 @@
 -- The contents of libraries, cut and grown.
 use Rattle.std.proofs.Common.{◌≡◌, ◌≤◌, ℕ, zero, suc, ◌+◌, List, [], ◌∷◌, ◌++◌, length, map, take}
 use Rattle.std.proofs.Common.{refl, ap, sym, ◌∙◌, arith, append_assoc, Result, Ok, Err, OnOk, OnErr, subst}
-use Rattle.std.proofs.Common.{Bor, Option, option_map}
+use Rattle.std.proofs.Common.{Option, option_map}
 use Rattle.std.specs.Global.{Vec}
 use Rattle.std.proofs.lemmas.List.{append-nil, length-append, length-take-le, map-append, take-append-le, take-map}
 use Rattle.smt_trees.specs.Sexp.{Sexp}
-use Rattle.smt_theory.specs.declared.sort.Sort.{Sort}
 use Rattle.smt_nodes.specs.Node.{Row}
 use Rattle.smt_nodes.specs.Nodes.{rows_of}
+use Rattle.smt_terms.specs.declared.library.element_names.ElementNames.{ElementNames}
+use Rattle.smt_terms.specs.declared.named_sort.NamedSort.{NamedSort}
 use Rattle.smt_terms.specs.Contents.{Contents, Extends, IsBelow, IsWithin, contents_of, declaration_view}
 use Rattle.smt_terms.specs.Contents.{first_of, terms_in}
 use Rattle.smt_terms.specs.Denotes.{AreApart, IsLonger}
 use Rattle.smt_terms.specs.Internal.Growing.{KeepsNames}
-use Rattle.smt_terms.specs.Internal.LibraryView.{abbreviations_of, sort_names}
+use Rattle.smt_terms.specs.Internal.LibraryView.{element_names, abbreviations_of}
 use Rattle.smt_terms.specs.Internal.TableView.{names_of_definitions}
 use Rattle.smt_terms.specs.Library.{IsTermOf}
 use Rattle.smt_terms.specs.declared.library.Declared.{Declared}
@@ -235,9 +236,8 @@ more_rows (Ok a) old new h i = h
 more_rows (Err e) old new h i = nothing_more old new i
 
 -- the same elements
-pub same_elements : {o p : Option (Bor SortNames)} → p ≡ o
-    → option_map (λ (z : Bor SortNames). sort_names z.now) p ≡ option_map (λ (z : Bor SortNames). sort_names z.now) o
-same_elements same = ap (option_map (λ (z : Bor SortNames). sort_names z.now)) same
+pub same_elements : {o p : Option ElementNames} → p ≡ o → option_map element_names p ≡ option_map element_names o
+same_elements same = ap (option_map element_names) same
 
 -- a library that differs in nodes alone
 pub keeps_names : (old new : Library) → new.names ≡ old.names → new.sorts ≡ old.sorts
@@ -256,8 +256,8 @@ keeps_names old new names sorts elements declared definitions bodies rows = reco
 }
 
 -- there is perhaps one abbreviation more
-pub more_abbreviations : {A E : Type 0} (P : Sort → Type 0) (r : Result A E) (old new : List (List ℕ × Sort))
-    (x : List ℕ) → OnOk r ((sort : Sort) × P sort × (new ≡ old ++ (x, sort) ∷ [])) → OnErr r (new ≡ old)
+pub more_abbreviations : {A E : Type 0} (P : NamedSort → Type 0) (r : Result A E)
+    (old new : List (List ℕ × NamedSort)) (x : List ℕ) → OnOk r ((sort : NamedSort) × P sort × (new ≡ old ++ (x, sort) ∷ [])) → OnErr r (new ≡ old)
     → Goes old new
 more_abbreviations P (Ok a) old new x h i = ((x, h.0) ∷ [], h.2)
 more_abbreviations P (Err e) old new x h i = nothing_more old new i

@@ -10,6 +10,7 @@ use Rattle.smt_theory.specs.Sort.{is_same_sort}
 use Rattle.smt_theory.specs.Words.{look_up, result_and_then}
 use Rattle.smt_theory.specs.declared.sort.Sort.{Sort}
 use Rattle.smt_theory.specs.declared.theories.Theories.{Theories}
+use Rattle.smt_terms.specs.Elements.{ElementNames}
 use Rattle.smt_terms.specs.Checking.{sort_in}
 use Rattle.smt_terms.specs.Definitions.{defined_in, definition, definition_in, parameters_named}
 use Rattle.smt_terms.specs.Labels.{Refused}
@@ -81,13 +82,13 @@ zip-parts (p ∷ ps) = ap (λ (qs : Params). p ∷ qs) (zip-parts ps)
 -- ## Definitions
 
 -- the names that these entries give, where no label may stand
-abbrev pub refused_over : Theories → Option SortNames → List Entry → Names
+abbrev pub refused_over : Theories → Option ElementNames → List Entry → Names
 refused_over theories elements earlier =
     record { theories = theories; elements = elements; ranks = ranks_of earlier; labels = Refused }
 
 -- what a definition brings, and that it is well sorted over the earlier names
 pub well_sorted : AreCompared
-    → (theories : Theories) (elements : Option SortNames) (earlier : List Entry) (x : List ℕ) (ps : Params) (sort : Sort)
+    → (theories : Theories) (elements : Option ElementNames) (earlier : List Entry) (x : List ℕ) (ps : Params) (sort : Sort)
     (body : Sexp) (e : Entry) → AreDifferent (map (λ p. p.0) ps)
     → definition_in (refused_over theories elements earlier) x ps sort body ≡ Ok e
     → (definition x ps sort body ≡ e) × IsWellSorted theories elements earlier e

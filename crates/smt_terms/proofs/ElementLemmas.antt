@@ -1,5 +1,5 @@
 -- Symbols alone: names in force, operators and elements.
-use Rattle.std.proofs.Common.{◌≡◌, ℕ, true, false, List, [], Option, Some, None, is_some, ok_or, option_map}
+use Rattle.std.proofs.Common.{◌≡◌, ℕ, Bool, true, false, ◌||◌, List, [], Option, Some, None, is_some, ok_or, option_map}
 use Rattle.std.proofs.Common.{Result, Ok, Err, refl, ap, sym, ◌∙◌}
 use Rattle.smt_trees.specs.Sexp.{Sexps, Atom, Cons, Symbol}
 use Rattle.smt_theory.specs.Operators.{is_plain_operator, op_by, plain_op}
@@ -9,18 +9,17 @@ use Rattle.smt_theory.specs.declared.op.OpFault.{OpFault}
 use Rattle.smt_theory.specs.declared.op.OpFault.TheVariants as ops
 use Rattle.smt_theory.specs.declared.sort.Sort.{Sort}
 use Rattle.smt_faults.specs.declared.term_flaw.TermFlaw.TheVariants.{Unsupported}
-use Rattle.smt_forms.specs.ElementNames.{qualified_symbol}
+use Rattle.smt_forms.specs.ElementNames.{begins_at, qualified_symbol}
 use Rattle.smt_forms.specs.Identifier.{Plain}
 use Rattle.smt_names.specs.Entries.{entries_of}
 use Rattle.smt_nodes.specs.Node as node
 use Rattle.smt_nodes.specs.Node.{Node}
 use Rattle.smt_terms.specs.Checking.{sort_alone, sort_of_operator, sort_of_plain, sort_unless_element}
 use Rattle.smt_terms.specs.Denotes.{Head, Table, applied_node, element_node, node_alone, node_of}
-use Rattle.smt_terms.specs.Elements.{element_among, qualified_sort}
+use Rattle.smt_terms.specs.Elements.{ElementNames, element_among, element_in, names_element, qualified_sort}
 use Rattle.smt_terms.specs.Internal.LibraryView.{elements_of_library, names_of_library, rank_of}
 use Rattle.smt_terms.specs.Internal.TableView.{head_of, table_of}
 use Rattle.smt_terms.specs.Signature.{Names, Rank}
-use Rattle.smt_terms.specs.SortTrees.{SortNames}
 use Rattle.smt_terms.specs.declared.library.Library.{Library}
 use Rattle.smt_terms.proofs.LibraryLemmas.{absent_itself, found}
 
@@ -99,8 +98,19 @@ alone_applied t x n = by (op_by t.theories x []) (look_up t.heads x)
 -- ## Elements with their sorts
 
 -- what does not begin with a symbol names none
-pub no_symbol : (elements : Option SortNames) (parts : Sexps) → None ≡ qualified_symbol parts
-    → qualified_sort elements parts ≡ Err Unsupported
-no_symbol None parts h = refl
-no_symbol (Some sorts) (Cons (Atom Symbol x) rest) h = cc
-no_symbol (Some sorts) _ h = refl
+pub no_symbol : (elements : Option ElementNames) (ranks : List (List ℕ × Rank)) (parts : Sexps)
+    → None ≡ qualified_symbol parts → qualified_sort elements ranks parts ≡ Err Unsupported
+no_symbol None ranks parts h = refl
+no_symbol (Some elements) ranks (Cons (Atom Symbol x) rest) h = cc
+no_symbol (Some elements) ranks _ h = refl
+
+-- a symbol that names no element at all is none alone
+pub no_element : (elements : Option ElementNames) (x : List ℕ) → names_element elements x ≡ false
+    → element_among elements x ≡ None
+no_element None x h = refl
+no_element (Some elements) x h = by (begins_at x) (element_in elements x) h
+  where
+    by : (b : Bool) (o : Option Sort) → (b || is_some o) ≡ false → o ≡ None
+    by true o g = cc
+    by false None g = refl
+    by false (Some sort) g = cc

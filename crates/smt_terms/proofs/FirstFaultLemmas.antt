@@ -18,7 +18,7 @@ use Rattle.smt_forms.specs.Variables.{is_among, uses_variable}
 use Rattle.smt_terms.specs.Checking.{bound_in, flaw_of_label, flaw_of_labels, sort_applied, sort_in, sort_of_call}
 use Rattle.smt_terms.specs.Checking.{sort_of_operator, sort_of_plain, sort_unless_variable, sorts_in, unless}
 use Rattle.smt_terms.specs.Definitions.{definition_in, parameters_named}
-use Rattle.smt_terms.specs.Freshness.{is_element_in, is_taken, name_flaw}
+use Rattle.smt_terms.specs.Freshness.{is_element_name, is_taken, name_flaw}
 use Rattle.smt_terms.specs.Items.{defined_as, form_in, has_rank_of, is_set_aside, item_by, items_before}
 use Rattle.smt_terms.specs.Items.{repeated_in}
 use Rattle.smt_terms.specs.Labels.{Given, Labels, Refused, with_labels}
@@ -243,12 +243,12 @@ flaw_by before element declared taken =
     if before then Some BoundTwice else if element || (not declared && taken) then Some NotFresh else None
 
 of_flaw : (script : Signature) (earlier : List Entry) (x : List ℕ) (before element declared : Bool)
-    → is_some (entry_named earlier x) ≡ before → is_element_in script x ≡ element
+    → is_some (entry_named earlier x) ≡ before → is_element_name script x ≡ element
     → is_some (declared_named script.entries x) ≡ declared
     → name_flaw script earlier x ≡ flaw_by before element declared (is_taken (names_of script) x)
 of_flaw script earlier x before element declared h k g =
     let taken = is_taken (names_of script) x in
-    ap (λ b. flaw_by b (is_element_in script x) (is_some (declared_named script.entries x)) taken) h
+    ap (λ b. flaw_by b (is_element_name script x) (is_some (declared_named script.entries x)) taken) h
     ∙ ap (λ b. flaw_by before b (is_some (declared_named script.entries x)) taken) k
     ∙ ap (λ b. flaw_by before element b taken) g
 
@@ -260,7 +260,7 @@ item_twice script earlier form here before =
 
 pub item_element : (script : Signature) (earlier : List Entry) (form : ItemForm)
     → is_set_aside script form.name ≡ false → entry_named earlier form.name ≡ None
-    → is_element_in script form.name ≡ true → item_by script earlier form ≡ Err NotFresh
+    → is_element_name script form.name ≡ true → item_by script earlier form ≡ Err NotFresh
 item_element script earlier form here new is =
     of_name script earlier form (Some NotFresh) here
     (of_flaw script earlier form.name false true _ (ap is_some new) is refl)
@@ -272,7 +272,7 @@ pub item_taken : (script : Signature) (earlier : List Entry) (form : ItemForm)
 item_taken script earlier form here new none taken =
     of_name script earlier form (Some NotFresh) here
     (of_flaw script earlier form.name false _ false (ap is_some new) refl (ap is_some none)
-    ∙ ap (flaw_by false (is_element_in script form.name) false) taken ∙ either (is_element_in script form.name))
+    ∙ ap (flaw_by false (is_element_name script form.name) false) taken ∙ either (is_element_name script form.name))
   where
     either : (b : Bool) → flaw_by false b false true ≡ Some NotFresh
     either true = refl
@@ -281,7 +281,7 @@ item_taken script earlier form here new none taken =
 -- an item of a declared name, by its parameters
 of_parameters : (script : Signature) (earlier : List Entry) (form : ItemForm) (e : Entry)
     (r : Result Scope TermFlaw) → is_set_aside script form.name ≡ false → entry_named earlier form.name ≡ None
-    → is_element_in script form.name ≡ false → declared_named script.entries form.name ≡ Some e
+    → is_element_name script form.name ≡ false → declared_named script.entries form.name ≡ Some e
     → parameters_named (sort_names_of script) [] form.parameters ≡ r
     → item_by script earlier form
     ≡ result_and_then (result_and_then r (λ ps. result_and_then (sort_named (sort_names_of script) form.sort)
@@ -295,13 +295,13 @@ of_parameters script earlier form e r here new apart is h =
 
 pub item_parameters : (script : Signature) (earlier : List Entry) (form : ItemForm) (e : Entry) (flaw : TermFlaw)
     → is_set_aside script form.name ≡ false → entry_named earlier form.name ≡ None
-    → is_element_in script form.name ≡ false → declared_named script.entries form.name ≡ Some e
+    → is_element_name script form.name ≡ false → declared_named script.entries form.name ≡ Some e
     → parameters_named (sort_names_of script) [] form.parameters ≡ Err flaw → item_by script earlier form ≡ Err flaw
 item_parameters script earlier form e flaw = of_parameters script earlier form e (Err flaw)
 
 of_sort : (script : Signature) (earlier : List Entry) (form : ItemForm) (e : Entry) (parameters : Scope)
     (r : Result Sort TermFlaw) → is_set_aside script form.name ≡ false → entry_named earlier form.name ≡ None
-    → is_element_in script form.name ≡ false → declared_named script.entries form.name ≡ Some e
+    → is_element_name script form.name ≡ false → declared_named script.entries form.name ≡ Some e
     → parameters_named (sort_names_of script) [] form.parameters ≡ Ok parameters
     → sort_named (sort_names_of script) form.sort ≡ r
     → item_by script earlier form
@@ -313,14 +313,14 @@ of_sort script earlier form e parameters r here new apart is h g =
 
 pub item_sort : (script : Signature) (earlier : List Entry) (form : ItemForm) (e : Entry) (parameters : Scope)
     (flaw : TermFlaw) → is_set_aside script form.name ≡ false → entry_named earlier form.name ≡ None
-    → is_element_in script form.name ≡ false → declared_named script.entries form.name ≡ Some e
+    → is_element_name script form.name ≡ false → declared_named script.entries form.name ≡ Some e
     → parameters_named (sort_names_of script) [] form.parameters ≡ Ok parameters
     → sort_named (sort_names_of script) form.sort ≡ Err flaw → item_by script earlier form ≡ Err flaw
 item_sort script earlier form e parameters flaw = of_sort script earlier form e parameters (Err flaw)
 
 pub item_rank : (script : Signature) (earlier : List Entry) (form : ItemForm) (e : Entry) (parameters : Scope)
     (sort : Sort) → is_set_aside script form.name ≡ false → entry_named earlier form.name ≡ None
-    → is_element_in script form.name ≡ false → declared_named script.entries form.name ≡ Some e
+    → is_element_name script form.name ≡ false → declared_named script.entries form.name ≡ Some e
     → parameters_named (sort_names_of script) [] form.parameters ≡ Ok parameters
     → sort_named (sort_names_of script) form.sort ≡ Ok sort
     → has_rank_of (Some e) (map (λ p. p.1) parameters) sort ≡ false → item_by script earlier form ≡ Err IllSorted

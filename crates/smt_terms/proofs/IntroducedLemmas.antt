@@ -11,6 +11,7 @@ use Rattle.smt_theory.specs.Words.{look_up, result_and_then}
 use Rattle.smt_theory.specs.declared.sort.Sort.{Sort}
 use Rattle.smt_theory.specs.declared.sort.Sort.TheVariants.{Bool as Boolean}
 use Rattle.smt_theory.specs.declared.theories.Theories.{Theories}
+use Rattle.smt_terms.specs.Elements.{ElementNames}
 use Rattle.smt_terms.specs.Assertions.{asserted_in, label_entries, label_or_none}
 use Rattle.smt_forms.specs.Bindings.{are_attributes, are_bindings}
 use Rattle.smt_terms.specs.Checking.{bound_in, flaw_of_label, flaw_of_labels, sort_in, sort_of_call}
@@ -21,8 +22,7 @@ use Rattle.smt_terms.specs.Labels.{Labels, Refused, Given, Unread, with_labels}
 use Rattle.smt_forms.specs.Variables.{is_among, uses_variable}
 use Rattle.smt_forms.specs.Labels.{labels_among, labels_in, labels_in_all, labels_in_bindings}
 use Rattle.smt_terms.specs.Freshness.{is_element, is_label_taken, is_taken}
-use Rattle.smt_terms.specs.Elements.{element_among}
-use Rattle.smt_terms.specs.SortTrees.{SortNames}
+use Rattle.smt_terms.specs.Elements.{names_element}
 use Rattle.smt_terms.specs.Signature.{Entry, Names, Rank, Signature, behind, entry_named, in_assertion}
 use Rattle.smt_terms.specs.Signature.{names_of, rank_of_entry, ranks_of, unlabelled, unlabelled_over}
 use Rattle.smt_terms.specs.WellSorted.{AreIntroduced, Keeps}
@@ -251,9 +251,9 @@ no_two : (o : Option Rank) (r q : Rank) → o ≡ Some r → o ≡ Some q → r 
 no_two o r q h i = cc
 
 -- one more entry that is no operator's and no element's keeps sorts
-Keeps-entry : (names : Names) (theories : Theories) (elements : Option SortNames) (earlier : List Entry) (e : Entry)
+Keeps-entry : (names : Names) (theories : Theories) (elements : Option ElementNames) (earlier : List Entry) (e : Entry)
     → names.theories ≡ theories → is_plain_operator theories e.name ≡ false
-    → element_among names.elements e.name ≡ None → Keeps names (unlabelled_over theories elements earlier)
+    → names_element names.elements e.name ≡ false → Keeps names (unlabelled_over theories elements earlier)
     → Keeps names (unlabelled_over theories elements (earlier ++ e ∷ []))
 Keeps-entry names theories elements earlier e same free apart keeps = record {
   theories = keeps.theories;
@@ -275,10 +275,10 @@ Keeps-entry names theories elements earlier e same free apart keeps = record {
     aside : (x : List ℕ) (rank : Rank) → look_up names.ranks x ≡ None
         → look_up (ranks_of (earlier ++ e ∷ [])) x ≡ Some rank
         → (look_up (ranks_of earlier) x ≡ None) ⊎ ((r : Rank) × (look_up (ranks_of earlier) x ≡ Some r))
-        → element_among names.elements x ≡ None
+        → names_element names.elements x ≡ false
     aside x rank none some (inr p) = keeps.apart x p.0 none p.1
     aside x rank none some (inl new) =
-        ap (λ y. element_among names.elements y) (new-rank earlier e x rank new some) ∙ apart
+        ap (λ y. names_element names.elements y) (new-rank earlier e x rank new some) ∙ apart
 
 -- labels are given
 abbrev pub IsGivenList : Labels → Type 0
@@ -323,7 +323,7 @@ Covers-push names Refused earlier e is covers = absurd is
 Covers-push names Unread earlier e is covers = absurd is
 
 -- labels that fit are introduced
-introduced : (names : Names) (theories : Theories) (elements : Option SortNames) (earlier : List Entry) (ls : Labelled)
+introduced : (names : Names) (theories : Theories) (elements : Option ElementNames) (earlier : List Entry) (ls : Labelled)
     → names.theories ≡ theories → IsGivenList names.labels
     → Keeps (unlabelled names) (unlabelled_over theories elements earlier) → Covers names names.labels earlier
     → AreFit names ls → AreIntroduced theories elements earlier (label_entries names ls)
@@ -339,7 +339,7 @@ introduced names theories elements earlier (l ∷ ls) same is keeps covers fits 
     introduced (behind (l ∷ []) names) theories elements (earlier ++ e ∷ []) ls same
     (IsGivenList-behind (l.0 ∷ []) names.labels is)
     (Keeps-entry (unlabelled names) theories elements earlier e same free
-    (none_of (element_among names.elements l.0) m.0) keeps)
+    m.0 keeps)
     (Covers-push names names.labels earlier e is covers) fits.1 in
     subst (λ r. AreIntroduced theories elements earlier (label_or_none l r ++ label_entries names ls))
     (sym fits.0.sorted.1) (

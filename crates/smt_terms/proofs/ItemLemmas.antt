@@ -14,10 +14,13 @@ use Rattle.smt_theory.specs.declared.theories.Theories.{Theories}
 use Rattle.smt_names.specs.Entries.{entries_of}
 use Rattle.smt_terms.specs.Checking.{unless}
 use Rattle.smt_terms.specs.Definitions.{definition_in, parameters_named}
-use Rattle.smt_terms.specs.Internal.LibraryView.{elements_lent, names_of_library, places_of_library, sort_names}
+use Rattle.smt_forms.specs.Variables.{is_among}
+use Rattle.smt_terms.specs.Elements.{ElementNames, element_among, element_sort}
+use Rattle.smt_terms.specs.Internal.LibraryView.{elements_lent, names_alone, names_of_library, places_of_library}
+use Rattle.smt_terms.specs.Internal.LibraryView.{rank_of, sort_names}
 use Rattle.smt_terms.specs.Internal.TableView.{head_of}
 use Rattle.smt_forms.specs.ItemForm.{ItemForm}
-use Rattle.smt_terms.specs.Freshness.{is_defined_before, is_element, is_element_in, is_taken, is_taken_undeclared}
+use Rattle.smt_terms.specs.Freshness.{is_defined_before, is_element, is_element_name, is_taken, is_taken_undeclared}
 use Rattle.smt_terms.specs.Freshness.{item_elements, name_flaw}
 use Rattle.smt_terms.specs.Items.{defined_as, form_in, has_rank_of, items_before}
 use Rattle.smt_terms.specs.Labels.{Refused}
@@ -57,11 +60,55 @@ pub sorts_as : (library : Library) (s : Signature) → StandsFor library s
 sorts_as library s stands =
     λ i. record { theories = stands.theories i; abbreviations = stands.abbreviations i }
 
--- and those whose elements the items of models may name
+-- the names alone
+first_names : (es : List (List ℕ × Held)) → map (λ (r : List ℕ × Rank). r.0) (map (λ p. (p.0, rank_of p.1)) es)
+    ≡ map (λ p. p.0) es
+first_names [] = refl
+first_names (p ∷ es) = ap (λ (xs : List (List ℕ)). p.0 ∷ xs) (first_names es)
+
+entry_names : (es : List Entry) → map (λ (r : List ℕ × Rank). r.0) (ranks_of es) ≡ map (λ e. e.name) es
+entry_names [] = refl
+entry_names (e ∷ es) = ap (λ (xs : List (List ℕ)). e.name ∷ xs) (entry_names es)
+
+taken_as : (library : Library) (s : Signature) → StandsFor library s
+    → names_alone library.names ≡ map (λ e. e.name) s.entries
+taken_as library s stands =
+    sym (first_names (entries_of library.names))
+    ∙ ap (λ (rs : List (List ℕ × Rank)). map (λ p. p.0) rs) stands.ranks ∙ entry_names s.entries
+
+-- and what the items of models may name elements by
 pub lent_as : (library : Library) (s : Signature) → StandsFor library s → elements_lent library ≡ item_elements s
 lent_as library s stands =
     λ i. cond (stands.theories i).wide
-    (Some (record { theories = stands.theories i; abbreviations = stands.abbreviations i })) None
+    (Some (record {
+      sorts = record { theories = stands.theories i; abbreviations = stands.abbreviations i };
+      taken = taken_as library s stands i;
+    })) None
+
+-- whether a name has the form of an element's
+pub formed_as : (library : Library) (s : Signature) (x : List ℕ) → StandsFor library s
+    → (library.sorts.theories.wide && is_some (element_sort (sort_names library.sorts) x)) ≡ is_element_name s x
+formed_as library s x stands =
+    λ i. (stands.theories i).wide && is_some (element_sort (sorts_as library s stands i) x)
+
+-- a name that has not the form of an element's is none
+pub apart_where_formless : (library : Library) (x : List ℕ) (b : Bool)
+    → b ≡ (library.sorts.theories.wide && is_some (element_sort (sort_names library.sorts) x)) → b ≡ false
+    → element_among (elements_lent library) x ≡ None
+apart_where_formless library x b is none = by library.sorts.theories.wide (sym is ∙ none)
+  where
+    names : ElementNames
+    names = record { sorts = sort_names library.sorts; taken = names_alone library.names }
+
+    inner : (t : Bool) (o : Option Sort) → is_some o ≡ false → cond t None o ≡ None
+    inner true o h = refl
+    inner false None h = refl
+    inner false (Some sort) h = cc
+
+    by : (w : Bool) → (w && is_some (element_sort (sort_names library.sorts) x)) ≡ false
+        → element_among (cond w (Some names) None) x ≡ None
+    by false h = refl
+    by true h = inner (is_among (names_alone library.names) x) (element_sort (sort_names library.sorts) x) h
 
 -- a library for the items of models, where it has no names
 pub for_items : (library new : Library) (s : Signature) → StandsFor library s
@@ -207,10 +254,10 @@ in_force library m x b c stands h i =
 
 -- the fault of a name by two tests
 pub name_flaw_by : (s : Signature) (es : List Entry) (x : List ℕ) (b c : Bool)
-    → is_defined_before es x ≡ b → c ≡ (is_element_in s x || is_taken_undeclared s x)
+    → is_defined_before es x ≡ b → c ≡ (is_element_name s x || is_taken_undeclared s x)
     → name_flaw s es x ≡ cond b (Some BoundTwice) (cond c (Some NotFresh) None)
 name_flaw_by s es x b c h i =
-    ap (λ d. cond d (Some BoundTwice) (cond (is_element_in s x || is_taken_undeclared s x) (Some NotFresh) None))
+    ap (λ d. cond d (Some BoundTwice) (cond (is_element_name s x || is_taken_undeclared s x) (Some NotFresh) None))
     h
     ∙ ap (λ d. cond b (Some BoundTwice) (cond d (Some NotFresh) None)) (sym i)
 
@@ -251,7 +298,7 @@ pub item_is_free : (library script : Library) (s m : Signature) (x : List ℕ) �
 item_is_free library script s m x same stands items none =
     ap (λ ts. is_plain_operator ts x) (sym items.theories ∙ same.theories ∙ stands.theories)
     ∙ item_free s x stands.terms.free
-    (by (is_defined_before m.entries x) (is_element_in s x) (is_taken_undeclared s x) none)
+    (by (is_defined_before m.entries x) (is_element_name s x) (is_taken_undeclared s x) none)
   where
     by : (b c d : Bool) → cond b (Some BoundTwice) (cond (c || d) (Some NotFresh) None) ≡ None → d ≡ false
     by true c d h = cc

@@ -11,7 +11,7 @@ use Rattle.smt_terms.specs.Checking.{unless}
 use Rattle.smt_terms.specs.Definitions.{definition, definition_in, parameters_named}
 use Rattle.smt_forms.specs.ItemForm.{ItemForm}
 use Rattle.smt_terms.specs.Items.{defined_as, form_in, has_rank_of, item_in, items_before}
-use Rattle.smt_terms.specs.Freshness.{is_element_in, is_taken, is_taken_undeclared, item_elements, name_flaw}
+use Rattle.smt_terms.specs.Freshness.{is_element_name, is_taken, is_taken_undeclared, item_elements, name_flaw}
 use Rattle.smt_terms.specs.Signature.{Entry, KeepsRank, Signature, declared_named, entry_named, names_of}
 use Rattle.smt_terms.specs.Signature.{sort_names_of}
 use Rattle.smt_terms.specs.SortTrees.{sort_named}
@@ -31,7 +31,7 @@ pub record IsItem (script : Signature) (earlier : List Entry) (e : Entry) : Type
 -- a name without a fault is new among the items, and fit
 pub no_fault : (script : Signature) (earlier : List Entry) (x : List ℕ) → name_flaw script earlier x ≡ None
     → (entry_named earlier x ≡ None) × (is_taken_undeclared script x ≡ false)
-no_fault script earlier x h = by (entry_named earlier x) (is_element_in script x) (is_taken_undeclared script x) h
+no_fault script earlier x h = by (entry_named earlier x) (is_element_name script x) (is_taken_undeclared script x) h
   where
     by : (o : Option Entry) (b c : Bool)
         → cond (is_some o) (Some BoundTwice) (cond (b || c) (Some NotFresh) None) ≡ None → (o ≡ None) × (c ≡ false)

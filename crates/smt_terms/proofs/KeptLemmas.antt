@@ -1,5 +1,5 @@
 -- A term keeps its sort over more names.
-use Rattle.std.proofs.Common.{◌≡◌, ℕ, ◌*◌, Bool, true, false, cond, List, [], ◌∷◌, ◌++◌, map, length, Option}
+use Rattle.std.proofs.Common.{◌≡◌, ℕ, ◌*◌, Bool, true, false, cond, not, ◌||◌, List, [], ◌∷◌, ◌++◌, map, length, Option}
 use Rattle.std.proofs.Common.{Some, None, is_some, ok_or, Result, Ok, Err, refl, ap, sym, ◌∙◌}
 use Rattle.std.specs.Option.{option_or}
 use Rattle.smt_trees.specs.Sexp as sexp
@@ -14,19 +14,23 @@ use Rattle.smt_theory.specs.declared.op.OpFault.{OpFault}
 use Rattle.smt_theory.specs.declared.op.OpFault.TheVariants as ops
 use Rattle.smt_theory.specs.declared.sort.Sort.{Sort}
 use Rattle.smt_forms.specs.Bindings.{are_attributes, are_bindings}
+use Rattle.smt_forms.specs.ElementNames.{begins_at}
+use Rattle.smt_forms.specs.Variables.{is_among}
 use Rattle.smt_terms.specs.Checking.{bound_in, flaw_of_label, flaw_of_labels, sort_applied, sort_in}
 use Rattle.smt_terms.specs.Checking.{sort_of_call, sort_of_operator, sort_of_plain, sort_of_symbol}
 use Rattle.smt_terms.specs.Checking.{sort_alone, sort_unless_element, sort_unless_variable, sorts_in, unless}
-use Rattle.smt_terms.specs.Elements.{element_among, qualified_sort}
+use Rattle.smt_terms.specs.Elements.{ElementNames, element_among, element_in, if_free, names_element, or_ill_sorted}
+use Rattle.smt_terms.specs.Elements.{qualified_in, qualified_sort}
 use Rattle.smt_forms.specs.Identifier.{Identifier, Plain, Indexed, applied, indexed}
 use Rattle.smt_terms.specs.Labels.{Labels, Unread, with_labels}
 use Rattle.smt_forms.specs.Labels.{labels_among, labels_in, labels_in_bindings}
 use Rattle.smt_terms.specs.Signature.{Names, Rank, behind, unlabelled}
-use Rattle.smt_terms.specs.SortTrees.{SortNames, bit_vectors, integers}
+use Rattle.smt_terms.specs.SortTrees.{bit_vectors, integers, sort_named}
 use Rattle.smt_terms.specs.WellSorted.{Keeps, KeepsElements}
 use Rattle.smt_faults.specs.declared.term_flaw.TermFlaw.{TermFlaw}
-use Rattle.smt_faults.specs.declared.term_flaw.TermFlaw.TheVariants.{BoundTwice, Form}
+use Rattle.smt_faults.specs.declared.term_flaw.TermFlaw.TheVariants.{BoundTwice, Form, NotFresh, Unsupported}
 use Rattle.smt_terms.proofs.CheckerLemmas.{Scope}
+use Rattle.smt_terms.proofs.ElementLemmas.{no_element}
 
 -- ## Answers
 
@@ -84,7 +88,7 @@ kept-applied names more keeps (Indexed f is) args sort h =
     ap (λ theories. sort_of_operator (op_by theories f is) args) keeps.theories ∙ h
 
 -- the sort of an operator stays where elements come, and that of an element where they stay
-pub kept-element : (elements more : Option SortNames) (x : List ℕ) (op : Result Op OpFault) (sort : Sort)
+pub kept-element : (elements more : Option ElementNames) (x : List ℕ) (op : Result Op OpFault) (sort : Sort)
     → KeepsElements elements more → sort_unless_element (element_among elements x) op ≡ Ok sort
     → sort_unless_element (element_among more x) op ≡ Ok sort
 kept-element None more x op sort keeps h = by (element_among more x) op h
@@ -108,13 +112,40 @@ kept-alone names more keeps x sort None None is now h =
     ∙ kept-element names.elements more.elements x (op_by names.theories x []) sort keeps.elements h
 kept-alone names more keeps x sort None (Some rank) is now h =
     absurd (no_operator (plain_op names.theories x) [] sort (keeps.fresh x rank is now)
-    (sym (ap (λ o. sort_unless_element o (op_by names.theories x [])) (keeps.apart x rank is now)) ∙ h))
+    (sym (ap (λ o. sort_unless_element o (op_by names.theories x []))
+    (no_element names.elements x (keeps.apart x rank is now))) ∙ h))
 
--- an element with its sort
-pub kept-qualified : (elements more : Option SortNames) (parts : Sexps) (sort : Sort) → KeepsElements elements more
-    → qualified_sort elements parts ≡ Ok sort → qualified_sort more parts ≡ Ok sort
-kept-qualified None more parts sort keeps h = cc
-kept-qualified (Some sorts) more parts sort keeps h = ap (λ es. qualified_sort es parts) keeps ∙ h
+-- an element with its sort, over more names of which none is an element's
+kept-qualified_in : (elements : ElementNames) (ranks others : List (List ℕ × Rank)) (parts : Sexps) (sort : Sort)
+    → ((x : List ℕ) (rank : Rank) → look_up ranks x ≡ None → look_up others x ≡ Some rank
+    → names_element (Some elements) x ≡ false)
+    → qualified_in elements ranks parts ≡ Ok sort → qualified_in elements others parts ≡ Ok sort
+kept-qualified_in elements ranks others (Cons (Atom Symbol x) (Cons tree Nil)) sort apart h =
+    by (begins_at x) (is_among elements.taken x) (look_up ranks x) (look_up others x) refl refl refl h
+  where
+    rest : Result Sort TermFlaw
+    rest = result_and_then (sort_named elements.sorts tree) (λ s. or_ill_sorted (if_free s))
+
+    by : (b t : Bool) (o p : Option Rank) → begins_at x ≡ b → look_up ranks x ≡ o → look_up others x ≡ p
+        → cond (not b) (Err Unsupported) (cond (t || is_some o) (Err NotFresh) rest) ≡ Ok sort
+        → cond (not b) (Err Unsupported) (cond (t || is_some p) (Err NotFresh) rest) ≡ Ok sort
+    by false t o p at is now g = cc
+    by true true o p at is now g = cc
+    by true false (Some rank) p at is now g = cc
+    by true false None None at is now g = g
+    by true false None (Some rank) at is now g =
+        let both : true ≡ false =
+        sym (ap (λ b. b || is_some (element_in elements x)) at) ∙ apart x rank is now in cc
+kept-qualified_in elements ranks others _ sort apart h = cc
+
+pub kept-qualified : (elements more : Option ElementNames) (ranks others : List (List ℕ × Rank)) (parts : Sexps)
+    (sort : Sort) → KeepsElements elements more
+    → ((x : List ℕ) (rank : Rank) → look_up ranks x ≡ None → look_up others x ≡ Some rank
+    → names_element elements x ≡ false)
+    → qualified_sort elements ranks parts ≡ Ok sort → qualified_sort more others parts ≡ Ok sort
+kept-qualified None more ranks others parts sort keeps apart h = cc
+kept-qualified (Some elements) more ranks others parts sort keeps apart h =
+    ap (λ es. qualified_sort es others parts) keeps ∙ kept-qualified_in elements ranks others parts sort apart h
 
 kept-symbol : (names more : Names) → Keeps names more → (x : List ℕ) (o : Option Sort) (sort : Sort)
     → sort_of_symbol names x o ≡ Ok sort → sort_of_symbol more x o ≡ Ok sort
@@ -194,11 +225,11 @@ Keeps-behind names more ls ks keeps = record {
   apart = keeps.apart;
 }
 
-no_rank : (o : Option Rank) (rank : Rank) → o ≡ None → o ≡ Some rank → ⊥
+pub no_rank : (o : Option Rank) (rank : Rank) → o ≡ None → o ≡ Some rank → ⊥
 no_rank None rank h i = cc
 no_rank (Some r) rank h i = cc
 
-pub elements_stay : (elements : Option SortNames) → KeepsElements elements elements
+pub elements_stay : (elements : Option ElementNames) → KeepsElements elements elements
 elements_stay None = tt
 elements_stay (Some sorts) = refl
 
@@ -232,7 +263,7 @@ mutual
       kept-steps (indexed parts) (indexed parts) (λ f. sort_applied names f [])
       (λ f. sort_applied more f []) sort (λ f is. is) (λ f. kept-applied names more keeps f [] sort) h
   kept-sort names more keeps scope (Items (Cons (Reserved As) parts)) sort h =
-      kept-qualified names.elements more.elements parts sort keeps.elements h
+      kept-qualified names.elements more.elements names.ranks more.ranks parts sort keeps.elements keeps.apart h
   kept-sort names more keeps scope
       (Items (Cons (Reserved Let) (Cons (Items bindings) (Cons body Nil)))) sort h =
       let ls = labels_in_bindings bindings in

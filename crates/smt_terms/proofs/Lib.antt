@@ -39,3 +39,4 @@ pub mod ArgumentLemmas
 pub mod LabelNodeLemmas
 pub mod BinderNodeLemmas
 pub mod FirstFaultLemmas
+pub mod ElementLawLemmas

@@ -1,7 +1,7 @@
 -- What the map of a library says of its names.
 use Rattle.std.proofs.Common.{◌≡◌, ◌≤◌, ◌+◌, ℕ, zero, suc, Bool, true, false, cond, List, [], ◌∷◌, ◌++◌}
 use Rattle.std.proofs.Common.{length, drop, map, slice_get, Option, Some, None, option_map, option_copied}
-use Rattle.std.proofs.Common.{refl, ap, sym, ◌∙◌, arith, add-one, Bor}
+use Rattle.std.proofs.Common.{is_some, refl, ap, ◌∙◌, arith, add-one, Bor}
 use Rattle.std.proofs.lemmas.List.{map-append}
 use Rattle.std.specs.Prelude.{bytes_eq}
 use Rattle.smt_theory.specs.Words.{look_up}
@@ -32,6 +32,11 @@ pub found_by : {V A : Type 0} (view : V → A) (es : Pairs V) (x : List ℕ) (r 
     → option_copied r ≡ look_up es x → option_map (λ e. view e.now) r ≡ look_up (viewed view es) x
 found_by view es x None h = ap (option_map view) h ∙ found view es x
 found_by view es x (Some b) h = ap (option_map view) h ∙ found view es x
+
+-- whether it finds something is whether the name stands for something
+pub some_copied : {V : Type 0} (r : Option (Bor V)) (o : Option V) → option_copied r ≡ o → is_some r ≡ is_some o
+some_copied None o h = ap is_some h
+some_copied (Some b) o h = ap is_some h
 
 -- a name of which nothing is seen stands for nothing
 pub absent_itself : {V A : Type 0} (f : V → A) (es : Pairs V) (x : List ℕ)

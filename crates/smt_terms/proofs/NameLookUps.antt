@@ -13,11 +13,11 @@ is_ok_or None e = refl
 is_ok_or (Some a) e = refl
 
 -- a name that is not taken is no element's, and stands for nothing
-pub free_name : {A B : Type 0} (o : Option A) (p : Option B) (b : Bool) → (is_some o || is_some p) || b ≡ false
-    → (o ≡ None) × (p ≡ None)
-free_name None None b h = (refl, refl)
-free_name None (Some a) b h = cc
-free_name (Some a) p b h = cc
+pub free_name : {B : Type 0} (e : Bool) (p : Option B) (b : Bool) → (e || is_some p) || b ≡ false
+    → (e ≡ false) × (p ≡ None)
+free_name false None b h = (refl, refl)
+free_name false (Some a) b h = cc
+free_name true p b h = cc
 
 -- something is found for the one where it is for the other
 pub same_some : {A B C : Type 0} (f : A → C) (g : B → C) (o : Option A) (r : Option B)

@@ -14,13 +14,14 @@ use Rattle.smt_forms.specs.Bindings.{are_attributes, are_bindings}
 use Rattle.smt_forms.specs.Identifier.{Identifier, Plain, Indexed, applied, indexed}
 use Rattle.smt_forms.specs.ItemForm.{ItemForm}
 use Rattle.smt_forms.specs.Labels.{labels_among, labels_in, labels_in_bindings}
+use Rattle.smt_terms.specs.Elements.{ElementNames}
 use Rattle.smt_terms.specs.Checking.{bound_in, flaw_of_label, flaw_of_labels, sort_alone, sort_applied, sort_in}
 use Rattle.smt_terms.specs.Checking.{sort_of_call, sort_of_symbol, sort_unless_variable, sorts_in, unless}
 use Rattle.smt_terms.specs.Labels.{Labels, Refused, with_labels}
 use Rattle.smt_terms.specs.WellSorted.{KeepsElements}
 use Rattle.smt_theory.specs.Operators.{op_by}
 use Rattle.smt_terms.specs.Definitions.{definition, definition_in, parameters_named}
-use Rattle.smt_terms.specs.Freshness.{is_bound, is_element, is_element_in, is_taken_undeclared, item_elements, name_flaw}
+use Rattle.smt_terms.specs.Freshness.{is_bound, is_element, is_element_name, is_taken_undeclared, item_elements, name_flaw}
 use Rattle.smt_terms.specs.Items.{form_in, has_rank_of, is_defined_in, item_in, items_before}
 use Rattle.smt_terms.specs.Repeated.{widened}
 use Rattle.smt_terms.specs.Signature.{Entry, Names, Rank, Signature, behind, declared_named, entry_named, names_of}
@@ -31,12 +32,12 @@ use Rattle.smt_faults.specs.declared.term_flaw.TermFlaw.TheVariants.{BoundTwice,
 use Rattle.smt_terms.proofs.CheckerLemmas.{Scope}
 use Rattle.smt_terms.proofs.ItemLemmas.{is_named, item_behind}
 use Rattle.smt_terms.proofs.ItemSortLemmas.{no_fault}
-use Rattle.smt_terms.proofs.KeptLemmas.{kept-element, kept-else, kept-qualified, kept-steps, kept-then, unless-none}
+use Rattle.smt_terms.proofs.KeptLemmas.{kept-element, kept-else, kept-qualified, kept-steps, kept-then, no_rank, unless-none}
 use Rattle.smt_terms.proofs.WrittenLemmas.{form_defined}
 use Rattle.smt_terms.proofs.RepeatedLemmas.{item_kept, taken_by}
 
 -- these names in the wide profile, where terms may name these elements
-abbrev wider : Names → Option SortNames → Names
+abbrev wider : Names → Option ElementNames → Names
 wider names elements =
     record names { theories = record names.theories { wide = true }; elements = elements }
 
@@ -51,7 +52,7 @@ same-steps (Err f) s next more e h = ap (λ q. result_and_then q more) e
 -- ## Terms
 
 -- where no label may be given, its fault does not hang on the names
-refused-fault : (names : Names) (elements : Option SortNames) (labels : Labels) (scope : Scope) (term : Sexp)
+refused-fault : (names : Names) (elements : Option ElementNames) (labels : Labels) (scope : Scope) (term : Sexp)
     (x : List ℕ) → labels ≡ Refused
     → flaw_of_label (wider names elements) labels scope term x ≡ flaw_of_label names labels scope term x
 refused-fault names elements labels scope term x refused =
@@ -62,7 +63,7 @@ refused-behind : (ls : List (List ℕ × Sexp)) (labels : Labels) → labels ≡
     → with_labels (map (λ l. l.0) ls) labels ≡ Refused
 refused-behind ls labels refused = ap (λ ks. with_labels (map (λ l. l.0) ls) ks) refused
 
-refused-faults : (names : Names) (elements : Option SortNames) (scope : Scope) (term : Sexp) (xs : List (List ℕ))
+refused-faults : (names : Names) (elements : Option ElementNames) (scope : Scope) (term : Sexp) (xs : List (List ℕ))
     → names.labels ≡ Refused
     → flaw_of_labels (wider names elements) scope term xs ≡ flaw_of_labels names scope term xs
 refused-faults names elements scope term [] refused = refl
@@ -74,7 +75,7 @@ refused-faults names elements scope term (x ∷ xs) refused =
     (refused-behind ((x, term) ∷ []) names.labels refused))
 
 -- more elements change no sort of a symbol
-wide-symbol : (names : Names) (elements : Option SortNames) → KeepsElements names.elements elements → (x : List ℕ)
+wide-symbol : (names : Names) (elements : Option ElementNames) → KeepsElements names.elements elements → (x : List ℕ)
     (o : Option Sort) (r : Option Rank) (sort : Sort) → look_up names.ranks x ≡ r
     → sort_of_symbol names x o ≡ Ok sort → sort_of_symbol (wider names elements) x o ≡ Ok sort
 wide-symbol names elements keeps x (Some s) r sort is h = h
@@ -85,12 +86,12 @@ wide-symbol names elements keeps x None None sort is h =
     ∙ kept-element names.elements elements x (op_by names.theories x []) sort keeps
     (sym (ap (λ q. sort_alone names x q) is) ∙ h)
 
-same-applied : (names : Names) (elements : Option SortNames) (f : Identifier) (args : List Sort)
+same-applied : (names : Names) (elements : Option ElementNames) (f : Identifier) (args : List Sort)
     → sort_applied (wider names elements) f args ≡ sort_applied names f args
 same-applied names elements (Plain f) args = refl
 same-applied names elements (Indexed f indexes) args = refl
 
-same-call : (names : Names) (elements : Option SortNames) (scope : Scope) (f : Identifier) (args : List Sort)
+same-call : (names : Names) (elements : Option ElementNames) (scope : Scope) (f : Identifier) (args : List Sort)
     → sort_of_call (wider names elements) scope f args ≡ sort_of_call names scope f args
 same-call names elements scope (Plain f) args =
     ap (sort_unless_variable (look_up scope f)) (same-applied names elements (Plain f) args)
@@ -98,7 +99,7 @@ same-call names elements scope (Indexed f indexes) args = same-applied names ele
 
 -- a term keeps its sort where no label may be given
 mutual
-  wide-sort : (names : Names) (elements : Option SortNames) → KeepsElements names.elements elements
+  wide-sort : (names : Names) (elements : Option ElementNames) → KeepsElements names.elements elements
       → names.labels ≡ Refused → (scope : Scope) (t : Sexp) (sort : Sort)
       → sort_in names scope t ≡ Ok sort → sort_in (wider names elements) scope t ≡ Ok sort
   wide-sort names elements keeps refused scope (Atom Symbol x) sort h =
@@ -115,7 +116,8 @@ mutual
       same-steps (indexed parts) (indexed parts) (λ f. sort_applied (wider names elements) f [])
       (λ f. sort_applied names f []) refl (λ f. same-applied names elements f []) ∙ h
   wide-sort names elements keeps refused scope (Items (Cons (Reserved As) parts)) sort h =
-      kept-qualified names.elements elements parts sort keeps h
+      kept-qualified names.elements elements names.ranks names.ranks parts sort keeps
+      (λ x rank none some. absurd (no_rank (look_up names.ranks x) rank none some)) h
   wide-sort names elements keeps refused scope
       (Items (Cons (Reserved Let) (Cons (Items bindings) (Cons body Nil)))) sort h =
       let ls = labels_in_bindings bindings in
@@ -157,7 +159,7 @@ mutual
       (wide-sorts names elements keeps refused scope args)
       (λ ss i. same-call names elements scope f ss ∙ i)) h
 
-  wide-sorts : (names : Names) (elements : Option SortNames) → KeepsElements names.elements elements
+  wide-sorts : (names : Names) (elements : Option ElementNames) → KeepsElements names.elements elements
       → names.labels ≡ Refused → (scope : Scope) (ts : Sexps) (sorts : List Sort)
       → sorts_in names scope ts ≡ Ok sorts → sorts_in (wider names elements) scope ts ≡ Ok sorts
   wide-sorts names elements keeps refused scope Nil sorts h = h
@@ -172,7 +174,7 @@ mutual
       (wide-sorts (behind ls names) elements keeps (refused-behind ls names.labels refused) scope xs)
       (λ ss i. i)) h
 
-  wide-bound : (names : Names) (elements : Option SortNames) → KeepsElements names.elements elements
+  wide-bound : (names : Names) (elements : Option ElementNames) → KeepsElements names.elements elements
       → names.labels ≡ Refused → (scope bound : Scope) (bs : Sexps) (vs : Scope)
       → bound_in names scope bound bs ≡ Ok vs → bound_in (wider names elements) scope bound bs ≡ Ok vs
   wide-bound names elements keeps refused scope bound Nil vs h = h
@@ -211,7 +213,7 @@ same-parameters sorts earlier (p ∷ ps) =
     same-named t = refl
 
 -- a definition stays where elements may be named
-wide-definition : (names : Names) (elements : Option SortNames) (x : List ℕ) (ps : Scope) (sort : Sort) (body : Sexp)
+wide-definition : (names : Names) (elements : Option ElementNames) (x : List ℕ) (ps : Scope) (sort : Sort) (body : Sexp)
     (e : Entry) → KeepsElements names.elements elements → names.labels ≡ Refused
     → definition_in names x ps sort body ≡ Ok e → definition_in (wider names elements) x ps sort body ≡ Ok e
 wide-definition names elements x ps sort body e keeps refused =
@@ -221,14 +223,17 @@ wide-definition names elements x ps sort body e keeps refused =
     (wide-sort names elements keeps refused ps body) (λ found h. h)
 
 -- no element's name comes where the profile is not the wide one
-none_lent : (script : Signature) (more : Option SortNames) → script.theories.wide ≡ false
+none_lent : (script : Signature) (more : Option ElementNames) → script.theories.wide ≡ false
     → KeepsElements (item_elements script) more
 none_lent script more narrow =
-    subst (λ b. KeepsElements (cond b (Some (sort_names_of script)) None) more) (sym narrow) tt
+    subst (λ b. KeepsElements (cond b (Some (record {
+      sorts = sort_names_of script;
+      taken = map (λ (e : Entry). e.name) script.entries;
+    })) None) more) (sym narrow) tt
 
 -- what an item of these parts defines
 wide-form : (script : Signature) (earlier : List Entry) (form : ItemForm) (e : Entry)
-    → script.theories.wide ≡ false → is_element_in (widened script) form.name ≡ false
+    → script.theories.wide ≡ false → is_element_name (widened script) form.name ≡ false
     → form_in script earlier form ≡ Ok e → form_in (widened script) earlier form ≡ Ok e
 wide-form script earlier form e narrow apart h =
     let names = names_of (items_before script earlier) in
@@ -239,7 +244,7 @@ wide-form script earlier form e narrow apart h =
     let fit = no_fault script earlier form.name n.0 in
     let flaw : name_flaw (widened script) earlier form.name ≡ None =
     ap (λ o. cond (is_some o) (Some BoundTwice)
-    (cond (is_element_in (widened script) form.name || is_taken_undeclared script form.name) (Some NotFresh) None)) fit.0
+    (cond (is_element_name (widened script) form.name || is_taken_undeclared script form.name) (Some NotFresh) None)) fit.0
     ∙ ap (λ b. cond (b || is_taken_undeclared script form.name) (Some NotFresh) None) apart
     ∙ ap (λ b. cond b (Some NotFresh) None) fit.1 in
     ap (λ o. unless o (item_behind (widened script) earlier form)) flaw
@@ -282,7 +287,7 @@ already_wide : (script : Signature) → script.theories.wide ≡ true → widene
 already_wide script is = λ i. record script { theories = record script.theories { wide = sym is i } }
 
 pub same_item : (script : Signature) (earlier : List Entry) (tree : Sexp) (e : Entry)
-    → item_in script earlier tree ≡ Ok (Some e) → is_element_in (widened script) e.name ≡ false
+    → item_in script earlier tree ≡ Ok (Some e) → is_element_name (widened script) e.name ≡ false
     → item_in (widened script) earlier tree ≡ Ok (Some e)
 same_item script earlier tree e h apart = by script.theories.wide refl
   where
@@ -290,7 +295,8 @@ same_item script earlier tree e h apart = by script.theories.wide refl
     by true is = ap (λ s. item_in s earlier tree) (already_wide script is) ∙ h
     by false is =
         let t = taken_by script earlier tree e h in
-        item_kept (widened script) earlier tree t.0 t.1 (not_defined script earlier t.0 e t.2)
+        item_kept (widened script) earlier tree t.0 t.1
+        (ap (λ b. b && not (is_element_name (widened script) t.0.name)) (not_defined script earlier t.0 e t.2))
         ∙ ap (λ r. result_and_then r (λ d. Ok (Some d)))
         (wide-form script earlier t.0 e is
-        (ap (is_element_in (widened script)) (sym (form_defined script earlier t.0 e t.2).name) ∙ apart) t.2)
+        (ap (is_element_name (widened script)) (sym (form_defined script earlier t.0 e t.2).name) ∙ apart) t.2)

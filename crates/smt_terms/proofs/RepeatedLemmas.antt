@@ -1,27 +1,26 @@
 -- Items that are set aside, and those that are not.
-use Rattle.std.proofs.Common.{◌≡◌, inl, inr, ℕ, Bool, true, false, cond, List, [], map, Option, Some, None, unwrap_or}
+use Rattle.std.proofs.Common.{◌≡◌, inl, inr, ℕ, Bool, true, false, cond, List, [], map, Option, Some, None, is_some, unwrap_or}
 use Rattle.std.proofs.Common.{Result, Ok, Err, refl, ap, sym, ◌∙◌}
 use Rattle.smt_trees.specs.Sexp.{Sexp, Sexps, Atom, Reserved, Items, Nil, Cons, Symbol}
 use Rattle.smt_trees.specs.declared.reserved.Word.TheVariants.{DeclareFun, DeclareSort, Forall}
 use Rattle.smt_theory.specs.Sort.{is_same_sort}
-use Rattle.smt_theory.specs.Words.{result_and_then}
+use Rattle.smt_theory.specs.Words.{look_up, result_and_then}
 use Rattle.smt_theory.specs.declared.sort.Sort.{Sort}
 use Rattle.smt_forms.specs.ItemForm.{ItemForm, item_form}
 use Rattle.smt_terms.specs.Definitions.{parameters_named}
-use Rattle.smt_terms.specs.Internal.LibraryView.{sort_names}
+use Rattle.smt_terms.specs.Internal.LibraryView.{names_of_library, sort_names}
 use Rattle.smt_terms.specs.Library.{StandsFor}
 use Rattle.smt_terms.specs.Items.{declared_item, element_told, form_in, has_rank_of, is_set_aside, item_by, item_in}
 use Rattle.smt_terms.specs.Items.{repeated_in, told_in, told_item, told_sort}
-use Rattle.smt_terms.specs.Elements.{element_among}
-use Rattle.smt_terms.specs.Freshness.{item_elements}
+use Rattle.smt_terms.specs.Elements.{element_sort}
 use Rattle.smt_terms.specs.Signature.{Entry, Signature, entry_named, sort_names_of}
 use Rattle.smt_terms.specs.SortTrees.{sort_named}
 use Rattle.smt_faults.specs.Outcome.{Tells}
 use Rattle.smt_faults.specs.declared.term_fault.TermFault.{TermFault}
 use Rattle.smt_faults.specs.declared.term_flaw.TermFlaw.{TermFlaw}
-use Rattle.smt_faults.specs.declared.term_flaw.TermFlaw.TheVariants.{IllSorted}
+use Rattle.smt_faults.specs.declared.term_flaw.TermFlaw.TheVariants.{IllSorted, NotFresh}
 use Rattle.smt_terms.specs.declared.library.Library.{Library}
-use Rattle.smt_terms.proofs.ItemLemmas.{sorts_as}
+use Rattle.smt_terms.proofs.ItemLemmas.{in_force, sorts_as}
 use Rattle.smt_terms.proofs.KeptLemmas.{answered}
 
 -- what an item that repeats a definition comes to, by whether it has its rank
@@ -57,7 +56,7 @@ some_of (Err f) e h = cc
 -- they define nothing
 tells_nothing : (script : Signature) (parts : Sexps) (e : Entry) → declared_item script parts ≡ Ok (Some e) → ⊥
 tells_nothing script (Cons (Atom Symbol x) (Cons (Items Nil) (Cons sort Nil))) e h =
-    by (element_among (item_elements script) x) h
+    by (element_sort (sort_names_of script) x) h
   where
     test : (b : Bool) → by_test b ≡ Ok (Some e) → ⊥
     test true g = cc
@@ -67,10 +66,29 @@ tells_nothing script (Cons (Atom Symbol x) (Cons (Items Nil) (Cons sort Nil))) e
     step element (Err f) g = cc
     step element (Ok s) g = test (is_same_sort element s) g
 
-    by : (o : Option Sort) → element_told script o sort ≡ Ok (Some e) → ⊥
+    inner : (element : Sort) (b : Bool) → cond b (Err NotFresh)
+        (result_and_then (sort_named (sort_names_of script) sort) (told_sort element)) ≡ Ok (Some e) → ⊥
+    inner element true g = cc
+    inner element false g = step element (sort_named (sort_names_of script) sort) g
+
+    by : (o : Option Sort) → element_told script x o sort ≡ Ok (Some e) → ⊥
     by None g = cc
-    by (Some element) g = step element (sort_named (sort_names_of script) sort) g
+    by (Some element) g = inner element (is_some (entry_named script.entries x)) g
 tells_nothing script _ e h = cc
+
+-- what comes of one by what a library says of its parts
+pub told_as : (library : Library) (s : Signature) (x : List ℕ) (tree : Sexp) (element : Sort) (b c : Bool)
+    → StandsFor library s → Some element ≡ element_sort (sort_names library.sorts) x
+    → b ≡ is_some (look_up (names_of_library library).ranks x) → b ≡ c
+    → element_told s x (element_sort (sort_names_of s) x) tree
+    ≡ cond c (Err NotFresh) (result_and_then (sort_named (sort_names library.sorts) tree) (told_sort element))
+told_as library s x tree element b c stands is named same =
+    ap (λ sorts. element_told s x (element_sort sorts x) tree) (sym (sorts_as library s stands))
+    ∙ ap (λ o. element_told s x o tree) (sym is)
+    ∙ ap (λ d. cond d (Err NotFresh) (result_and_then (sort_named (sort_names_of s) tree) (told_sort element)))
+    (in_force library s x b c stands named same)
+    ∙ ap (λ sorts. cond c (Err NotFresh) (result_and_then (sort_named sorts tree) (told_sort element)))
+    (sym (sorts_as library s stands))
 
 -- so what defines something is none
 untold : (script : Signature) (tree : Sexp) (e : Entry) (rest : Result (Option Entry) TermFlaw)

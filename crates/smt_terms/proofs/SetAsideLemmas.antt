@@ -11,6 +11,7 @@ use Rattle.smt_theory.specs.declared.sort.Sort.{Sort}
 use Rattle.smt_forms.specs.Bindings.{named_trees}
 use Rattle.smt_forms.specs.ItemForm.{ItemForm, item_form}
 use Rattle.smt_terms.specs.Definitions.{parameters_named}
+use Rattle.smt_terms.specs.Freshness.{is_element_name}
 use Rattle.smt_terms.specs.Items.{form_in, has_rank_of, is_defined_in, is_set_aside, item_by, item_in}
 use Rattle.smt_terms.specs.Items.{repeated_in, told_item}
 use Rattle.smt_terms.specs.Repeated.{IsRepeated}
@@ -57,6 +58,10 @@ both_true : (a b : Bool) → (a && b) ≡ true → (a ≡ true) × (b ≡ true)
 both_true true b h = (refl, h)
 both_true false b h = cc
 
+not_true : (b : Bool) → not b ≡ true → b ≡ false
+not_true true h = cc
+not_true false h = refl
+
 -- what the parts of an item that is set aside are
 record IsAside (script : Signature) (form : ItemForm) : Type 0 where
   wide : script.theories.wide ≡ true
@@ -66,6 +71,7 @@ record IsAside (script : Signature) (form : ItemForm) : Type 0 where
   sorted : sort_named (sort_names_of script) form.sort ≡ Ok sort
   ranked : has_rank_of (entry_named script.entries form.name) (map (λ p. p.1) variables) sort ≡ true
   defined : is_defined_in script form.name ≡ true
+  apart : is_element_name script form.name ≡ false
 
 tested : (b : Bool) → by_test b ≡ Ok None → b ≡ true
 tested true h = refl
@@ -77,7 +83,9 @@ aside script form is h =
     let a = answered (parameters_named (sort_names_of script) [] form.parameters)
     (λ ps. result_and_then (sort_named (sort_names_of script) form.sort) (by_rank script form ps)) None h in
     let b = answered (sort_named (sort_names_of script) form.sort) (by_rank script form a.0) None a.2 in
-    let d = both_true script.theories.wide (is_defined_in script form.name) is in
+    let p = both_true (script.theories.wide && is_defined_in script form.name)
+    (not (is_element_name script form.name)) is in
+    let d = both_true script.theories.wide (is_defined_in script form.name) p.0 in
     record {
       wide = d.0;
       variables = a.0;
@@ -86,6 +94,7 @@ aside script form is h =
       sorted = b.1;
       ranked = tested (has_rank_of (entry_named script.entries form.name) (map (λ p. p.1) a.0) b.0) b.2;
       defined = d.1;
+      apart = not_true (is_element_name script form.name) p.1;
     }
 
 no_none : (r : Result Entry TermFlaw) → result_and_then r (λ e. Ok (Some e)) ≡ Ok None → ⊥
@@ -102,6 +111,7 @@ repeated compared script tree form is a =
     record {
       wide = a.wide;
       name = form.name;
+      apart = a.apart;
       parameters = is.parameters;
       sort = form.sort;
       body = form.body;
@@ -155,8 +165,10 @@ set_aside compared script earlier tree = (there, back)
         let is : item_form tree ≡ Ok form = ap item_form r.printed
         ∙ ap (λ b. cond b (Ok form) (Err Form)) r.named in
         let set : is_set_aside script form.name ≡ true =
-        ap (λ b. b && is_defined_in script form.name) r.wide
-        ∙ defined_found script form.name r.repeats r.found r.defined in
+        ap (λ b. b && is_defined_in script form.name && not (is_element_name script form.name)) r.wide
+        ∙ ap (λ b. b && not (is_element_name script form.name))
+        (defined_found script form.name r.repeats r.found r.defined)
+        ∙ ap not r.apart in
         let ranked : has_rank_of (entry_named script.entries form.name) (map (λ p. p.1) r.variables)
         r.repeats.sort ≡ true =
         ap (λ o. has_rank_of o (map (λ p. p.1) r.variables) r.repeats.sort) r.found

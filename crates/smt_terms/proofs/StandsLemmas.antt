@@ -12,11 +12,12 @@ use Rattle.smt_theory.specs.Words.{look_up}
 use Rattle.smt_theory.specs.declared.sort.Sort.{Sort}
 use Rattle.smt_theory.specs.Operators.{is_plain_operator}
 use Rattle.smt_theory.specs.declared.theories.Theories.{Theories}
+use Rattle.smt_terms.specs.declared.named_sort.NamedSort.{NamedSort}
+use Rattle.smt_terms.specs.Elements.{ElementNames}
 use Rattle.smt_terms.specs.Contents.{Contents, Declaration, terms_in}
 use Rattle.smt_terms.specs.Definitions.{definition}
 use Rattle.smt_terms.specs.Denotes.{AreApart, Denotes, Head, IsLonger, slots_from}
 use Rattle.smt_terms.specs.Elements.{element_among}
-use Rattle.smt_terms.specs.SortTrees.{SortNames}
 use Rattle.smt_terms.specs.Internal.Growing.{Bodies, HoldsUnder, IsBodyUnder, KeepsNames, bodies_in, terms_under}
 use Rattle.smt_terms.specs.Internal.TableView.{names_of_definitions}
 use Rattle.smt_terms.specs.Library.{AreDefinitions, Holds, IsDefinitionOf, declaration_at}
@@ -123,7 +124,7 @@ nothing_stands c theories same elements abbreviations ranks heads declared defin
 }
 
 -- with elements that terms may name
-pub nothing_lent : (c : Contents) (theories : Theories) (elements : Option SortNames) → Holds c (no_names theories)
+pub nothing_lent : (c : Contents) (theories : Theories) (elements : Option ElementNames) → Holds c (no_names theories)
     → Holds (record c { elements = elements }) (record (no_names theories) { elements = elements })
 nothing_lent c theories elements stands = record {
   theories = stands.theories;
@@ -252,7 +253,7 @@ stands_still old new s kept stands =
     (stands_kept (bodies_in old) old new s kept (under old s stands))
 
 -- an abbreviation has come
-pub stands_abbreviated : (old new : Contents) (s : Signature) (x : List ℕ) (sort : Sort)
+pub stands_abbreviated : (old new : Contents) (s : Signature) (x : List ℕ) (sort : NamedSort)
     → new.theories ≡ old.theories → new.elements ≡ old.elements
     → new.abbreviations ≡ old.abbreviations ++ (x, sort) ∷ []
     → new.ranks ≡ old.ranks → new.heads ≡ old.heads
@@ -264,7 +265,7 @@ stands_abbreviated old new s x sort theories elements abbreviations ranks heads 
       elements = elements ∙ stands.elements;
       distinct = stands.distinct;
       abbreviations =
-          abbreviations ∙ ap (λ (ss : List (List ℕ × Sort)). ss ++ (x, sort) ∷ []) stands.abbreviations;
+          abbreviations ∙ ap (λ (ss : List (List ℕ × NamedSort)). ss ++ (x, sort) ∷ []) stands.abbreviations;
       ranks = ranks ∙ stands.ranks;
       declared = declared ∙ stands.declared;
       definitions = subst (λ ds. AreDefinitions ds (defined_among s.entries)) (sym definitions)

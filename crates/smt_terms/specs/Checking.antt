@@ -113,7 +113,7 @@ abbrev mutual
   sort_in names scope (Items Nil) = Err Form
   sort_in names scope (Items (Cons (Reserved Underscore) parts)) =
       result_and_then (indexed parts) (λ f. sort_applied names f [])
-  sort_in names scope (Items (Cons (Reserved As) parts)) = qualified_sort names.elements parts
+  sort_in names scope (Items (Cons (Reserved As) parts)) = qualified_sort names.elements names.ranks parts
   sort_in names scope (Items (Cons (Reserved Let) (Cons (Items bindings) (Cons body Nil)))) =
       if are_bindings bindings
       then result_and_then (bound_in names scope [] bindings)

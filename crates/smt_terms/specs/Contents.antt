@@ -9,7 +9,8 @@ use Rattle.smt_terms.specs.Ends.{end_of}
 use Rattle.smt_terms.specs.Internal.LibraryView.{abbreviations_of, elements_of_library, ranks_of_library}
 use Rattle.smt_terms.specs.Internal.TableView.{heads_of_library, names_of_definitions}
 use Rattle.smt_terms.specs.Signature.{Rank}
-use Rattle.smt_terms.specs.SortTrees.{SortNames}
+use Rattle.smt_terms.specs.Elements.{ElementNames}
+use Rattle.smt_terms.specs.declared.named_sort.NamedSort.{NamedSort}
 use Rattle.smt_terms.specs.declared.library.Declared.{Declared}
 use Rattle.smt_terms.specs.declared.library.Definition.{Definition}
 use Rattle.smt_terms.specs.declared.library.Library.{Library}
@@ -26,13 +27,13 @@ abbrev pub declaration_view : Declared → Declaration
 declaration_view d =
     record { name = d.name; parameters = d.params.items; sort = d.result; command = d.command }
 
--- the theories, and the sorts whose elements terms may name; the abbreviations, and the names with their ranks and
+-- the theories, and what terms may name elements by; the names of sorts, and the names with their ranks and
 -- with where they stand; the declarations, the definitions and the nodes of their bodies; the nodes of terms; each
 -- in the order in which they came
 pub record Contents : Type 0 where
   pub theories : Theories
-  pub elements : Option SortNames
-  pub abbreviations : List (List ℕ × Sort)
+  pub elements : Option ElementNames
+  pub abbreviations : List (List ℕ × NamedSort)
   pub ranks : List (List ℕ × Rank)
   pub heads : List (List ℕ × Head)
   pub declared : List Declaration
@@ -106,7 +107,7 @@ pub record IsBelow (mark later : Mark) : Type 0 where
 pub record Extends (c d : Contents) : Type 0 where
   pub theories : d.theories ≡ c.theories
   pub elements : d.elements ≡ c.elements
-  pub abbreviations : (more : List (List ℕ × Sort)) × (d.abbreviations ≡ c.abbreviations ++ more)
+  pub abbreviations : (more : List (List ℕ × NamedSort)) × (d.abbreviations ≡ c.abbreviations ++ more)
   pub ranks : (more : List (List ℕ × Rank)) × (d.ranks ≡ c.ranks ++ more)
   pub heads : (more : List (List ℕ × Head)) × (d.heads ≡ c.heads ++ more)
   pub apart : AreApart c.elements c.heads d.heads

@@ -1,13 +1,13 @@
 -- SMT-LIB 2.6, section 4.2.3: declarations of names by the sorts of their parameters and of their result,
 -- declarations of sorts, and abbreviations of sorts. The order of the faults is this project's rule.
-use Rattle.std.specs.Prelude.{ℕ, List, Result, Ok, Err}
+use Rattle.std.specs.Prelude.{ℕ, List, true, false, Result, Ok, Err}
 use Rattle.smt_trees.specs.Sexp.{Sexp, Sexps}
 use Rattle.smt_theory.specs.Words.{result_and_then}
-use Rattle.smt_theory.specs.declared.sort.Sort.{Sort}
 use Rattle.smt_theory.specs.declared.sort.Sort.TheVariants.{Free}
 use Rattle.smt_terms.specs.Freshness.{NewAbbreviation, NewSymbol, where_fresh}
 use Rattle.smt_terms.specs.Signature.{Entry, Declared, Rank, Signature, names_of, sort_names_of}
 use Rattle.smt_terms.specs.SortTrees.{SortNames, sort_named, sorts_named}
+use Rattle.smt_terms.specs.declared.named_sort.NamedSort.{NamedSort}
 use Rattle.smt_faults.specs.declared.term_flaw.TermFlaw.{TermFlaw}
 
 -- the rank that trees name: the sorts of parameters, and the sort of a result
@@ -28,10 +28,14 @@ declared_in s command x parameters tree =
     (result_and_then (rank_named (sort_names_of s) parameters tree)
     (λ rank. Ok (declaration x command rank)))
 
--- the sort that a new abbreviation stands for, or its first fault
-abbrev pub abbreviated_in : SortNames → List ℕ → Sexp → Result Sort TermFlaw
-abbreviated_in names x tree = where_fresh (NewAbbreviation names) x Err (sort_named names tree)
+-- what a new abbreviation stands for, or its first fault: the sort that the tree names now
+abbrev pub abbreviated_in : SortNames → List ℕ → Sexp → Result NamedSort TermFlaw
+abbreviated_in names x tree =
+    where_fresh (NewAbbreviation names) x Err
+    (result_and_then (sort_named names tree) (λ s. Ok (record { sort = s; is_declared = false })))
 
--- the sort that a command declares by a new name, or its first fault: its own, by the number of the command
-abbrev pub sort_declared_in : SortNames → ℕ → List ℕ → Result Sort TermFlaw
-sort_declared_in names command x = where_fresh (NewAbbreviation names) x Err (Ok (Free command))
+-- what a new name of a sort stands for that a command declares, or its first fault: a sort of its own, by the number
+-- of the command
+abbrev pub sort_declared_in : SortNames → ℕ → List ℕ → Result NamedSort TermFlaw
+sort_declared_in names command x =
+    where_fresh (NewAbbreviation names) x Err (Ok (record { sort = Free command; is_declared = true }))

@@ -18,8 +18,7 @@ use Rattle.smt_forms.specs.Labels.{labels_among}
 use Rattle.smt_forms.specs.Variables.{uses_variable}
 use Rattle.smt_nodes.specs.Node as node
 use Rattle.smt_nodes.specs.Node.{Node, Row}
-use Rattle.smt_terms.specs.Elements.{element_among}
-use Rattle.smt_terms.specs.SortTrees.{SortNames}
+use Rattle.smt_terms.specs.Elements.{ElementNames, element_among}
 use Rattle.smt_terms.specs.declared.library.Found.{Found}
 use Rattle.smt_terms.specs.declared.library.Found.TheVariants as place
 
@@ -28,11 +27,11 @@ pub record Head : Type 0 where
   pub place : Found
   pub arity : ℕ
 
--- A table of terms: its theories, the sorts whose elements terms may name, the names in force, the name of each
+-- A table of terms: its theories, what terms may name elements by, the names in force, the name of each
 -- definition and the node that is its body, by its place, and the nodes, by their numbers.
 pub record Table : Type 0 where
   pub theories : Theories
-  pub elements : Option SortNames
+  pub elements : Option ElementNames
   pub heads : List (List ℕ × Head)
   pub names : List (List ℕ)
   pub bodies : List ℕ
@@ -167,7 +166,7 @@ abbrev mutual
 -- ---- longer tables
 
 -- no name that has a head among the second alone is an element's
-abbrev pub AreApart : Option SortNames → (heads more : List (List ℕ × Head)) → Type 0
+abbrev pub AreApart : Option ElementNames → (heads more : List (List ℕ × Head)) → Type 0
 AreApart elements heads more = (x : List ℕ) (head : Head) → look_up heads x ≡ None
     → look_up more x ≡ Some head → element_among elements x ≡ None
 

@@ -11,13 +11,13 @@ use Rattle.smt_theory.specs.declared.sort.Sort.{Sort}
 use Rattle.smt_forms.specs.ItemForm.{ItemForm, item_form}
 use Rattle.smt_terms.specs.Checking.{unless}
 use Rattle.smt_terms.specs.Definitions.{definition_in, parameters_named}
-use Rattle.smt_terms.specs.Elements.{element_among}
-use Rattle.smt_terms.specs.Freshness.{item_elements, name_flaw}
+use Rattle.smt_terms.specs.Elements.{element_sort}
+use Rattle.smt_terms.specs.Freshness.{is_element_name, item_elements, name_flaw}
 use Rattle.smt_terms.specs.Signature.{Entry, Signature, declared_named, entry_named, names_of, no_names}
 use Rattle.smt_terms.specs.Signature.{sort_names_of}
 use Rattle.smt_terms.specs.SortTrees.{sort_named}
 use Rattle.smt_faults.specs.declared.term_flaw.TermFlaw.{TermFlaw}
-use Rattle.smt_faults.specs.declared.term_flaw.TermFlaw.TheVariants.{Form, IllSorted}
+use Rattle.smt_faults.specs.declared.term_flaw.TermFlaw.TheVariants.{Form, IllSorted, NotFresh}
 
 -- a declared name keeps its rank
 abbrev pub has_rank_of : Option Entry → List Sort → Sort → Bool
@@ -53,9 +53,10 @@ abbrev pub is_defined_in : Signature → List ℕ → Bool
 is_defined_in script x =
     is_some (entry_named script.entries x) && not (is_some (declared_named script.entries x))
 
--- whether items of this name are set aside: in the wide profile those that repeat a definition of the script
+-- whether items of this name are set aside: in the wide profile those that repeat a definition of the script, unless
+-- the name has the form of an element's
 abbrev pub is_set_aside : Signature → List ℕ → Bool
-is_set_aside script x = script.theories.wide && is_defined_in script x
+is_set_aside script x = script.theories.wide && is_defined_in script x && not (is_element_name script x)
 
 -- an item that repeats a definition comes to nothing, if it has that definition's rank: its body is not looked
 -- at
@@ -72,16 +73,18 @@ repeated_in script form =
 abbrev pub told_sort : Sort → Sort → Result (Option Entry) TermFlaw
 told_sort element sort = if is_same_sort element sort then Ok None else Err IllSorted
 
--- what `(declare-fun x () sort)` comes to, where x is an element of this sort, if it is one
-abbrev pub element_told : Signature → Option Sort → Sexp → Result (Option Entry) TermFlaw
-element_told script None sort = Err Form
-element_told script (Some element) sort =
-    result_and_then (sort_named (sort_names_of script) sort) (told_sort element)
+-- what `(declare-fun x () sort)` comes to, where x has the form of an element's name of this sort, if it has one: no
+-- name of the script is an element's
+abbrev pub element_told : Signature → List ℕ → Option Sort → Sexp → Result (Option Entry) TermFlaw
+element_told script x None sort = Err Form
+element_told script x (Some element) sort =
+    if is_some (entry_named script.entries x) then Err NotFresh
+    else result_and_then (sort_named (sort_names_of script) sort) (told_sort element)
 
 -- what an item comes to by what stands behind its `declare-fun`
 abbrev pub declared_item : Signature → Sexps → Result (Option Entry) TermFlaw
 declared_item script (Cons (Atom Symbol x) (Cons (Items Nil) (Cons sort Nil))) =
-    element_told script (element_among (item_elements script) x) sort
+    element_told script x (element_sort (sort_names_of script) x) sort
 declared_item script _ = Err Form
 
 -- what items come to that tell which elements declared sorts have; None of other items

@@ -7,7 +7,9 @@ use Rattle.smt_trees.specs.Sexp.{Sexp}
 use Rattle.smt_theory.specs.declared.sort.Sort.{Sort}
 use Rattle.smt_theory.specs.declared.theories.Theories.{Theories}
 use Rattle.smt_terms.specs.Labels.{Labels, Refused, Given, Unread, with_labels}
+use Rattle.smt_terms.specs.Elements.{ElementNames}
 use Rattle.smt_terms.specs.SortTrees.{SortNames}
+use Rattle.smt_terms.specs.declared.named_sort.NamedSort.{NamedSort}
 
 -- where a name comes from: from the command that declared it, or from a definition with parameters and a body
 pub data Origin : Type 0 where
@@ -21,23 +23,23 @@ pub record Entry : Type 0 where
   pub sort : Sort
   pub origin : Origin
 
--- the theories, and the abbreviations and the names in force, in order. The definitions of a model have besides
--- the sorts whose elements a body may name
+-- the theories, and the names of sorts and the names in force, in order. The definitions of a model have besides
+-- what a body may name elements by
 pub record Signature : Type 0 where
   pub theories : Theories
-  pub abbreviations : List (List ℕ × Sort)
-  pub elements : Option SortNames
+  pub abbreviations : List (List ℕ × NamedSort)
+  pub elements : Option ElementNames
   pub entries : List Entry
 
--- what the sort checker needs: the theories, the sorts whose elements a term may name, the names with their
--- ranks, and which labels a term may have
+-- what the sort checker needs: the theories, what a term may name elements by, the names with their ranks, and
+-- which labels a term may have
 pub record Rank : Type 0 where
   pub parameters : List Sort
   pub sort : Sort
 
 pub record Names : Type 0 where
   pub theories : Theories
-  pub elements : Option SortNames
+  pub elements : Option ElementNames
   pub ranks : List (List ℕ × Rank)
   pub labels : Labels
 
@@ -60,7 +62,7 @@ abbrev pub unlabelled : Names → Names
 unlabelled names = record names { labels = Unread }
 
 -- the names without labels that these entries give
-abbrev pub unlabelled_over : Theories → Option SortNames → List Entry → Names
+abbrev pub unlabelled_over : Theories → Option ElementNames → List Entry → Names
 unlabelled_over theories elements entries =
     record { theories = theories; elements = elements; ranks = ranks_of entries; labels = Unread }
 
@@ -80,9 +82,9 @@ with_entry s e = record s { entries = s.entries ++ e ∷ [] }
 abbrev pub with_entries : Signature → List Entry → Signature
 with_entries s es = record s { entries = s.entries ++ es }
 
--- one more abbreviation
-abbrev pub with_abbreviation : Signature → List ℕ → Sort → Signature
-with_abbreviation s x sort = record s { abbreviations = s.abbreviations ++ (x, sort) ∷ [] }
+-- one more name of a sort
+abbrev pub with_abbreviation : Signature → List ℕ → NamedSort → Signature
+with_abbreviation s x named = record s { abbreviations = s.abbreviations ++ (x, named) ∷ [] }
 
 -- no names
 abbrev pub no_names : Theories → Signature

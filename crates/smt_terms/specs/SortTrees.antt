@@ -11,6 +11,7 @@ use Rattle.smt_theory.specs.declared.theories.Theories.{Theories}
 use Rattle.smt_theory.specs.Width.{width_of}
 use Rattle.smt_theory.specs.Words.{look_up, result_and_then}
 use Rattle.smt_forms.specs.Identifier.{all_indexes}
+use Rattle.smt_terms.specs.declared.named_sort.NamedSort.{NamedSort}
 use Rattle.smt_faults.specs.declared.term_flaw.TermFlaw.{TermFlaw}
 use Rattle.smt_faults.specs.declared.term_flaw.TermFlaw.TheVariants.{Form, Unsupported, Unknown, Index}
 
@@ -24,10 +25,10 @@ sort_of_word theories name =
     else if bytes_eq name (codes "Real") || bytes_eq name (codes "String") then Err Unsupported
     else Err Unknown
 
--- the sort of a symbol, by what it abbreviates
-abbrev pub sort_of_symbol : Theories → List ℕ → Option Sort → Result Sort TermFlaw
+-- the sort of a symbol, by what it stands for
+abbrev pub sort_of_symbol : Theories → List ℕ → Option NamedSort → Result Sort TermFlaw
 sort_of_symbol theories name None = sort_of_word theories name
-sort_of_symbol theories name (Some sort) = Ok sort
+sort_of_symbol theories name (Some named) = Ok named.sort
 
 -- bit vectors of a width that there may be, or none where the number of bits is out of range
 abbrev pub bit_vectors : Theories → Option ℕ → Result Sort TermFlaw
@@ -58,10 +59,10 @@ sort_of_list theories (Cons (Atom Symbol name) args) =
     else Err Form
 sort_of_list theories _ = Err Form
 
--- what names sorts: the theories, and the abbreviations in force with the sorts that they stand for
+-- what names sorts: the theories, and the names of sorts in force with what they stand for
 pub record SortNames : Type 0 where
   pub theories : Theories
-  pub abbreviations : List (List ℕ × Sort)
+  pub abbreviations : List (List ℕ × NamedSort)
 
 -- the sort that a tree names, or its first fault
 abbrev pub sort_named : SortNames → Sexp → Result Sort TermFlaw

@@ -7,11 +7,10 @@ use Rattle.smt_theory.specs.Words.{look_up}
 use Rattle.smt_theory.specs.declared.sort.Sort.{Sort}
 use Rattle.smt_theory.specs.declared.theories.Theories.{Theories}
 use Rattle.smt_terms.specs.Checking.{sort_in}
-use Rattle.smt_terms.specs.Elements.{element_among}
+use Rattle.smt_terms.specs.Elements.{ElementNames, names_element}
 use Rattle.smt_terms.specs.Labels.{Unread}
 use Rattle.smt_terms.specs.Signature.{Entry, Names, Origin, Rank, Declared, Defined, entry_named}
 use Rattle.smt_terms.specs.Signature.{unlabelled_over}
-use Rattle.smt_terms.specs.SortTrees.{SortNames}
 
 -- no name stands twice
 abbrev pub AreDifferent : List (List ℕ) → Type 0
@@ -31,18 +30,18 @@ IsWellSortedFrom names sorts sort (Defined parameters body) = IsDefinition names
 IsWellSortedFrom names sorts sort (Declared command) = ⊥
 
 -- the entry is a definition that is well sorted over the earlier ones, where terms may name elements of these sorts
-abbrev pub IsWellSorted : Theories → Option SortNames → List Entry → Entry → Type 0
+abbrev pub IsWellSorted : Theories → Option ElementNames → List Entry → Entry → Type 0
 IsWellSorted theories elements earlier e =
     IsWellSortedFrom (unlabelled_over theories elements earlier) e.parameters e.sort e.origin
 
 -- each definition is well sorted over the earlier ones
-abbrev pub AreWellSorted : Theories → Option SortNames → List Entry → List Entry → Type 0
+abbrev pub AreWellSorted : Theories → Option ElementNames → List Entry → List Entry → Type 0
 AreWellSorted theories elements earlier [] = Unit {0}
 AreWellSorted theories elements earlier (e ∷ es) =
     IsWellSorted theories elements earlier e × AreWellSorted theories elements (earlier ++ e ∷ []) es
 
 -- elements that terms may name stay; where there were none, any may come
-abbrev pub KeepsElements : (elements more : Option SortNames) → Type 0
+abbrev pub KeepsElements : (elements more : Option ElementNames) → Type 0
 KeepsElements None more = Unit {0}
 KeepsElements (Some sorts) more = more ≡ Some sorts
 
@@ -57,7 +56,7 @@ pub record Keeps (names more : Names) : Type 0 where
   pub fresh : (x : List ℕ) (rank : Rank) → look_up names.ranks x ≡ None → look_up more.ranks x ≡ Some rank
       → is_plain_operator names.theories x ≡ false
   pub apart : (x : List ℕ) (rank : Rank) → look_up names.ranks x ≡ None → look_up more.ranks x ≡ Some rank
-      → element_among names.elements x ≡ None
+      → names_element names.elements x ≡ false
 
 -- ---- the names of a script
 
@@ -68,14 +67,14 @@ IsSortedIfDefined names sorts sort (Declared command) = Unit {0}
 
 -- the name is new among the earlier ones and no operator's, and a definition is well sorted over the earlier
 -- ones
-pub record IsIntroduced (theories : Theories) (elements : Option SortNames) (earlier : List Entry)
+pub record IsIntroduced (theories : Theories) (elements : Option ElementNames) (earlier : List Entry)
     (e : Entry) : Type 0 where
   pub new : entry_named earlier e.name ≡ None
   pub free : is_plain_operator theories e.name ≡ false
   pub sorted : IsSortedIfDefined (unlabelled_over theories elements earlier) e.parameters e.sort e.origin
 
 -- each name is introduced behind the earlier ones
-abbrev pub AreIntroduced : Theories → Option SortNames → List Entry → List Entry → Type 0
+abbrev pub AreIntroduced : Theories → Option ElementNames → List Entry → List Entry → Type 0
 AreIntroduced theories elements earlier [] = Unit {0}
 AreIntroduced theories elements earlier (e ∷ es) =
     IsIntroduced theories elements earlier e × AreIntroduced theories elements (earlier ++ e ∷ []) es

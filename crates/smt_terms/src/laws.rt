@@ -1,5 +1,6 @@
 //! Laws: theorems about the definitions that the contracts cite. Each is the contract of an empty function.
 
+pub mod elements;
 pub mod first_faults;
 
 ghost use Rattle.std.specs.List.{All};
@@ -23,7 +24,7 @@ ghost use Rattle.smt_terms.specs.Declarations.{declared_in};
 ghost use Rattle.smt_terms.specs.Signature.{Entry, KeepsRank, Names, Signature, declared_named, entry_named};
 ghost use Rattle.smt_terms.specs.Signature.{names_of, no_names, sort_names_of};
 ghost use Rattle.smt_terms.specs.TermsOf.{AreTermsOf};
-ghost use Rattle.smt_terms.specs.Freshness.{is_element_in, is_taken, item_elements};
+ghost use Rattle.smt_terms.specs.Freshness.{is_element_name, is_taken, item_elements};
 ghost use Rattle.smt_terms.specs.WellSorted.{AreIntroduced, IsWellSorted, Keeps};
 ghost use Rattle.smt_terms.specs.Written.{AreLabelsOf, IsDeclaredAs, IsDefinedAs, IsPrintedAs};
 ghost use Rattle.smt_terms.specs.declared.library.Library.{Library};
@@ -73,11 +74,11 @@ pub fn repeated_items_are_set_aside()
     sorts_are_compared();
 }
 
-/// An item that defines a name without the wide profile defines the same in the wide profile, unless its name is there
-/// that of an element of a declared sort.
+/// An item that defines a name without the wide profile defines the same in the wide profile, unless its name has there
+/// the form of those of elements of a declared sort.
 pub fn items_are_the_same_in_the_wide_profile()
     ensures { (script : Signature) (earlier : List Entry) (tree : Sexp) (e : Entry)
-        → item_in script earlier tree ≡ Ok (Some e) → is_element_in (widened script) e.name ≡ false
+        → item_in script earlier tree ≡ Ok (Some e) → is_element_name (widened script) e.name ≡ false
         → item_in (widened script) earlier tree ≡ Ok (Some e) }
 {}
 

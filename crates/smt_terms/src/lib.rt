@@ -19,9 +19,11 @@
 mod labels;
 pub mod laws;
 mod library;
+mod named_sort;
 mod sorts;
 
 pub use library::{Declared, Definition, Found, Library, Mark};
+pub use named_sort::NamedSort;
 pub use smt_faults::TermFault;
 pub use smt_forms::Param;
 pub use smt_nodes::TermId;

@@ -13,6 +13,7 @@ mod binders;
 mod checker;
 mod definitions;
 mod draft;
+mod element_names;
 mod elements;
 mod freshness;
 mod items;
@@ -26,6 +27,7 @@ mod whole_terms;
 
 use crate::labels::Labels;
 use crate::library::arguments::Arguments;
+use crate::library::element_names::ElementNames;
 use crate::sorts::SortNames;
 use smt_faults::{Memory, TermFault};
 use smt_names::NameMap;
@@ -85,8 +87,8 @@ pub struct Definition {
 pub struct Library<'s> {
     alloc: Global,
     sorts: SortNames,
-    /// The sorts whose elements terms may name, in a library for a model; none in one for a script.
-    elements: Option<&'s SortNames>,
+    /// What terms may name elements by, in a library for a model; nothing in one for a script.
+    elements: Option<ElementNames<'s>>,
     names: NameMap<Entry>,
     declared: Vec<Declared>,
     definitions: Vec<Definition>,
@@ -127,7 +129,7 @@ impl Library<'_> {
     ghost use Rattle.smt_terms.specs.Declarations.{sort_declared_in};
     ghost use Rattle.smt_terms.specs.Signature.{Signature, entry_named, names_of, no_names, sort_names_of};
     ghost use Rattle.smt_terms.specs.Signature.{with_abbreviation, with_entry};
-    ghost use Rattle.smt_theory.specs.declared.sort.Sort.{Sort};
+    ghost use Rattle.smt_terms.specs.declared.named_sort.NamedSort.{NamedSort};
     ghost use Rattle.smt_faults.specs.Outcome.{IsOutcome, Tells};
 
     /// A library of these theories, without names and terms.
@@ -233,10 +235,11 @@ impl Library<'_> {
     /// Makes a name abbreviate the sort of a tree (SMT-LIB 2.6, section 4.2.3, `define-sort` without
     /// parameters). The name means that sort, whatever comes later.
     ///
-    /// It refuses, in this order: a name that abbreviates a sort, `Bool` and `Int` (`NotFresh`); a tree that names
-    /// no sort, with its fault. Then, and where memory is refused (`Memory`), nothing changes.
+    /// It refuses, in this order: a name that stands for a sort, `Bool` and `Int`, in the wide profile also `Real` and
+    /// `Array` (`NotFresh`); a tree that names no sort, with its fault. Then, and where memory is refused (`Memory`),
+    /// nothing changes.
     pub fn abbreviate(&mut self, name: &[u8], sort: Tree<'_>) -> Result<(), TermFault>
-        ensures abbreviated { OnOk result ((s : Signature) → StandsFor self.old s → (found : Sort)
+        ensures abbreviated { OnOk result ((s : Signature) → StandsFor self.old s → (found : NamedSort)
             × (abbreviated_in (sort_names_of s) name.now (sexp_of sort.entry) ≡ Ok found)
             × StandsFor self.new (with_abbreviation s name.now found)) }
         ensures refused { IfErr result (λ fault. (s : Signature) → StandsFor self.old s
@@ -252,10 +255,10 @@ impl Library<'_> {
     /// Declares a sort by the command of this number, from 1 (SMT-LIB 2.6, section 4.2.3, `declare-sort` without
     /// parameters). No other command declares the same sort, even by the same name.
     ///
-    /// It refuses a name that abbreviates a sort or is that of one, `Bool` and `Int` (`NotFresh`). Then, and where
-    /// memory is refused (`Memory`), nothing changes.
+    /// It refuses a name that stands for a sort, `Bool` and `Int`, in the wide profile also `Real` and `Array`
+    /// (`NotFresh`). Then, and where memory is refused (`Memory`), nothing changes.
     pub fn declare_sort(&mut self, command: u32, name: &[u8]) -> Result<(), TermFault>
-        ensures declared { OnOk result ((s : Signature) → StandsFor self.old s → (found : Sort)
+        ensures declared { OnOk result ((s : Signature) → StandsFor self.old s → (found : NamedSort)
             × (sort_declared_in (sort_names_of s) command name.now ≡ Ok found)
             × StandsFor self.new (with_abbreviation s name.now found)) }
         ensures refused { IfErr result (λ fault. (s : Signature) → StandsFor self.old s

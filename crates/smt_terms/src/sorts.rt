@@ -5,15 +5,16 @@ ghost use Rattle.std.specs.Str.Parse.{digits_value};
 ghost use Rattle.smt_trees.specs.View.{sexp_of, sexps_of};
 ghost use Rattle.smt_theory.specs.Sort.{is_same_sort};
 ghost use Rattle.smt_theory.specs.Width.{width_of};
-ghost use Rattle.smt_theory.specs.Words.{look_up};
+ghost use Rattle.smt_theory.specs.Words.{look_up, result_and_then};
+ghost use Rattle.smt_terms.specs.Freshness as freshness;
 ghost use Rattle.smt_terms.specs.Freshness.{is_sort_taken};
 ghost use Rattle.smt_terms.specs.Declarations.{abbreviated_in, sort_declared_in};
-ghost use Rattle.smt_forms.specs.ElementNames.{begins_at};
 ghost use Rattle.smt_terms.specs.Elements as elements;
 ghost use Rattle.smt_terms.specs.SortTrees.{sort_named, sorts_named};
 ghost use Rattle.smt_faults.specs.Outcome.{IsOutcome, Tells};
 ghost use Rattle.smt_terms.specs.SortTrees as sorts;
 
+use crate::named_sort::NamedSort;
 use smt_faults::{TermFault, TermFlaw};
 use smt_forms::{are_indexes, sort_of_element};
 use smt_names::NameMap;
@@ -21,17 +22,18 @@ use smt_theory::{Sort, Theories, Width, number};
 use smt_trees::{Tree, Trees, Word};
 use std::alloc::Global;
 
-/// The names of sorts: theories, and abbreviations (SMT-LIB 2.6, sections 3.5 and 4.2.3) in the order of their
-/// definition. No name is an abbreviation twice.
+/// The names of sorts: theories, and declared sorts and abbreviations (SMT-LIB 2.6, sections 3.5 and 4.2.3) in the
+/// order of their commands. No name is there twice.
 #[derive(Drop)]
 pub(crate) struct SortNames {
     pub(crate) theories: Theories,
-    pub(crate) abbreviations: NameMap<Sort>,
+    pub(crate) abbreviations: NameMap<NamedSort>,
 }
 
 impl SortNames {
     ghost use Rattle.smt_terms.specs.Internal.LibraryView.{abbreviations_of, sort_names};
     ghost use Rattle.smt_theory.specs.declared.sort.Sort.{Sort};
+    ghost use Rattle.smt_terms.specs.declared.named_sort.NamedSort.{NamedSort};
 
     /// The names of sorts in these theories, without abbreviations.
     pub(crate) fn new(alloc: Global, theories: Theories) -> Self
@@ -78,8 +80,9 @@ impl SortNames {
         tree: Tree<'_>,
     ) -> Result<(), TermFault>
         ensures abbreviated { OnOk result
-            ((sort : Sort) × (abbreviated_in (sort_names self.old) name.now (sexp_of tree.entry) ≡ Ok sort)
-            × (abbreviations_of self.new ≡ abbreviations_of self.old ++ (name.now, sort) ∷ [])) }
+            ((named : NamedSort)
+            × (abbreviated_in (sort_names self.old) name.now (sexp_of tree.entry) ≡ Ok named)
+            × (abbreviations_of self.new ≡ abbreviations_of self.old ++ (name.now, named) ∷ [])) }
         ensures refused { IfErr result
             (λ fault. Tells (abbreviated_in (sort_names self.old) name.now (sexp_of tree.entry)) fault) }
         ensures unchanged { OnErr result (abbreviations_of self.new ≡ abbreviations_of self.old) }
@@ -89,15 +92,19 @@ impl SortNames {
             return Err(TermFault::NotFresh);
         }
         let sort = self.sort_of(tree)?;
-        Ok(self.abbreviations.insert(name, sort)?)
+        let named = NamedSort {
+            sort,
+            is_declared: false,
+        };
+        Ok(self.abbreviations.insert(name, named)?)
     }
 
     /// Makes a name that of the sort that the command of this number declares. It refuses a name that is already
     /// that of a sort. On any error it changes nothing.
     pub(crate) fn declare(&mut self, command: u32, name: &[u8]) -> Result<(), TermFault>
         ensures declared { OnOk result
-            ((sort : Sort) × (sort_declared_in (sort_names self.old) command name.now ≡ Ok sort)
-            × (abbreviations_of self.new ≡ abbreviations_of self.old ++ (name.now, sort) ∷ [])) }
+            ((named : NamedSort) × (sort_declared_in (sort_names self.old) command name.now ≡ Ok named)
+            × (abbreviations_of self.new ≡ abbreviations_of self.old ++ (name.now, named) ∷ [])) }
         ensures refused { IfErr result
             (λ fault. Tells (sort_declared_in (sort_names self.old) command name.now) fault) }
         ensures unchanged { OnErr result (abbreviations_of self.new ≡ abbreviations_of self.old) }
@@ -106,10 +113,14 @@ impl SortNames {
         if self.is_taken(name) {
             return Err(TermFault::NotFresh);
         }
-        Ok(self.abbreviations.insert(name, Sort::Free(command))?)
+        let named = NamedSort {
+            sort: Sort::Free(command),
+            is_declared: true,
+        };
+        Ok(self.abbreviations.insert(name, named)?)
     }
 
-    /// The declared sort of which a symbol is an element, as solvers print elements.
+    /// The declared sort for whose elements such a symbol is a name, as solvers print elements.
     pub(crate) fn element_sort(&self, symbol: &[u8]) -> Option<Sort>
         ensures { result ≡ elements.element_sort (sort_names self.now) symbol.now }
     {
@@ -117,32 +128,23 @@ impl SortNames {
             return None;
         };
         match self.get(name) {
-            Some(sort) => if_free(sort),
+            Some(named) => if_declared(named),
             None => None,
         }
     }
 
-    /// The sort of `(as symbol sort)`, from the parts after the `as`; or what is wrong with it: `Unsupported` for
-    /// other parts and for a symbol that does not begin with `@`, the fault of the sort, or `IllSorted` for a sort
-    /// that no command declares.
-    pub(crate) fn qualified_sort(&self, parts: Trees<'_>) -> Result<Sort, TermFlaw>
-        ensures { result ≡ elements.qualified_in (sort_names self.now) (sexps_of parts.entry) }
+    /// The sort that a tree names, if a command declares it; or what is wrong with it: the fault of the tree, or
+    /// `IllSorted` for another sort.
+    pub(crate) fn declared_sort(&self, tree: Tree<'_>) -> Result<Sort, TermFlaw>
+        ensures { result ≡ result_and_then (sort_named (sort_names self.now) (sexp_of tree.entry))
+            (λ sort. elements.or_ill_sorted (elements.if_free sort)) }
     {
-        let Some((Tree::Symbol(symbol), rest)) = parts.split_first() else {
-            return Err(TermFlaw::Unsupported);
-        };
-        let Some((tree, rest)) = rest.split_first() else {
-            return Err(TermFlaw::Unsupported);
-        };
-        if rest.split_first().is_some() || !begins_at(symbol) {
-            return Err(TermFlaw::Unsupported);
-        }
         let sort = self.sort_of(tree)?;
         if_free(sort).ok_or(TermFlaw::IllSorted)
     }
 
-    // The sort that an abbreviation stands for.
-    fn get(&self, name: &[u8]) -> Option<Sort>
+    // What a name stands for that was declared or defined.
+    fn get(&self, name: &[u8]) -> Option<NamedSort>
         ensures { result ≡ look_up (abbreviations_of self.now) name.now }
     {
         self.abbreviations.get(name).copied()
@@ -152,19 +154,28 @@ impl SortNames {
     fn is_taken(&self, name: &[u8]) -> bool
         ensures { result ≡ is_sort_taken (sort_names self.now) name.now }
     {
-        is_named(name, b"Bool") || is_named(name, b"Int") || self.get(name).is_some()
+        is_theory_sort(self.theories.wide, name) || self.get(name).is_some()
     }
 
-    // The sort that a symbol names: that of an abbreviation, or else the sort of that name.
+    // The sort that a symbol names: that for which it stands, or else the sort of that name.
     fn sort_of_symbol(&self, name: &[u8]) -> Result<Sort, TermFlaw>
         ensures { result ≡ sorts.sort_of_symbol (sort_names self.now).theories name.now
             (look_up (abbreviations_of self.now) name.now) }
     {
         match self.get(name) {
-            Some(sort) => Ok(sort),
+            Some(named) => Ok(named.sort),
             None => sort_of_word(self.theories, name),
         }
     }
+}
+
+// Whether a name is that of a sort of the theories that a profile knows.
+fn is_theory_sort(wide: bool, name: &[u8]) -> bool
+    ensures { result ≡ freshness.is_theory_sort wide name.now }
+{
+    is_named(name, b"Bool")
+        || is_named(name, b"Int")
+        || wide && (is_named(name, b"Real") || is_named(name, b"Array"))
 }
 
 // The sort of a symbol that is no abbreviation.
@@ -262,6 +273,17 @@ fn numeral_width(digits: &[u8]) -> Option<Width>
     }
 }
 
+// The sort that a command declares by this very name, if one does.
+fn if_declared(named: NamedSort) -> Option<Sort>
+    ensures { result ≡ elements.if_declared named }
+{
+    if named.is_declared {
+        if_free(named.sort)
+    } else {
+        None
+    }
+}
+
 // The sort, if a command declared it.
 fn if_free(sort: Sort) -> Option<Sort>
     ensures { result ≡ elements.if_free sort }
@@ -269,16 +291,6 @@ fn if_free(sort: Sort) -> Option<Sort>
     match sort {
         Sort::Free(_) => Some(sort),
         _ => None,
-    }
-}
-
-// Whether a symbol begins with `@`, as those do that solvers may give to elements.
-fn begins_at(symbol: &[u8]) -> bool
-    ensures { result ≡ begins_at symbol.now }
-{
-    match symbol {
-        [first, ..] => *first == b'@',
-        [] => false,
     }
 }
 

@@ -1,5 +1,5 @@
 -- How a reader's value goes on with the text.
-use Rattle.std.proofs.Common.{◌≡◌, ◌≢◌, ◌⊎◌, ◌<◌, ◌+◌, ℕ, List, [], ◌∷◌, ◌++◌, length, drop, take, reverse}
+use Rattle.std.proofs.Common.{◌≡◌, ◌≢◌, ◌⊎◌, ◌<◌, ◌+◌, ℕ, List, [], ◌∷◌, ◌++◌, length, drop, take}
 use Rattle.std.proofs.Common.{get_or, Option, Some, None, Result, Ok, Err, is_some, Bool, true, false, cond}
 use Rattle.std.proofs.Common.{ltb, refl, sym, ap, ◌∙◌, inl, inr, arith, subst}
 use Rattle.std.specs.Result.{result_err}

@@ -28,7 +28,7 @@ use Rattle.smt_text.specs.Internal.LexerStates.{go_on, run}
 use Rattle.smt_text.specs.Reading.{IsClosed, EndsClosed}
 use Rattle.smt_trees.specs.Reserved.{all_words}
 use Rattle.smt_trees.specs.Sexp as sexp
-use Rattle.smt_trees.specs.Sexp.{Sexp, Sexps, Atom, Reserved, Items, Nil, Cons, append, depth, depth_all}
+use Rattle.smt_trees.specs.Sexp.{Sexps, Atom, Reserved, Nil, append}
 use Rattle.smt_text.specs.declared.lexer.AtomState.{AtomState}
 use Rattle.smt_text.specs.declared.lexer.AtomState.TheVariants.{Nothing, Zero, Digits, Point, Fraction, Hash}
 use Rattle.smt_text.specs.declared.lexer.AtomState.TheVariants.{HexMark, HexDigits, BinMark, BinDigits, Name}

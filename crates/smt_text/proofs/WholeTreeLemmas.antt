@@ -18,7 +18,7 @@ use Rattle.smt_text.specs.Internal.LexerStates.{settle, separated, move, may_end
 use Rattle.smt_text.specs.Internal.LexerStates.{top_of, complete_of}
 use Rattle.smt_text.specs.Reading.{IsClosed, EndsClosed, IsFollowed, AreSettled, AreComplete}
 use Rattle.smt_trees.specs.Sexp as sexp
-use Rattle.smt_trees.specs.Sexp.{Sexp, Sexps, Atom, Items, Nil, Cons, append, depth_all}
+use Rattle.smt_trees.specs.Sexp.{Sexp, Sexps, Atom, Items, Nil, Cons, append}
 use Rattle.smt_text.specs.declared.lexer.AtomState.{AtomState}
 use Rattle.smt_text.specs.declared.lexer.AtomState.TheVariants.{Nothing, InBars, AfterBar, InComment}
 use Rattle.smt_text.specs.declared.lexer.LexerStep.TheVariants.{Push, Skip, Finish, Open, Close, Stuck}

@@ -52,10 +52,10 @@ theories_by letters =
     }
 
 -- these letters, with the names of their logics but for a QF_ at the front: that a term has no quantifier is
--- asked of the term. Declared sorts and datatypes, UF and DT, are no theory
+-- asked of the term. Declared sorts and datatypes, UF and DT, are no theory; SAT is of Core alone
 abbrev pub wide_logics : List (List ℕ × List (List ℕ))
 wide_logics =
-    (codes "", codes "UF" ∷ codes "DT" ∷ codes "UFDT" ∷ [])
+    (codes "", codes "UF" ∷ codes "DT" ∷ codes "UFDT" ∷ codes "SAT" ∷ [])
     ∷ (
       codes "I",
       codes "IDL" ∷ codes "LIA" ∷ codes "NIA" ∷ codes "UFIDL" ∷ codes "UFLIA"

@@ -68,9 +68,12 @@ fn theories_by(letters: &[u8]) -> Theories
 
 fn is_of_core(name: &[u8]) -> bool
     ensures { result ≡ list_any (bytes_eq name.now) (codes "UF" ∷ codes "DT" ∷ codes "UFDT"
-        ∷ []) }
+        ∷ codes "SAT" ∷ []) }
 {
-    is_named(name, b"UF") || is_named(name, b"DT") || is_named(name, b"UFDT")
+    is_named(name, b"UF")
+        || is_named(name, b"DT")
+        || is_named(name, b"UFDT")
+        || is_named(name, b"SAT")
 }
 
 fn is_of_ints(name: &[u8]) -> bool

@@ -6,7 +6,7 @@ use Rattle.smt_values.specs.KnownOperations.{as_disjunction, decided, is_known}
 use Rattle.smt_values.specs.Lists.{are_chained}
 use Rattle.smt_values.specs.Operations.{is_same}
 
-two_parts : (x y : Bool) → Truth (x && y) ≡ Truth ((x && true) && (y && true))
+pub two_parts : (x y : Bool) → Truth (x && y) ≡ Truth ((x && true) && (y && true))
 two_parts true true = refl
 two_parts true false = refl
 two_parts false y = refl

@@ -9,3 +9,8 @@ pub mod MeaningLemmas
 pub mod SortLemmas
 pub mod ConnectiveLemmas
 pub mod NameLemmas
+pub mod ReadingLemmas
+pub mod RoundingLemmas
+pub mod PairLemmas
+pub mod IntegerLemmas
+pub mod ConstantLemmas

@@ -7,3 +7,4 @@ pub mod Operations
 pub mod KnownBitOperations
 pub mod KnownOperations
 pub mod Internal
+pub mod Readings

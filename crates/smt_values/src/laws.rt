@@ -2,8 +2,14 @@
 //! body calls only the laws that it rests on.
 
 pub mod connectives;
+pub mod integers;
 pub mod known;
+pub mod literals;
+pub mod names;
 pub mod numbers;
+pub mod places;
+pub mod signed_vectors;
+pub mod vectors;
 
 ghost use Rattle.std.specs.Prelude.{◌≡◌, ◌≢◌, not, ℕ, ◌≤ℤ◌, ◌<ℤ◌, ℤ, pos, ◌+ℤ◌, ◌*ℤ◌, unsigned_abs, All};
 ghost use Rattle.std.specs.Prelude.{IsSome, List, map, Option, Some};

@@ -5,7 +5,7 @@ ghost use Rattle.std.specs.Prelude.{◌<◌, ◌-◌, ◌^◌};
 use crate::hints::{Hint, confirmed};
 use crate::recorded::Recorded;
 use crate::watched::Watched;
-use smt_dialogue::{Limit, Line, Options, RunFault, Verdict};
+use smt_dialogue::{Limit, Line, Options, Profile, RunFault, Verdict};
 use smt_explain::{Texts, explain};
 use smt_streams::{Device, Source, put_all};
 use smtcheck_command_line::Settings;
@@ -52,8 +52,11 @@ pub(crate) fn run<R: Files + AllocGlobal + Print>(
     Ok(ran)
 }
 
-// The hint, if the beginnings of both files agree with it.
+// The hint, if the profile and the beginnings of both files agree with it.
 fn hint_for<R: Files + AllocGlobal>(rt: &R, hint: Hint, settings: Settings) -> Option<Hint> {
+    if hint == Hint::Labels && matches!(settings.profile, Profile::Wide) {
+        return None;
+    }
     let script = beginning(rt, settings.script);
     let answers = beginning(rt, settings.answers);
     confirmed(

@@ -15,8 +15,9 @@
  *    its size.
  *
  * A call keeps no pointer that it is given, so any number of threads may call at a time; a session stays on the thread
- * that began it. A call uses the machine's stack for lists inside other lists, which may be 1,000 deep: 3 MB of stack
- * are enough. Nothing checks it, and a stack that is too small ends the process by a signal.
+ * that began it. A call uses the machine's stack for lists inside other lists, which may be 1,000 deep, and
+ * smtcheck_explain also for definitions inside other definitions, with these at most 1,100 deep: 3 MB of stack are
+ * enough. Nothing checks it, and a stack that is too small ends the process by a signal.
  */
 #ifndef SMTCHECK_H
 #define SMTCHECK_H
@@ -32,7 +33,8 @@ extern "C" {
 /* What a call returns. The first four are verdicts, and are the program's exit statuses. */
 enum smtcheck_outcome {
     /* Every `sat` is confirmed: the solver printed a model for it, and each such model makes every assertion in force
-       and every assumption of its `check-sat-assuming` true. The verdict says nothing of the other answers. */
+       and every assumption of its `check-sat-assuming` true. In the profile `wide`, items that repeat the script's
+       definitions or tell of declared sorts are no part of a model. The verdict says nothing of the other answers. */
     SMTCHECK_VALID = 0,
     /* Some model that the solver printed for a `sat` makes an assertion in force false, or an assumption of its
        `check-sat-assuming`. */
@@ -154,7 +156,7 @@ void smtcheck_session_free(struct smtcheck_session *session);
 
 /*
  * Writes the version of the library, and the toolchain that proved it, as `smtcheck --version` prints them after the
- * program's name: `0.8.0 (rattle-kit-13f ..)`.
+ * program's name: `0.8.1 (rattle-kit-13f ..)`.
  *
  * It returns the length of that text in bytes. The text has no byte 0. If it has at most `room` bytes, the first bytes
  * at `text` are the text, and those after it stay as they were; if it has more, all stay as they were.

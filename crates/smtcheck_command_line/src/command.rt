@@ -18,7 +18,7 @@ use smt_theory::Profile;
 use std::alloc::{AllocError, Global};
 
 /// The version of the program and the kit that proves it, which `--version` prints after the program's name.
-const VERSION: &str = "0.8.0 (rattle-kit-13f logic dac8208d650f15bf)";
+const VERSION: &str = "0.8.1 (rattle-kit-13f logic dac8208d650f15bf)";
 
 const ABOUT: &str = "Checks the models that an SMT solver printed.
 
@@ -39,8 +39,9 @@ const PROFILE: &str = "Which language is taken; docs/LANGUAGE.md has both.
 
 base: scripts over truth values, integers and bit vectors, in the forms of SMT-LIB 2.6
 wide: the same, and forms that real scripts and models have besides: (push) and (pop) without a numeral, \
-define-const, terms as assumptions, the names of more logics, `unsupported` as answer to set-logic, and items of \
-a model that repeat a label or a definition of the script, as z3 prints them";
+define-const, declare-sort, terms as assumptions, the names of more logics, `unsupported` as answer to a set-logic \
+of another name, and items of a model that repeat a label or a definition of the script or tell of declared sorts, \
+as z3 prints them";
 
 const STEPS: &str =
     "How many steps the evaluation of a model may take, from 0 to 18446744073709551614. All assertions in \

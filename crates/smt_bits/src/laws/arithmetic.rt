@@ -1,9 +1,10 @@
 //! Laws of the arithmetic modulo powers of two. Nothing here does anything.
 
-ghost use Rattle.std.specs.Prelude.{◌≡◌, ◌≢◌, ℕ, ◌+◌, ◌*◌, ◌^◌, ◌<◌, pos, ◌<ℤ◌, ◌≤ℤ◌};
+ghost use Rattle.std.specs.Prelude.{◌≡◌, ◌≢◌, ℕ, ◌+◌, ◌*◌, ◌^◌, ◌<◌, pos, neg_ℤ, ◌+ℤ◌, ◌-ℤ◌, ◌*ℤ◌, ◌<ℤ◌, ◌≤ℤ◌};
 ghost use Rattle.smt_bits.specs.BitVector.{signed};
 ghost use Rattle.smt_bits.specs.Operators.{bvadd, bvashr, bvlshr, bvmul, bvneg, bvnot, bvsdiv, bvshl, bvsmod};
 ghost use Rattle.smt_bits.specs.Operators.{bvsrem, bvsub, bvudiv, bvurem};
+ghost use Rattle.smt_bits.specs.Readings.{IsModulo};
 
 /// The negative is the complement plus one.
 pub fn negation_is_the_complement_and_one()
@@ -13,6 +14,17 @@ pub fn negation_is_the_complement_and_one()
 /// Subtracting what was added gives back the first number.
 pub fn subtraction_undoes_addition()
     ensures { (m s t : ℕ) → s < 2 ^ m → t < 2 ^ m → bvsub m (bvadd m s t) t ≡ s }
+{}
+
+/// The negative, the sum, the difference and the product are those of integers, modulo 2^m: numbers of m bits
+/// that differ from them by a multiple of 2^m. A shift to the left by t multiplies by 2^t (SMT-LIB 2.6, theory
+/// FixedSizeBitVectors and logic QF_BV).
+pub fn results_are_modulo_powers_of_two()
+    ensures neg { (m s : ℕ) → s < 2 ^ m → IsModulo m (neg_ℤ (pos s)) (bvneg m s) }
+    ensures add { (m s t : ℕ) → IsModulo m (pos s +ℤ pos t) (bvadd m s t) }
+    ensures sub { (m s t : ℕ) → s < 2 ^ m → t < 2 ^ m → IsModulo m (pos s -ℤ pos t) (bvsub m s t) }
+    ensures mul { (m s t : ℕ) → IsModulo m (pos s *ℤ pos t) (bvmul m s t) }
+    ensures shl { (m s t : ℕ) → IsModulo m (pos s *ℤ pos (2 ^ t)) (bvshl m s t) }
 {}
 
 /// Where the divisor is not 0, `bvudiv` and `bvurem` are the one quotient and the one remainder with `s = q *

@@ -1,7 +1,8 @@
 //! Laws of the shifts, bit by bit. Nothing here does anything.
 
-ghost use Rattle.std.specs.Prelude.{◌≡◌, ℕ, ◌+◌, ◌-◌, ◌^◌, ◌<◌, ◌≤◌};
+ghost use Rattle.std.specs.Prelude.{◌≡◌, ℕ, ◌+◌, ◌-◌, ◌^◌, ◌<◌, ◌≤◌, pos, ◌+ℤ◌, ◌*ℤ◌, ◌<ℤ◌, ◌≤ℤ◌};
 ghost use Rattle.std.specs.Int.{bit_at};
+ghost use Rattle.smt_bits.specs.BitVector.{signed};
 ghost use Rattle.smt_bits.specs.Operators.{bvashr, bvlshr, bvshl};
 
 /// A shift to the left by t moves the bit at place k to place t + k, and leaves zeros below place t.
@@ -24,4 +25,12 @@ pub fn arithmetic_shifts_keep_the_sign()
         → bit_at (bvashr m s t) k ≡ bit_at s (m - 1) }
     ensures all_zeros { (m s t : ℕ) → s < 2 ^ m → m ≤ t → bit_at s (m - 1) ≡ 0 → bvashr m s t ≡ 0 }
     ensures all_ones { (m s t : ℕ) → s < 2 ^ m → m ≤ t → bit_at s (m - 1) ≡ 1 → bvashr m s t ≡ 2 ^ m - 1 }
+{}
+
+/// Read as signed, an arithmetic shift to the right by t divides by 2^t and rounds down.
+pub fn arithmetic_shifts_round_down()
+    ensures low { (m s t : ℕ) → 1 ≤ m → s < 2 ^ m
+        → (signed m (bvashr m s t) *ℤ pos (2 ^ t)) ≤ℤ signed m s }
+    ensures high { (m s t : ℕ) → 1 ≤ m → s < 2 ^ m
+        → signed m s <ℤ ((signed m (bvashr m s t) +ℤ pos 1) *ℤ pos (2 ^ t)) }
 {}

@@ -1,11 +1,14 @@
 //! Laws of single commands: what a check assumes, and which commands are checks or change what is in force.
 //! Nothing here does anything.
 
-ghost use Rattle.std.specs.Prelude.{◌≡◌, ◌≢◌, ◌==◌, ℕ, List, [], ◌∷◌, Bool, true, false, Ok, Err, Option, All, codes};
+ghost use Rattle.std.specs.Prelude.{◌≡◌, ◌≢◌, ◌↔◌, ◌==◌, ℕ, List, [], ◌∷◌, Bool, true, false, Ok, Err, Option, Some};
+ghost use Rattle.std.specs.Prelude.{All, codes};
 ghost use Rattle.std.specs.Str.Parse.{digits_value};
 ghost use Rattle.smt_faults.specs.declared.command_flaw.CommandFlaw.TheVariants.{Form, Unsupported};
+ghost use Rattle.smt_theory.specs.Theories.{theories_named};
 ghost use Rattle.smt_theory.specs.declared.profile.Profile.{Profile};
 ghost use Rattle.smt_theory.specs.declared.profile.Profile.TheVariants.{Base, Wide};
+ghost use Rattle.smt_theory.specs.declared.theories.Theories.{Theories};
 ghost use Rattle.smt_trees.specs.Sexp.{Sexp, Sexps, Atom, Cons, Items, Nil, Numeral, Reserved, Symbol};
 ghost use Rattle.smt_trees.specs.declared.reserved.Word.TheVariants as words;
 ghost use Rattle.smt_script.specs.Command.{Assert, CheckSat, CheckSatAssuming, Command, DeclareConst};
@@ -13,9 +16,10 @@ ghost use Rattle.smt_script.specs.Command.{DeclareFun, DeclareSort, DefineFun, D
 ghost use Rattle.smt_script.specs.Command.{GetModel, Pop};
 ghost use Rattle.smt_script.specs.Command.{Push, Query, Reset, ResetAssertions, SetGlobalDeclarations};
 ghost use Rattle.smt_script.specs.Command.{SetInfo, SetLogic, SetOption, SetPrintSuccess, closes_window};
-ghost use Rattle.smt_script.specs.Command.{command_of, is_check};
+ghost use Rattle.smt_script.specs.Command.{command_of, is_check, kind_of};
 ghost use Rattle.smt_script.specs.Parts.{are_literals};
 ghost use Rattle.smt_script.specs.Stack.{literals_of};
+ghost use Rattle.smt_script.specs.declared.command.Kind.TheVariants as kinds;
 
 /// The literals of a `check-sat-assuming` are those of its list, one by one; no other command assumes any
 /// (SMT-LIB 2.6, section 4.2.5).
@@ -40,6 +44,12 @@ pub fn commands_are_checks_or_changes()
         → All (λ c. (is_check c ≡ false) × (closes_window c ≡ false))
         (SetPrintSuccess on ∷ SetGlobalDeclarations on ∷ SetOption x value ∷ SetInfo x value ∷ Exit
         ∷ GetModel ∷ Echo x ∷ Get query ∷ []) }
+{}
+
+/// The kind of a command that sets a logic says whether the profile Wide has a logic of that name.
+pub fn known_logics_are_those_of_wide()
+    ensures { (name : List ℕ) → (kind_of (SetLogic name) ≡ kinds.Logic true)
+        ↔ ((theories : Theories) × (theories_named Wide name ≡ Some theories)) }
 {}
 
 /// These lists are reported as unsupported, and not as ill formed: a command of datatypes or of recursive functions,

@@ -381,7 +381,7 @@ fn is_ended_by(kind: Kind) -> bool
     ensures { result ≡ (commands.asks_check kind || commands.changes_force kind) }
 {
     match kind {
-        Kind::Check | Kind::Logic | Kind::Change | Kind::Reset => true,
+        Kind::Check | Kind::Logic { .. } | Kind::Change | Kind::Reset => true,
         Kind::PrintSuccess { .. } | Kind::Setting | Kind::Exit => false,
         Kind::Model | Kind::Echo | Kind::Query => false,
     }
@@ -403,7 +403,7 @@ fn is_set_after(set: bool, kind: Kind) -> bool
     ensures { result ≡ stack.is_set_by set kind }
 {
     match kind {
-        Kind::Logic => true,
+        Kind::Logic { .. } => true,
         Kind::Reset => false,
         Kind::PrintSuccess { .. } | Kind::Setting | Kind::Change => set,
         Kind::Exit | Kind::Check | Kind::Model | Kind::Echo | Kind::Query => set,
@@ -417,7 +417,7 @@ fn is_late_after(late: bool, kind: Kind) -> bool
     match kind {
         Kind::Reset => false,
         Kind::Change | Kind::Check => true,
-        Kind::Logic | Kind::PrintSuccess { .. } | Kind::Setting => late,
+        Kind::Logic { .. } | Kind::PrintSuccess { .. } | Kind::Setting => late,
         Kind::Exit | Kind::Model | Kind::Echo | Kind::Query => late,
     }
 }
@@ -430,7 +430,7 @@ fn print_success_after(initial: bool, before: bool, kind: Kind) -> bool
     match kind {
         Kind::PrintSuccess { on } => on,
         Kind::Reset => initial,
-        Kind::Logic | Kind::Setting | Kind::Change => before,
+        Kind::Logic { .. } | Kind::Setting | Kind::Change => before,
         Kind::Exit | Kind::Check | Kind::Model | Kind::Echo | Kind::Query => before,
     }
 }

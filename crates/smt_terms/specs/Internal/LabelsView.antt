@@ -5,8 +5,7 @@ use Rattle.smt_trees.specs.View.{sexp_of}
 use Rattle.smt_theory.specs.Words.{look_up}
 use Rattle.smt_terms.specs.Checking.{sort_in}
 use Rattle.smt_terms.specs.Definitions.{definition}
-use Rattle.smt_terms.specs.Elements.{element_among}
-use Rattle.smt_terms.specs.SortTrees.{SortNames}
+use Rattle.smt_terms.specs.Elements.{ElementNames, element_among}
 use Rattle.smt_terms.specs.Labels as spec
 use Rattle.smt_terms.specs.Signature.{Entry, Names, Rank, rank_of_entry, unlabelled}
 use Rattle.smt_terms.specs.declared.labels.Label.{Label}
@@ -38,7 +37,7 @@ abbrev pub label_entry : Label → Entry
 label_entry l = definition l.name.items [] l.sort (sexp_of l.body)
 
 -- the name of each label stands for nothing, behind those before it, and is no element's
-abbrev pub AreNew : Option SortNames → List (List ℕ × Rank) → List Label → Type 0
+abbrev pub AreNew : Option ElementNames → List (List ℕ × Rank) → List Label → Type 0
 AreNew elements ranks [] = Unit {0}
 AreNew elements ranks (l ∷ ls) =
     (look_up ranks l.name.items ≡ None) × (element_among elements l.name.items ≡ None)

@@ -16,7 +16,7 @@ ghost use Rattle.smt_forms.specs.Labels.{labels_among, labels_in, labels_in_bind
 ghost use Rattle.smt_forms.specs.Variables.{uses_variable};
 ghost use Rattle.smt_terms.specs.Checking.{bound_in, sort_in, sorts_in};
 ghost use Rattle.smt_terms.specs.Definitions.{parameters_named};
-ghost use Rattle.smt_terms.specs.Freshness.{is_element_in, is_taken};
+ghost use Rattle.smt_terms.specs.Freshness.{is_element_name, is_taken};
 ghost use Rattle.smt_terms.specs.Items.{has_rank_of, is_set_aside, item_by};
 ghost use Rattle.smt_terms.specs.Labels.{Given, Refused};
 ghost use Rattle.smt_terms.specs.Signature.{Entry, Names, Rank, Signature, behind, declared_named, entry_named};
@@ -107,8 +107,8 @@ pub fn annotations_are_checked_after_their_form()
 {}
 
 /// In an item that is not set aside the faults of its name come first, then those of its parameters, its sort and its
-/// rank (SMT-LIB 2.6, section 4.2.6). The first fault of a name is that an earlier item has it. The next is that items
-/// may name an element so, or that the script does not declare it and that it is in use or a plain operator's.
+/// rank (SMT-LIB 2.6, section 4.2.6). The first fault of a name is that an earlier item has it. The next is that it
+/// has the form of an element's, or that the script does not declare it and that it is in use or a plain operator's.
 pub fn items_are_checked_from_the_left()
     ensures twice { (script : Signature) (earlier : List Entry) (form : ItemForm)
         → is_set_aside script form.name ≡ false → is_some (entry_named earlier form.name) ≡ true
@@ -119,23 +119,23 @@ pub fn items_are_checked_from_the_left()
         → item_by script earlier form ≡ Err NotFresh }
     ensures element { (script : Signature) (earlier : List Entry) (form : ItemForm)
         → is_set_aside script form.name ≡ false → entry_named earlier form.name ≡ None
-        → is_element_in script form.name ≡ true → item_by script earlier form ≡ Err NotFresh }
+        → is_element_name script form.name ≡ true → item_by script earlier form ≡ Err NotFresh }
     ensures parameters { (script : Signature) (earlier : List Entry) (form : ItemForm) (e : Entry) (flaw : TermFlaw)
         → is_set_aside script form.name ≡ false → entry_named earlier form.name ≡ None
-        → is_element_in script form.name ≡ false → declared_named script.entries form.name ≡ Some e
+        → is_element_name script form.name ≡ false → declared_named script.entries form.name ≡ Some e
         → parameters_named (sort_names_of script) [] form.parameters ≡ Err flaw
         → item_by script earlier form ≡ Err flaw }
     ensures sort { (script : Signature) (earlier : List Entry) (form : ItemForm) (e : Entry)
         (parameters : List (List ℕ × Sort)) (flaw : TermFlaw)
         → is_set_aside script form.name ≡ false → entry_named earlier form.name ≡ None
-        → is_element_in script form.name ≡ false → declared_named script.entries form.name ≡ Some e
+        → is_element_name script form.name ≡ false → declared_named script.entries form.name ≡ Some e
         → parameters_named (sort_names_of script) [] form.parameters ≡ Ok parameters
         → sort_named (sort_names_of script) form.sort ≡ Err flaw
         → item_by script earlier form ≡ Err flaw }
     ensures rank { (script : Signature) (earlier : List Entry) (form : ItemForm) (e : Entry)
         (parameters : List (List ℕ × Sort)) (sort : Sort)
         → is_set_aside script form.name ≡ false → entry_named earlier form.name ≡ None
-        → is_element_in script form.name ≡ false → declared_named script.entries form.name ≡ Some e
+        → is_element_name script form.name ≡ false → declared_named script.entries form.name ≡ Some e
         → parameters_named (sort_names_of script) [] form.parameters ≡ Ok parameters
         → sort_named (sort_names_of script) form.sort ≡ Ok sort
         → has_rank_of (Some e) (map (λ p. p.1) parameters) sort ≡ false

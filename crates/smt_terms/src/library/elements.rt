@@ -1,7 +1,9 @@
 //! Elements of declared sorts, as terms of a model name them. A library for a script has none. This file knows no
 //! items.
 
-ghost use Rattle.std.specs.Prelude.{◌≡◌, [], Ok, Some, None, is_some, MatchOption, IfSome, IfOk, false, option_map};
+ghost use Rattle.std.specs.Prelude.{◌≡◌, ◌&&◌, [], Ok, Some, None, is_some, MatchOption, IfSome, IfOk, false};
+ghost use Rattle.std.specs.Prelude.{option_map};
+ghost use Rattle.smt_forms.specs.ElementNames as forms;
 ghost use Rattle.smt_forms.specs.ElementNames.{qualified_symbol};
 ghost use Rattle.smt_forms.specs.Identifier.{Plain};
 ghost use Rattle.smt_nodes.specs.Node.{Element};
@@ -13,16 +15,18 @@ ghost use Rattle.smt_theory.specs.Words.{look_up};
 ghost use Rattle.smt_faults.specs.Outcome.{IsOutcome};
 ghost use Rattle.smt_terms.specs.Checking.{sort_alone, sort_applied};
 ghost use Rattle.smt_terms.specs.Denotes.{node_alone};
-ghost use Rattle.smt_terms.specs.Elements.{element_among, qualified_sort};
+ghost use Rattle.smt_terms.specs.Elements as elements;
+ghost use Rattle.smt_terms.specs.Elements.{element_among, qualified_in, qualified_sort};
 ghost use Rattle.smt_terms.specs.Freshness as freshness;
-ghost use Rattle.smt_terms.specs.Internal.LibraryView.{elements_lent, names_of_library, sort_names};
+ghost use Rattle.smt_terms.specs.Internal.LibraryView.{element_names, elements_lent, names_of_library};
+ghost use Rattle.smt_terms.specs.Internal.LibraryView.{sort_names};
 ghost use Rattle.smt_terms.specs.Internal.NodesView.{AddsAlone, AddsNode, GrowsTo, Stands};
 ghost use Rattle.smt_terms.specs.Internal.TableView.{table_of};
 
 use crate::library::Library;
 use crate::library::draft::{CheckedTerm, Draft};
+use crate::library::element_names::ElementNames;
 use crate::library::freshness::is_operator;
-use crate::sorts::SortNames;
 use smt_faults::{Memory, TermFault, TermFlaw};
 use smt_nodes::Node;
 use smt_theory::Sort;
@@ -107,34 +111,38 @@ impl Library<'_> {
         ensures { result ≡ element_among (names_of_library self.now).elements name.now }
     {
         match &self.elements {
-            Some(sorts) => sorts.element_sort(name),
+            Some(elements) => elements.element_sort(name),
             None => None,
         }
     }
 
-    // Whether terms may name an element so.
+    // Whether terms may name an element so, alone or behind an `as`.
     pub(super) fn is_element(&self, name: &[u8]) -> bool
         ensures { result ≡ freshness.is_element (names_of_library self.now) name.now }
     {
-        self.element_sort(name).is_some()
-    }
-
-    // Whether items of models of this library's names may name an element so.
-    pub(super) fn lends_element(&self, name: &[u8]) -> bool
-        ensures { result ≡ is_some (element_among (elements_lent self.now) name.now) }
-    {
-        match self.lent() {
-            Some(sorts) => sorts.element_sort(name).is_some(),
+        match &self.elements {
+            Some(elements) => begins_at(name) || elements.element_sort(name).is_some(),
             None => false,
         }
     }
 
-    // The sorts whose elements items of models of this library's names may name: in the wide profile its own.
-    pub(super) fn lent(&self) -> Option<&SortNames>
-        ensures { option_map (λ sorts. sort_names sorts.now) result ≡ elements_lent self.now }
+    // Whether a name has the form of those of elements of this library's sorts, in the wide profile.
+    pub(super) fn is_element_name(&self, name: &[u8]) -> bool
+        ensures { result ≡ (self.now.sorts.theories.wide
+            && is_some (elements.element_sort (sort_names self.now.sorts) name.now)) }
+    {
+        self.sorts.theories.wide && self.sorts.element_sort(name).is_some()
+    }
+
+    // What items of models of this library's names may name elements by: in the wide profile its sorts.
+    pub(super) fn lent(&self) -> Option<ElementNames<'_>>
+        ensures { option_map element_names result ≡ elements_lent self.now }
     {
         if self.sorts.theories.wide {
-            Some(&self.sorts)
+            Some(ElementNames {
+                sorts: &self.sorts,
+                names: &self.names,
+            })
         } else {
             None
         }
@@ -149,7 +157,8 @@ impl Library<'_> {
         around: u32,
     ) -> Result<CheckedTerm, TermFault>
         ensures sort { IsOutcome (λ c. c.sort)
-            (qualified_sort (names_of_library self.now).elements (sexps_of parts.entry)) result }
+            (qualified_sort (names_of_library self.now).elements (names_of_library self.now).ranks
+            (sexps_of parts.entry)) result }
         ensures open { IfOk result (λ c. c.is_open ≡ false) }
         ensures node { IfOk result (Stands self.now draft.old draft.new around
             (Items (Cons (Reserved As) (sexps_of parts.entry)))) }
@@ -168,12 +177,39 @@ impl Library<'_> {
 
     // The sort of `(as symbol sort)`, from the parts after the `as`, or its fault.
     fn sort_qualified(&self, parts: Trees<'_>) -> Result<Sort, TermFlaw>
-        ensures { result ≡ qualified_sort (names_of_library self.now).elements (sexps_of parts.entry) }
+        ensures { result ≡ qualified_sort (names_of_library self.now).elements (names_of_library self.now).ranks
+            (sexps_of parts.entry) }
     {
         match &self.elements {
-            Some(sorts) => sorts.qualified_sort(parts),
+            Some(elements) => self.sort_qualified_by(elements, parts),
             None => Err(TermFlaw::Unsupported),
         }
+    }
+
+    // The same, by what names elements: `Unsupported` for other parts and for a symbol that does not begin with `@`,
+    // `NotFresh` for a symbol that the script has or that is in force, the fault of the sort, or `IllSorted` for a sort
+    // that no command declares.
+    fn sort_qualified_by(
+        &self,
+        elements: &ElementNames<'_>,
+        parts: Trees<'_>,
+    ) -> Result<Sort, TermFlaw>
+        ensures { result ≡ qualified_in (element_names elements.now) (names_of_library self.now).ranks
+            (sexps_of parts.entry) }
+    {
+        let Some((Tree::Symbol(symbol), rest)) = parts.split_first() else {
+            return Err(TermFlaw::Unsupported);
+        };
+        let Some((tree, rest)) = rest.split_first() else {
+            return Err(TermFlaw::Unsupported);
+        };
+        if rest.split_first().is_some() || !begins_at(symbol) {
+            return Err(TermFlaw::Unsupported);
+        }
+        if elements.is_taken(symbol) || self.has_entry(symbol) {
+            return Err(TermFlaw::NotFresh);
+        }
+        elements.sorts.declared_sort(tree)
     }
 
     // Adds the node of an element of this sort.
@@ -195,6 +231,16 @@ impl Library<'_> {
         ensures arguments { draft.new.arguments ≡ draft.old.arguments }
     {
         draft.push(&self.nodes, &Node::Element(name), &sort, false, around)
+    }
+}
+
+// Whether a symbol begins with `@`, as those do that solvers may give to elements.
+fn begins_at(symbol: &[u8]) -> bool
+    ensures { result ≡ forms.begins_at symbol.now }
+{
+    match symbol {
+        [first, ..] => *first == b'@',
+        [] => false,
     }
 }
 

@@ -4,7 +4,7 @@
 ghost use Rattle.std.specs.Prelude.{◌≡◌, ◌||◌, is_some, None, Some, Ok, Err, MatchResult, OnOk, false};
 ghost use Rattle.smt_theory.specs.Operators.{is_plain_operator};
 ghost use Rattle.smt_theory.specs.Words.{look_up};
-ghost use Rattle.smt_terms.specs.Freshness.{is_element_in, is_label_taken, is_taken, is_taken_undeclared, name_flaw};
+ghost use Rattle.smt_terms.specs.Freshness.{is_element_name, is_label_taken, is_taken, is_taken_undeclared, name_flaw};
 ghost use Rattle.smt_terms.specs.Internal.LabelsView.{given_names};
 ghost use Rattle.smt_terms.specs.Elements.{element_among};
 ghost use Rattle.smt_terms.specs.Internal.LibraryView.{elements_lent, names_of_library};
@@ -38,8 +38,8 @@ impl Library<'_> {
         self.is_taken(name) || labels.is_given(name)
     }
 
-    // Refuses a name of an earlier item (`BoundTwice`), and one by which items may name an element, or which is taken
-    // in the script and not declared there (`NotFresh`).
+    // Refuses a name of an earlier item (`BoundTwice`), and one of the form of an element's, or which is taken in the
+    // script and not declared there (`NotFresh`).
     pub(super) fn check_name(&self, script: &Library<'_>, name: &[u8]) -> Result<(), TermFlaw>
         ensures flaw { (s m : Signature) → StandsFor script.now s → StandsFor self.now m
             → MatchResult result (λ _. name_flaw s m.entries name.now ≡ None)
@@ -56,13 +56,13 @@ impl Library<'_> {
         Ok(())
     }
 
-    // Whether no item may have this name: items may name an element so, or it is taken and no command declared it.
+    // Whether no item may have this name: it has the form of an element's, or is taken and no command declared it.
     fn is_unfit(&self, name: &[u8]) -> bool
         ensures unfit { (s : Signature) → StandsFor self.now s
-            → result ≡ (is_element_in s name.now || is_taken_undeclared s name.now) }
+            → result ≡ (is_element_name s name.now || is_taken_undeclared s name.now) }
         ensures apart { result ≡ false → element_among (elements_lent self.now) name.now ≡ None }
     {
-        self.lends_element(name) || self.is_taken_undeclared(name)
+        self.is_element_name(name) || self.is_taken_undeclared(name)
     }
 
     // Whether the name is taken, and no command declared it.

@@ -48,8 +48,8 @@ impl Library<'_> {
     /// It refuses, in this order:
     /// 1. an item out of form (`Form`), or a recursive one (`Unsupported`);
     /// 2. a name that an earlier item has (`BoundTwice`);
-    /// 3. in the wide profile a name of an element of a sort that the script declares, and any name that the script
-    ///    does not declare and that is in use or a plain operator's (`NotFresh`);
+    /// 3. in the wide profile a name of the form of an element's of a sort that the script declares, and any name that
+    ///    the script does not declare and that is in use or a plain operator's (`NotFresh`);
     /// 4. for each parameter, a tree that names no sort, with its fault, and then a name that an earlier parameter has
     ///    (`BoundTwice`);
     /// 5. for the result, a tree that names no sort, with its fault;
@@ -60,14 +60,16 @@ impl Library<'_> {
     ///
     /// Then, and where memory is refused (`Memory`), nothing changes.
     ///
-    /// In the wide profile it sets aside an item of a name that the script defines, by a definition or a label: it
-    /// adds nothing and does not look at the body. It refuses such an item for its form, its parameters and its sort
-    /// like others, and for another rank than the definition's (`IllSorted`).
+    /// In the wide profile it sets aside an item of a name that the script defines, by a definition or a label, unless
+    /// the name has the form of an element's: it adds nothing and does not look at the body. It refuses such an item
+    /// for its form, its parameters and its sort like others, and for another rank than the definition's
+    /// (`IllSorted`).
     ///
     /// In the wide profile it also sets aside the items that tell which elements a declared sort has:
     /// `(forall ..)` and `(declare-sort ..)`, whatever they hold, and `(declare-fun x () S)` where x is an element of
-    /// the sort S. It refuses, in this order: a `declare-fun` of another form, or of no element (`Form`); a tree that
-    /// names no sort, with its fault; another sort than the element's (`IllSorted`).
+    /// the sort S. It refuses, in this order: a `declare-fun` of another form, or of a name of another form than an
+    /// element's (`Form`); a name that the script has (`NotFresh`); a tree that names no sort, with its fault; another
+    /// sort than the element's (`IllSorted`).
     #[tactic(auto, using(crate::proofs::ContentsLemmas::extends_itself))]
     pub fn define_item(&mut self, script: &Library<'_>, item: Tree<'_>) -> Result<(), TermFault>
         requires { ReadsModelsOf self.old script.now }

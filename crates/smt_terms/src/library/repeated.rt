@@ -16,11 +16,12 @@ use smt_forms::{ItemForm, Variable};
 use smt_theory::Sort;
 
 impl Library<'_> {
-    // Whether items of this name are set aside: the profile is wide, and a definition or a label has the name.
+    // Whether items of this name are set aside: the profile is wide, and a definition or a label has the name, which
+    // has not the form of an element's.
     pub(super) fn sets_aside(&self, name: &[u8]) -> bool
         ensures { (s : Signature) → StandsFor self.now s → result ≡ is_set_aside s name.now }
     {
-        self.is_wide() && self.is_defined(name)
+        self.is_wide() && self.is_defined(name) && !self.is_element_name(name)
     }
 
     // Whether the profile is the wide one.

@@ -4,15 +4,18 @@ ghost use Rattle.std.specs.Prelude.{◌≡◌, Ok, Err, Some, None, MatchOption,
 ghost use Rattle.smt_trees.specs.Sexp.{Cons, Items};
 ghost use Rattle.smt_trees.specs.View.{sexp_of, sexps_of};
 ghost use Rattle.smt_faults.specs.declared.term_flaw.TermFlaw.TheVariants.{Form};
-ghost use Rattle.smt_terms.specs.Elements.{element_among};
-ghost use Rattle.smt_terms.specs.Freshness.{item_elements};
-ghost use Rattle.smt_terms.specs.Items.{declared_item, element_told, told_in, told_item};
+ghost use Rattle.smt_terms.specs.Elements.{element_sort};
+ghost use Rattle.smt_theory.specs.Words.{result_and_then};
+ghost use Rattle.smt_terms.specs.Internal.LibraryView.{sort_names};
+ghost use Rattle.smt_terms.specs.Items.{declared_item, element_told, told_in, told_item, told_sort};
+ghost use Rattle.smt_terms.specs.SortTrees.{sort_named};
 ghost use Rattle.smt_terms.specs.Library.{StandsFor};
-ghost use Rattle.smt_terms.specs.Signature.{Signature};
+ghost use Rattle.smt_terms.specs.Signature.{Signature, sort_names_of};
 
 use crate::library::Library;
 use crate::sorts::are_equal;
 use smt_faults::TermFlaw;
+use smt_theory::Sort;
 use smt_trees::{Tree, Trees, Word};
 
 impl Library<'_> {
@@ -50,7 +53,8 @@ impl Library<'_> {
         }
     }
 
-    // Checks `(declare-fun x () sort)`, from the parts after its first word: x has to be an element of the sort.
+    // Checks `(declare-fun x () sort)`, from the parts after its first word: x has to have the form of the names of
+    // the sort's elements, and be none that this library has.
     fn check_declared(&self, parts: Trees<'_>) -> Result<(), TermFlaw>
         ensures { (s : Signature) → StandsFor self.now s → s.theories.wide ≡ true
             → MatchResult result (λ _. declared_item s (sexps_of parts.entry) ≡ Ok None)
@@ -62,6 +66,20 @@ impl Library<'_> {
         let Some(element) = self.sorts.element_sort(name) else {
             return Err(TermFlaw::Form);
         };
+        if self.has_entry(name) {
+            return Err(TermFlaw::NotFresh);
+        }
+        self.check_element_sort(element, tree)
+    }
+
+    // Checks that the sort of a tree is that of an element.
+    fn check_element_sort(&self, element: Sort, tree: Tree<'_>) -> Result<(), TermFlaw>
+        ensures { MatchResult result
+            (λ _. result_and_then (sort_named (sort_names self.now.sorts) (sexp_of tree.entry)) (told_sort element)
+            ≡ Ok None)
+            (λ flaw. result_and_then (sort_named (sort_names self.now.sorts) (sexp_of tree.entry)) (told_sort element)
+            ≡ Err flaw) }
+    {
         let sort = self.sorts.sort_of(tree)?;
         if !are_equal(element, sort) {
             return Err(TermFlaw::IllSorted);
@@ -74,7 +92,7 @@ impl Library<'_> {
 fn constant_parts<'a>(parts: Trees<'a>) -> Option<(&'a [u8], Tree<'a>)>
     ensures { (s : Signature) → MatchOption result (declared_item s (sexps_of parts.entry) ≡ Err Form)
         (λ p. declared_item s (sexps_of parts.entry)
-        ≡ element_told s (element_among (item_elements s) p.0.now) (sexp_of p.1)) }
+        ≡ element_told s p.0.now (element_sort (sort_names_of s) p.0.now) (sexp_of p.1)) }
 {
     let Some((Tree::Symbol(name), rest)) = parts.split_first() else {
         return None;

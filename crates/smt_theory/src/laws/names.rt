@@ -109,7 +109,7 @@ pub fn logics_are_those_of_their_theories()
 pub fn wide_logics_are_those_of_their_theories()
     ensures core { AreWideLogicsOf
         (record { ints = false; bits = false; reals = false; arrays = false; wide = true })
-        (codes "UF" ∷ codes "DT" ∷ codes "UFDT" ∷ []) }
+        (codes "UF" ∷ codes "DT" ∷ codes "UFDT" ∷ codes "SAT" ∷ []) }
     ensures ints { AreWideLogicsOf
         (record { ints = true; bits = false; reals = false; arrays = false; wide = true })
         (codes "IDL" ∷ codes "LIA" ∷ codes "NIA" ∷ codes "UFIDL" ∷ codes "UFLIA" ∷ codes "UFNIA"

@@ -1,7 +1,8 @@
 //! Laws of the theory Core: truth tables, and the operators on more than two arguments. Nothing here does
 //! anything.
 
-ghost use Rattle.std.specs.Prelude.{◌≡◌, ◌↔◌, List, [], ◌∷◌, Bool, true, false, All};
+ghost use Rattle.std.specs.List.{AllPairs};
+ghost use Rattle.std.specs.Prelude.{◌≡◌, ◌≢◌, ◌↔◌, List, [], ◌∷◌, Bool, true, false, All};
 ghost use Rattle.smt_theory.specs.declared.op.CoreOp.TheVariants.{True, False, Not, And, Or, Xor, Implies};
 ghost use Rattle.smt_theory.specs.declared.op.CoreOp.TheVariants.{Equal, Distinct, Ite};
 ghost use Rattle.smt_theory.specs.declared.op.Op.TheVariants.{Core};
@@ -64,4 +65,6 @@ pub fn equals_and_distinct_are_by_pairs()
         → operate z (Core Distinct) (a ∷ b ∷ c ∷ [])
         ≡ operate z (Core And) (operate z (Core Distinct) (a ∷ b ∷ [])
         ∷ operate z (Core Distinct) (a ∷ c ∷ []) ∷ operate z (Core Distinct) (b ∷ c ∷ []) ∷ []) }
+    ensures all { (z : DivisionByZero) (args : List Element)
+        → (operate z (Core Distinct) args ≡ Truth true) ↔ AllPairs (λ a b. a ≢ b) args }
 {}

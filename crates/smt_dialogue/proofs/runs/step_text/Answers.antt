@@ -1,4 +1,4 @@
-use Rattle.std.proofs.Common.{Result, Err, subst, sym, take, ◌<◌, ◌∙◌}
+use Rattle.std.proofs.Common.{subst, sym, take, ◌<◌, ◌∙◌}
 use Rattle.smt_dialogue.proofs.RunLemmas.{cut_source, map_ok, none_before, pulled_end, running_text, settled_step}
 use Rattle.smt_dialogue.specs.History.{with_more}
 use Rattle.smt_dialogue.specs.Run.{Tap}

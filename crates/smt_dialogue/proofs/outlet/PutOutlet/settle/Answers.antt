@@ -1,5 +1,5 @@
 use Rattle.std.proofs.Common.{◌∙◌}
-use Rattle.smt_dialogue.proofs.RunLemmas.{more_fed, none_left}
+use Rattle.smt_dialogue.proofs.RunLemmas.{more_fed}
 use Rattle.smt_dialogue.specs.Run.{Devices}
 use Rattle.smt_dialogue.proofs.outlet.PutOutlet.settle.Goals as goal
 

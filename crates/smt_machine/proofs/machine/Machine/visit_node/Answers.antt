@@ -25,7 +25,8 @@ pub returns-in-Numeral : goal.returns-in-Numeral
 returns-in-Numeral c = if_done c.leave.result c.leave.ensures
     (λ is nodes at. visited nodes c.args.number (Some (Known (numeral_element c.in-Numeral.field-0.now)))
     (known_element c.numeral_of.result) c.args.self.now c.leave.new.self
-    (sym (ap (λ n. Some (meaning c.args.from.now n)) c.in-Numeral.is) ∙ at) (λ k. refl) (sym (c.numeral_of.ensures c.in-Numeral.field-0.now
+    (sym (ap (λ n. Some (meaning c.args.from.now n)) c.in-Numeral.is) ∙ at) (λ k. refl)
+    (sym (c.numeral_of.ensures c.in-Numeral.field-0.now
     (c.literal.ensures ∙ ap literal_number (sym c.requires.here) ∙ ap (λ n. spelled (node_view n)) c.in-Numeral.is)))
     is c.requires.based)
 
@@ -33,19 +34,22 @@ pub returns-in-Hex : goal.returns-in-Hex
 returns-in-Hex c = if_done c.leave-in-Hex.result c.leave-in-Hex.ensures
     (λ is nodes at. visited nodes c.args.number (Some (Known (hex_element c.in-Hex.digits.now)))
     (known_element c.hex_of.result) c.args.self.now c.leave-in-Hex.new.self
-    (sym (ap (λ n. Some (meaning c.args.from.now n)) c.in-Hex.is) ∙ at) (λ k. refl) (sym c.hex_of.ensures) is c.requires.based)
+    (sym (ap (λ n. Some (meaning c.args.from.now n)) c.in-Hex.is) ∙ at) (λ k. refl)
+    (sym c.hex_of.ensures) is c.requires.based)
 
 pub returns-in-Bin : goal.returns-in-Bin
 returns-in-Bin c = if_done c.leave-in-Bin.result c.leave-in-Bin.ensures
     (λ is nodes at. visited nodes c.args.number (Some (Known (bin_element c.in-Bin.digits.now)))
     (known_element c.bin_of.result) c.args.self.now c.leave-in-Bin.new.self
-    (sym (ap (λ n. Some (meaning c.args.from.now n)) c.in-Bin.is) ∙ at) (λ k. refl) (sym c.bin_of.ensures) is c.requires.based)
+    (sym (ap (λ n. Some (meaning c.args.from.now n)) c.in-Bin.is) ∙ at) (λ k. refl)
+    (sym c.bin_of.ensures) is c.requires.based)
 
 pub returns-in-Element : goal.returns-in-Element
 returns-in-Element c = if_done c.leave-in-Element.result c.leave-in-Element.ensures
     (λ is nodes at. visited nodes c.args.number (Some (Known (name_element c.in-Element.name.now)))
     (known_element c.element.result) c.args.self.now c.leave-in-Element.new.self
-    (sym (ap (λ n. Some (meaning c.args.from.now n)) c.in-Element.is) ∙ at) (λ k. refl) (sym c.element.ensures) is c.requires.based)
+    (sym (ap (λ n. Some (meaning c.args.from.now n)) c.in-Element.is) ∙ at) (λ k. refl)
+    (sym c.element.ensures) is c.requires.based)
 
 pub returns-in-Slot : goal.returns-in-Slot
 returns-in-Slot c = if_done c.leave-in-Slot.result c.leave-in-Slot.ensures

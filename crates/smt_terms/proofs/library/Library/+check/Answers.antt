@@ -501,7 +501,7 @@ pub sort_of_list-returns-then-is_as-clause-sort : goal.sort_of_list-returns-then
 sort_of_list-returns-then-is_as-clause-sort t c =
     let names = names_for c.args.self.now (labels_view c.args.draft.now.labels) in
     let scope = sorts_seen c.args.draft.now in
-    carried_sort c.sort_of_qualified.result (qualified_sort names.elements (sexps_of c.in-Some.args))
+    carried_sort c.sort_of_qualified.result (qualified_sort names.elements names.ranks (sexps_of c.in-Some.args))
     (sort_in names scope (Items (sexps_of c.args.parts)))
     (ap (λ ps. sort_in names scope (Items ps))
     (c.in-Some.ensures ∙ ap (λ h. Cons h (sexps_of c.in-Some.args))

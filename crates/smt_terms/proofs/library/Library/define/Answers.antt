@@ -6,16 +6,26 @@ use Rattle.smt_forms.specs.ParamView.{param_view}
 use Rattle.smt_forms.specs.ScopeView.{scope_view}
 use Rattle.smt_terms.specs.Library.{Holds}
 use Rattle.smt_terms.specs.Signature.{names_of}
+use Rattle.smt_theory.specs.Operators.{is_plain_operator}
+use Rattle.smt_theory.specs.Words.{look_up}
+use Rattle.smt_terms.specs.Freshness.{is_element}
+use Rattle.smt_terms.specs.Internal.LibraryView.{names_of_library}
 use Rattle.smt_terms.proofs.DefinitionLemmas.{define_step, same_fault}
 use Rattle.smt_terms.proofs.ItemLemmas.{not_operator}
+use Rattle.smt_terms.proofs.ElementLemmas.{no_element}
 use Rattle.smt_terms.proofs.NameLookUps.{free_name}
 use Rattle.smt_terms.proofs.library.Library.define.Goals as goal
 
 pub add_definition-requires-clause-absent : goal.add_definition-requires-clause-absent
-add_definition-requires-clause-absent c = (free_name _ _ _ (sym c.if-is_taken.ensures)).1
+add_definition-requires-clause-absent c = (free_name (is_element (names_of_library c.args.self.now) c.args.name.now)
+    (look_up (names_of_library c.args.self.now).ranks c.args.name.now)
+    (is_plain_operator c.args.self.now.sorts.theories c.args.name.now) (sym c.if-is_taken.ensures)).1
 
 pub add_definition-requires-clause-apart : goal.add_definition-requires-clause-apart
-add_definition-requires-clause-apart c = (free_name _ _ _ (sym c.if-is_taken.ensures)).0
+add_definition-requires-clause-apart c = no_element (names_of_library c.args.self.now).elements c.args.name.now
+    (free_name (is_element (names_of_library c.args.self.now) c.args.name.now)
+    (look_up (names_of_library c.args.self.now).ranks c.args.name.now)
+    (is_plain_operator c.args.self.now.sorts.theories c.args.name.now) (sym c.if-is_taken.ensures)).0
 
 pub returns-clause-defined : goal.returns-clause-defined
 returns-clause-defined c =

@@ -11,7 +11,8 @@ use Rattle.smt_terms.proofs.library.Library.sort_of_qualified.Goals as goal
 
 pub returns-in_default-clause-sort : goal.returns-in_default-clause-sort
 returns-in_default-clause-sort c =
-    inr (no_symbol (names_of_library c.args.self.now).elements (sexps_of c.args.parts) c.in_default.ensures)
+    inr (no_symbol (names_of_library c.args.self.now).elements (names_of_library c.args.self.now).ranks
+    (sexps_of c.args.parts) c.in_default.ensures)
 
 pub returns-clause-sort : goal.returns-clause-sort
 returns-clause-sort c = sym c.in_ok-sort.ensures ∙ ap (λ s. Ok s) (sym c.in_ok-push_element.ensures.sort)
