@@ -25,7 +25,7 @@ mod scope;
 mod variable;
 
 pub use attributes::{are_attributes, label_at};
-pub use bindings::{are_named, split_let, split_named};
+pub use bindings::{are_named, split_let, split_let_placed, split_named, split_named_placed};
 pub use element_names::sort_of_element;
 pub use heads::{is_as, is_bang, is_let, is_underscore};
 pub use identifier::{Identifier, applied_identifier, are_indexes, indexed_identifier};

@@ -4,6 +4,7 @@ use Rattle.std.proofs.Common.{◌≤◌, Ok, Result, append-nil, arith, subst}
 use Rattle.std.proofs.Math.Seq.{drop-append_seam}
 use Rattle.std.proofs.lemmas.List.{append_assoc, length-append, length-drop}
 use Rattle.smt_theory.specs.declared.sort.Sort.{Sort}
+use Rattle.smt_terms.specs.Internal.SoFar.{IsPlainHead, SoFar, WaitSince, sorts_since, terms_since, waiting}
 use Rattle.smt_terms.specs.Internal.Calls.{HasTheSame, SeesTheSame}
 use Rattle.smt_faults.specs.declared.term_flaw.TermFlaw.{TermFlaw}
 use Rattle.smt_terms.specs.Checking.{sort_in, sort_of_call, sorts_in}
@@ -13,29 +14,13 @@ use Rattle.smt_terms.specs.Internal.LibraryView.{names_for, names_of_library}
 use Rattle.smt_terms.specs.declared.library.arguments.Arguments.{Arguments}
 use Rattle.smt_forms.specs.Identifier.{Identifier, applied}
 use Rattle.smt_terms.specs.Internal.NodesView.{AddsApplied, Denoting, Stands}
-use Rattle.smt_terms.proofs.CheckerLemmas.{IsPlainHead, Scope}
+use Rattle.smt_terms.proofs.CheckerLemmas.{Scope}
 use Rattle.smt_terms.proofs.DraftLemmas.{sorts_kept}
 use Rattle.smt_terms.proofs.LabelLemmas.{called}
-use Rattle.smt_terms.proofs.PartNodeLemmas.{SoFar}
 use Rattle.smt_trees.specs.Sexp.{Cons, Items, Sexp, Sexps}
 use Rattle.smt_terms.specs.declared.library.Library.{Library}
 use Rattle.smt_terms.specs.declared.library.draft.CheckedTerm.{CheckedTerm}
 use Rattle.smt_terms.specs.declared.library.draft.Draft.{Draft}
-
--- how many arguments wait
-abbrev pub waiting : Draft → ℕ
-waiting draft = length (argument_sorts draft.arguments)
-
--- those that wait after those of an earlier draft
-abbrev pub sorts_since : (old new : Draft) → List Sort
-sorts_since old new = sorts_from (waiting old) new.arguments
-
-abbrev pub terms_since : (old new : Draft) → List ℕ
-terms_since old new = terms_from (waiting old) new.arguments
-
-pub record WaitSince (old new : Draft) : Type 0 where
-  pub sorts : argument_sorts new.arguments ≡ argument_sorts old.arguments ++ sorts_since old new
-  pub terms : argument_terms new.arguments ≡ argument_terms old.arguments ++ terms_since old new
 
 -- what comes after a list
 after_list : {A : Type 0} (xs ys all : List A) (n : ℕ) → n ≡ length xs → all ≡ xs ++ ys → drop n all ≡ ys

@@ -1,11 +1,12 @@
 -- Terms that bind variables, and annotated terms, one step at a time.
 use Rattle.std.proofs.Common.{◌≡◌, ℕ, Bool, true, false, cond, List, [], ◌∷◌, ◌++◌, Option, Some, None}
 use Rattle.std.proofs.Common.{is_some, Result, Ok, Err, refl, ap, sym, ◌∙◌, inl, inr}
-use Rattle.smt_trees.specs.Sexp.{Sexp, Sexps, Atom, Reserved, Items, Nil, Cons, Symbol}
+use Rattle.smt_trees.specs.Sexp.{Sexp, Sexps, Reserved, Items, Nil, Cons}
 use Rattle.smt_trees.specs.declared.reserved.Word.TheVariants.{Bang, Let}
 use Rattle.smt_theory.specs.Words.{look_up, result_and_then}
 use Rattle.smt_theory.specs.declared.sort.Sort.{Sort}
 use Rattle.smt_forms.specs.Bindings.{are_attributes, are_bindings}
+use Rattle.smt_terms.specs.Internal.SoFar.{binding}
 use Rattle.smt_terms.specs.Checking.{bound_in, flaw_of_labels, sort_in, unless}
 use Rattle.smt_forms.specs.Labels.{labels_among, labels_in, labels_in_bindings}
 use Rattle.smt_terms.specs.Signature.{Names, behind}
@@ -16,10 +17,6 @@ use Rattle.smt_faults.specs.Outcome.{Tells, TellsSome, flaw_told}
 use Rattle.smt_faults.specs.declared.term_fault.TermFault.{TermFault}
 
 -- ## Bindings
-
--- a binding, its name with its term
-abbrev pub binding : List ℕ → Sexp → Sexp
-binding x term = Items (Cons (Atom Symbol x) (Cons term Nil))
 
 -- one variable more
 pub bound_in-next : (names later : Names) (scope bound after : Scope) (x : List ℕ) (term : Sexp)
@@ -56,7 +53,7 @@ body_in names scope bindings body bound =
     sort_in (behind (labels_in_bindings bindings) names) (bound ++ scope) body
 
 -- a `let` with bindings and a body
-let_with_parts : (names : Names) (scope : Scope) (args bindings : Sexps) (body : Sexp) (b : Bool)
+pub let_with_parts : (names : Names) (scope : Scope) (args bindings : Sexps) (body : Sexp) (b : Bool)
     → args ≡ Cons (Items bindings) (Cons body Nil) → are_bindings bindings ≡ b
     → let_in names scope args
     ≡ cond b (result_and_then (bound_in names scope [] bindings) (body_in names scope bindings body))

@@ -6,6 +6,7 @@ use Rattle.smt_trees.specs.declared.reserved.Word.TheVariants.{As, Bang, Let, Un
 use Rattle.smt_theory.specs.Words.{look_up, result_and_then}
 use Rattle.smt_theory.specs.declared.sort.Sort.{Sort}
 use Rattle.smt_forms.specs.Heads.{begins_indexed}
+use Rattle.smt_terms.specs.Internal.SoFar.{IsPlainHead, sorts_behind}
 use Rattle.smt_terms.specs.Checking.{sort_in, sorts_in, sort_applied, sort_of_call, sort_unless_variable}
 use Rattle.smt_forms.specs.Identifier.{Identifier, Plain, Indexed, applied, indexed}
 use Rattle.smt_forms.specs.Heads.{begins_annotated, begins_let, begins_qualified}
@@ -21,10 +22,6 @@ use Rattle.smt_faults.specs.declared.term_fault.TermFault.{TermFault}
 -- variables with their sorts
 abbrev pub Scope : Type 0
 Scope = List (List ℕ × Sort)
-
--- the sorts of all are those that are done, and then those of the trees that are left
-abbrev pub sorts_behind : Names → Scope → List Sort → Sexps → Result (List Sort) TermFlaw
-sorts_behind names scope before left = result_and_then (sorts_in names scope left) (λ ss. Ok (before ++ ss))
 
 -- at first no sort is done
 pub sorts_behind-start : (names : Names) (scope : Scope) (before : List Sort) (left : Sexps) → before ≡ []
@@ -80,13 +77,6 @@ bang_head _ h = cc
 pub as_head : (head : Sexp) → begins_qualified head ≡ true → head ≡ Reserved As
 as_head (Reserved As) h = refl
 as_head _ h = cc
-
--- a head that is none of these
-pub record IsPlainHead (head : Sexp) : Type 0 where
-  pub no_index : begins_indexed head ≡ false
-  pub no_let : begins_let head ≡ false
-  pub no_bang : begins_annotated head ≡ false
-  pub no_as : begins_qualified head ≡ false
 
 pub plain_head : (head : Sexp) → false ≡ begins_indexed head → false ≡ begins_let head → false ≡ begins_annotated head
     → false ≡ begins_qualified head → IsPlainHead head

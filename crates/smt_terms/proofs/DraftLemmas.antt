@@ -19,6 +19,7 @@ use Rattle.smt_faults.specs.Outcome.{IsOutcome, Tells}
 use Rattle.smt_faults.specs.declared.term_fault.TermFault.{TermFault}
 use Rattle.smt_faults.specs.declared.term_flaw.TermFlaw.{TermFlaw}
 use Rattle.smt_faults.specs.declared.term_flaw.TermFlaw.TheVariants.{Label}
+use Rattle.smt_terms.specs.Internal.SoFar.{IsPlainHead}
 use Rattle.smt_terms.specs.Denotes.{UsesNone, slots_from}
 use Rattle.smt_terms.specs.Checking.{bound_in, flaw_of_label, flaw_of_labels, sort_in, unless}
 use Rattle.smt_terms.specs.Freshness.{NewLabel, where_fresh}
@@ -38,7 +39,7 @@ use Rattle.smt_terms.specs.Internal.DraftView.{seen_by, sorts_of, sorts_outside,
 use Rattle.smt_terms.specs.declared.library.draft.Bound.{Bound}
 use Rattle.smt_terms.specs.declared.library.draft.Draft.{Draft}
 use Rattle.smt_forms.specs.Heads.{begins_annotated, begins_indexed, begins_let, begins_qualified}
-use Rattle.smt_terms.proofs.CheckerLemmas.{IsPlainHead, Scope}
+use Rattle.smt_terms.proofs.CheckerLemmas.{Scope}
 
 -- the names of variables
 abbrev pub names_of : {A : Type 0} → List (List ℕ × A) → List (List ℕ)

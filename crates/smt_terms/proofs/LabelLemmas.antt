@@ -9,6 +9,7 @@ use Rattle.smt_trees.specs.declared.reserved.Word.TheVariants.{As, Bang, Let, Un
 use Rattle.smt_trees.specs.View.{sexp_of}
 use Rattle.smt_theory.specs.Words.{look_up}
 use Rattle.smt_theory.specs.declared.sort.Sort.{Sort}
+use Rattle.smt_terms.specs.Internal.SoFar.{AreGivenOf, IsPlainHead}
 use Rattle.smt_terms.specs.Checking.{flaw_of_label, flaw_of_labels, sort_applied, sort_in, sort_of_call, sort_of_plain}
 use Rattle.smt_terms.specs.Checking.{sort_unless_variable, sorts_in}
 use Rattle.smt_forms.specs.Heads.{begins_indexed}
@@ -26,7 +27,7 @@ use Rattle.smt_terms.specs.Freshness.{is_label_taken}
 use Rattle.smt_terms.specs.Signature.{Names, Rank, behind, unlabelled}
 use Rattle.smt_faults.specs.declared.term_flaw.TermFlaw.{TermFlaw}
 use Rattle.smt_faults.specs.declared.term_flaw.TermFlaw.TheVariants.{Label as IsLabel, NotFresh}
-use Rattle.smt_terms.proofs.CheckerLemmas.{IsPlainHead, Scope, applied_ok, as_head, underscore_head}
+use Rattle.smt_terms.proofs.CheckerLemmas.{Scope, applied_ok, as_head, underscore_head}
 use Rattle.smt_terms.specs.declared.labels.Label.{Label}
 use Rattle.smt_terms.specs.declared.labels.Labels.{Labels}
 use Rattle.smt_terms.specs.declared.library.Library.{Library}
@@ -96,12 +97,6 @@ AreGiven-append names old mid new xs ys first second = record {
   given = second.given ∙ ap (λ ls. ls ++ ys) first.given ∙ append_assoc (given_terms old) xs ys;
   sorted = λ h. second.sorted (first.sorted h);
 }
-
--- some of them, and those that are still to come
-pub record AreGivenOf (names : Names) (old new : Labels) (all left : Labelled) : Type 0 where
-  pub more : Labelled
-  pub given : AreGiven names old new more
-  pub are : all ≡ more ++ left
 
 pub AreGivenOf-none : (names : Names) (labels : Labels) (all : Labelled)
     → AreGivenOf names labels labels all all

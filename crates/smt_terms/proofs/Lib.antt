@@ -40,3 +40,7 @@ pub mod LabelNodeLemmas
 pub mod BinderNodeLemmas
 pub mod FirstFaultLemmas
 pub mod ElementLawLemmas
+pub mod FrameLemmas
+pub mod ApplicationLemmas
+pub mod LetFrameLemmas
+pub mod LabelFrameLemmas

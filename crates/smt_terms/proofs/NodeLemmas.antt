@@ -15,6 +15,7 @@ use Rattle.smt_forms.specs.Identifier.{Identifier, Plain, Indexed, applied, inde
 use Rattle.smt_nodes.specs.Node as node
 use Rattle.smt_nodes.specs.Node.{Node, Row}
 use Rattle.smt_nodes.specs.Nodes.{rows_of}
+use Rattle.smt_terms.specs.Internal.SoFar.{IsPlainHead}
 use Rattle.smt_terms.specs.Denotes.{AreDenoted, Denotes, HasBodyBelow, Head, IsNode, IsRow, Slots, Table}
 use Rattle.smt_terms.specs.Denotes.{applied_node, element_node, named_node, node_alone, node_at, node_of, symbol_node}
 use Rattle.smt_terms.specs.Elements.{element_among}
@@ -29,7 +30,7 @@ use Rattle.smt_terms.specs.declared.library.Library.{Library}
 use Rattle.smt_terms.specs.declared.library.draft.Bound.{Bound}
 use Rattle.smt_terms.specs.declared.library.draft.CheckedTerm.{CheckedTerm}
 use Rattle.smt_terms.specs.declared.library.draft.Draft.{Draft}
-use Rattle.smt_terms.proofs.CheckerLemmas.{IsPlainHead, underscore_head}
+use Rattle.smt_terms.proofs.CheckerLemmas.{underscore_head}
 use Rattle.smt_terms.proofs.DenotesLemmas.{all_kept}
 use Rattle.smt_terms.proofs.DraftLemmas.{slot_inside, slot_none}
 use Rattle.smt_terms.proofs.TableLemmas.{grows_itself, keeps_itself, keeps_labels, keeps_on, ready_kept}

@@ -3,37 +3,18 @@ use Rattle.std.proofs.Common.{◌≡◌, ◌<◌, ℕ, Bool, true, false, ◌||�
 use Rattle.std.proofs.Common.{length, None, refl, ap, sym, ◌∙◌, subst}
 use Rattle.smt_trees.specs.Sexp.{Sexp, Sexps, Items, Nil, Cons, Atom, Symbol}
 use Rattle.smt_forms.specs.Bindings.{are_named_trees, first_named}
-use Rattle.smt_terms.specs.Denotes.{AreBound, AreDenoted, Denotes, IsLonger, Slots, Table}
+use Rattle.smt_terms.specs.Internal.SoFar.{SoFar, binding}
+use Rattle.smt_terms.specs.Denotes.{AreBound, AreDenoted, Denotes, Slots, Table}
 use Rattle.smt_terms.specs.Internal.Calls.{SeesTheSame}
-use Rattle.smt_terms.specs.Internal.NodesView.{Denoting, GrowsTo, KeepsNamed, PartsStand, Stands}
-use Rattle.smt_terms.specs.Internal.TableView.{IsReady, places_seen, slots_seen, table_in}
+use Rattle.smt_terms.specs.Internal.NodesView.{Denoting, GrowsTo, PartsStand, Stands}
+use Rattle.smt_terms.specs.Internal.TableView.{places_seen, slots_seen, table_in}
 use Rattle.smt_terms.specs.declared.library.Library.{Library}
 use Rattle.smt_terms.specs.declared.library.draft.CheckedTerm.{CheckedTerm}
 use Rattle.smt_terms.specs.declared.library.draft.Draft.{Draft}
-use Rattle.smt_terms.proofs.BinderLemmas.{binding}
 use Rattle.smt_terms.proofs.ClosedLemmas.{neither}
 use Rattle.smt_terms.proofs.DenotesLemmas.{denotes_kept}
 use Rattle.smt_terms.proofs.TableLemmas.{below_longer, grows_itself, grows_on, keeps_itself, keeps_on, longer_itself}
 use Rattle.smt_terms.proofs.TableLemmas.{longer_on, places_kept, ready_kept, slots_kept}
-
--- these nodes stand for what stands before the parts that are left: with nodes for those, all do
-abbrev pub StandBefore : Denoting → Table → Slots → ℕ → List ℕ → (left all : Sexps) → Type 0
-StandBefore Are t slots next done left all = (u : Table) (js : List ℕ) → IsLonger t u
-    → Are u slots next (length u.rows) js left → Are u slots next (length u.rows) (done ++ js) all
-
--- some parts stand so, and others are left
-pub record SoFar (Are : Denoting) (library : Library) (old new : Draft) (all left : Sexps) (done : List ℕ)
-    (is_open : Bool) : Type 0 where
-  pub longer : GrowsTo old new
-  pub named : KeepsNamed library old new
-  pub before : IsReady (table_in library old) → is_open ≡ false
-      → StandBefore Are (table_in library new) (slots_seen old) (places_seen old) done left all
-
-abbrev pub TermsSoFar : Library → (old new : Draft) → (all left : Sexps) → List ℕ → Bool → Type 0
-TermsSoFar = SoFar AreDenoted
-
-abbrev pub BindingsSoFar : Library → (old new : Draft) → (all left : Sexps) → List ℕ → Bool → Type 0
-BindingsSoFar = SoFar AreBound
 
 -- how one more part stands before the others
 abbrev pub StandsFirst : Denoting → Sexp → (left rest : Sexps) → Type 0

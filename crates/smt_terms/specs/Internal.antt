@@ -5,3 +5,5 @@ pub mod DraftView
 pub mod TableView
 pub mod Growing
 pub mod NodesView
+pub mod SoFar
+pub mod Frames

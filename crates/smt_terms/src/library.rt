@@ -15,6 +15,7 @@ mod definitions;
 mod draft;
 mod element_names;
 mod elements;
+mod frames;
 mod freshness;
 mod items;
 mod marks;
@@ -23,6 +24,7 @@ mod repeated;
 mod scope;
 mod told;
 mod transient;
+mod walk;
 mod whole_terms;
 
 use crate::labels::Labels;

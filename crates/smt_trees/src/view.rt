@@ -1,10 +1,12 @@
 //! S-expressions as their users see them: borrowed, whatever they are kept as. This file reads no text.
 
-ghost use Rattle.std.specs.Prelude.{◌≡◌, MatchOption};
+ghost use Rattle.std.specs.Prelude.{◌≡◌, ◌+◌, ◌-◌, ◌<◌, ◌≤◌, ℕ, IfSome, MatchOption};
 ghost use Rattle.smt_trees.specs.Sexp as sexp;
 ghost use Rattle.smt_trees.specs.Sexp.{Atom, Nil, Cons, count};
 ghost use Rattle.smt_trees.specs.Tape as tapes;
 ghost use Rattle.smt_trees.specs.Tape.{kind_of, sexps_in};
+ghost use Rattle.smt_trees.specs.declared.view.Trees.{Trees};
+ghost use Rattle.smt_trees.specs.Places.{IsListIn, LiesIn, size_of, size_of_list};
 ghost use Rattle.smt_trees.specs.View.{sexp_of, sexps_of};
 
 use crate::reserved::Word;
@@ -43,7 +45,9 @@ impl<'a> Trees<'a> {
     #[inline(always)]
     #[tactic(auto, unfolding(crate::specs::View::sexps_of))]
     pub(crate) fn of(cells: &'a [Cell], text: &'a [u8]) -> Trees<'a>
-        ensures { sexps_of result ≡ sexps_in text.now cells.now }
+        ensures trees { sexps_of result ≡ sexps_in text.now cells.now }
+        ensures cells { result.cells.now ≡ cells.now }
+        ensures text { result.text.now ≡ text.now }
     {
         Trees { cells, text }
     }
@@ -61,10 +65,24 @@ impl<'a> Trees<'a> {
 
     /// The first of the trees and the trees after it; `None` where there are no trees.
     #[inline(always)]
-    #[tactic(auto, unfolding(crate::specs::View::sexps_of))]
     pub fn split_first(self) -> Option<(Tree<'a>, Trees<'a>)>
         ensures { MatchOption result (sexps_of self.entry ≡ Nil)
             (λ p. sexps_of self.entry ≡ Cons (sexp_of p.0) (sexps_of p.1)) }
+    {
+        self.split_placed()
+    }
+
+    /// The same, and where they lie: the trees after the first one end where all of them end, and the parts of the
+    /// first one, if it is a list, end where the trees after it begin.
+    #[inline(always)]
+    #[tactic(auto, unfolding(crate::specs::View::sexps_of))]
+    pub fn split_placed(self) -> Option<(Tree<'a>, Trees<'a>)>
+        ensures trees { MatchOption result (sexps_of self.entry ≡ Nil)
+            (λ p. sexps_of self.entry ≡ Cons (sexp_of p.0) (sexps_of p.1)) }
+        ensures places { IfSome result (λ p. (whole : Trees) (to : ℕ) → LiesIn whole self.entry to
+            → LiesIn whole p.1 to × IsListIn whole p.0 (size_of p.1 + to)) }
+        ensures sizes { MatchOption result (size_of self.entry ≡ 0)
+            (λ p. size_of_list p.0 + size_of p.1 < size_of self.entry) }
     {
         let Some((cell, rest)) = self.cells.split_first() else {
             return None;
@@ -74,6 +92,32 @@ impl<'a> Trees<'a> {
         let parts = Trees::of(&rest[..count], text);
         let behind = Trees::of(&rest[count..], text);
         Some((tree_with(*cell, text, parts), behind))
+    }
+
+    /// The number of cells that the trees take: one for each tree, and for each tree in one of them.
+    #[inline(always)]
+    pub fn size(self) -> usize
+        ensures { result ≡ size_of self.entry }
+    {
+        self.cells.len()
+    }
+
+    /// The trees between two places in these. A place is the number of cells from it to the end.
+    #[inline(always)]
+    #[tactic(auto, unfolding(crate::specs::View::sexps_of))]
+    pub fn between(self, from: usize, to: usize) -> Trees<'a>
+        ensures part { (part : Trees) → LiesIn self.entry part to → from ≡ size_of part + to
+            → (sexps_of result ≡ sexps_of part) × LiesIn self.entry result to
+            × (size_of result ≡ size_of part) }
+        ensures size { size_of result ≤ from - to }
+    {
+        let len = self.cells.len();
+        let end = len.saturating_sub(to);
+        let start = len.saturating_sub(from).min(end);
+        Trees {
+            cells: &self.cells[start..end],
+            text: self.text,
+        }
     }
 
     /// How many trees there are.
@@ -105,10 +149,12 @@ fn inside(cell: Cell) -> usize
     }
 }
 
-// The tree that a cell is, where these are the trees in it.
+// The tree that a cell is, where these are the trees in it; where they lie; and how many cells they take.
 #[inline(always)]
 fn tree_with<'a>(cell: Cell, text: &'a [u8], parts: Trees<'a>) -> Tree<'a>
-    ensures { sexp_of result ≡ tapes.tree_with text.now (sexps_of parts.entry) cell }
+    ensures tree { sexp_of result ≡ tapes.tree_with text.now (sexps_of parts.entry) cell }
+    ensures places { (whole : Trees) (to : ℕ) → LiesIn whole parts.entry to → IsListIn whole result to }
+    ensures size { size_of_list result ≤ size_of parts.entry }
 {
     match cell {
         Cell::Atom(kind, start, count) => atom(kind, part(text, start, count)),
@@ -120,7 +166,9 @@ fn tree_with<'a>(cell: Cell, text: &'a [u8], parts: Trees<'a>) -> Tree<'a>
 // The atom of a kind with these bytes.
 #[inline(always)]
 fn atom(kind: Kind, bytes: &[u8]) -> Tree<'_>
-    ensures { sexp_of result ≡ Atom (kind_of kind) bytes.now }
+    ensures tree { sexp_of result ≡ Atom (kind_of kind) bytes.now }
+    ensures places { (whole : Trees) (to : ℕ) → IsListIn whole result to }
+    ensures size { size_of_list result ≡ 0 }
 {
     match kind {
         Kind::Numeral => Tree::Numeral(bytes),

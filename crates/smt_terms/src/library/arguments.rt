@@ -4,10 +4,12 @@
 ghost use Rattle.std.specs.Prelude.{◌≡◌, length};
 ghost use Rattle.std.proofs.Props.{props};
 
+use crate::library::frames::Frame;
 use smt_faults::Memory;
 use smt_nodes::TermId;
 use smt_theory::Sort;
 use std::alloc::Global;
+use std::mem;
 
 // The most arguments for which a clear keeps memory.
 const FEW: usize = 1024;
@@ -18,6 +20,8 @@ const FEW: usize = 1024;
 pub(crate) struct Arguments {
     sorts: Vec<Sort>,
     terms: Vec<TermId>,
+    // The memory of the frames of the term that was checked last.
+    frames: Vec<Frame>,
     ghost paired: { length terms.items ≡ length sorts.items } by { Prim.hlevel props },
 }
 
@@ -32,7 +36,29 @@ impl Arguments {
         Arguments {
             sorts: Vec::new(alloc),
             terms: Vec::new(alloc),
+            frames: Vec::new(alloc),
         }
+    }
+
+    /// No frames, in memory that is kept from term to term.
+    #[inline(always)]
+    pub(crate) fn take_frames(&mut self, alloc: Global) -> Vec<Frame>
+        ensures none { result.items ≡ [] }
+        ensures sorts { argument_sorts self.new ≡ argument_sorts self.old }
+        ensures terms { argument_terms self.new ≡ argument_terms self.old }
+    {
+        let mut frames = mem::replace(&mut self.frames, Vec::new(alloc));
+        frames.clear();
+        frames
+    }
+
+    /// Keeps the memory of frames for the next term.
+    #[inline(always)]
+    pub(crate) fn keep_frames(&mut self, frames: Vec<Frame>)
+        ensures sorts { argument_sorts self.new ≡ argument_sorts self.old }
+        ensures terms { argument_terms self.new ≡ argument_terms self.old }
+    {
+        self.frames = frames;
     }
 
     /// The number of arguments.
@@ -83,11 +109,11 @@ impl Arguments {
         self.terms.truncate(count);
     }
 
-    /// Removes all arguments, and gives their memory back where it has room for more than 1,024.
+    /// Removes all arguments, and gives their memory back where it has room for more than 1,024 of them, or of frames.
     pub(crate) fn clear(&mut self, alloc: Global)
         ensures { argument_sorts self.new ≡ [] }
     {
-        if self.sorts.capacity() > FEW {
+        if self.sorts.capacity() > FEW || self.frames.capacity() > FEW {
             *self = Arguments::new(alloc);
         } else {
             self.truncate(0);

@@ -1,192 +1,287 @@
 //! The sorts and the nodes of terms that bind variables, and of annotated terms, whose labels the draft keeps. This
 //! file adds no name to a library.
 
-ghost use Rattle.std.specs.Prelude.{◌≡◌, ◌+◌, ◌++◌, ◌∷◌, ℕ, List, [], true, length, map, IfOk, OnOk};
-ghost use Rattle.smt_trees.specs.Sexp.{Cons, Items, Reserved};
+ghost use Rattle.std.specs.Prelude.{◌≡◌, ◌<◌, ◌≤◌, ◌+◌, ◌*◌, ◌++◌, ◌∷◌, ℕ, List, [], true, false, length, map};
+ghost use Rattle.std.specs.Prelude.{IfOk, OnOk, MatchOption, MatchResult, reverse};
+ghost use Rattle.smt_trees.specs.Places.{LiesIn, size_of};
+ghost use Rattle.smt_trees.specs.Sexp.{Cons, Items, Nil, Reserved, Sexp, Sexps};
 ghost use Rattle.smt_trees.specs.View.{sexp_of, sexps_of};
 ghost use Rattle.smt_trees.specs.declared.reserved.Word.TheVariants.{Bang, Let};
-ghost use Rattle.smt_forms.specs.Bindings as bindings;
-ghost use Rattle.smt_forms.specs.Bindings.{are_named_trees};
-ghost use Rattle.smt_forms.specs.Labels.{label_of_tree, labels_among, labels_in_bindings};
+ghost use Rattle.smt_forms.specs.Bindings as forms;
+ghost use Rattle.smt_forms.specs.Labels.{label_of_tree, labels_among};
 ghost use Rattle.smt_forms.specs.ScopeView.{scope_view};
-ghost use Rattle.smt_terms.specs.Checking.{bound_in};
-ghost use Rattle.smt_terms.specs.Internal.Calls.{GivesLabels, HasMoreSorts, HasSort, HasTheSame, IsSortedUnlessOpen};
-ghost use Rattle.smt_terms.specs.Internal.Calls.{SeesTheSame, TellsOfLabel, TellsOfLabels, has_labels};
-ghost use Rattle.smt_terms.specs.Internal.DraftView.{IsPlaced, are_open_bindings, argument_terms, is_open, seen_by};
-ghost use Rattle.smt_terms.specs.Internal.DraftView.{sorts_seen};
+ghost use Rattle.smt_theory.specs.declared.sort.Sort.{Sort};
+ghost use Rattle.smt_terms.specs.Internal.Calls.{IsSortedUnlessOpen, TellsOfLabel, TellsOfLabels, has_labels};
+ghost use Rattle.smt_terms.specs.Internal.DraftView.{IsPlaced, argument_sorts, placed_from, seen_by, sorts_from};
+ghost use Rattle.smt_terms.specs.Internal.Frames as frames;
+ghost use Rattle.smt_terms.specs.Internal.Frames.{AreNested, Begun, BodyWaits, Chain, HasFault, IsBinding, IsDone};
+ghost use Rattle.smt_terms.specs.Internal.Frames.{IsCheckedNext, IsDoneNext, IsLess, IsLet, IsNested, IsNext};
+ghost use Rattle.smt_terms.specs.Internal.Frames.{LabelledWaits, LetSoFar, begun, distinct_from, place_behind};
+ghost use Rattle.smt_terms.specs.Internal.Frames.{variables_of, work};
 ghost use Rattle.smt_terms.specs.Internal.LabelsView.{AreGiven, labels_view};
 ghost use Rattle.smt_terms.specs.Internal.LibraryView.{names_for, names_of_library};
 ghost use Rattle.smt_terms.specs.Denotes.{Denotes, Table};
-ghost use Rattle.smt_terms.specs.Internal.NodesView.{BindingsStand, GrowsTo, Stands, nodes_given};
+ghost use Rattle.smt_terms.specs.Internal.NodesView.{GrowsTo, nodes_given};
+ghost use Rattle.smt_terms.specs.declared.library.frames.Next.TheVariants.{Enter};
 ghost use Rattle.smt_terms.specs.Internal.TableView.{AreNamed};
 ghost use Rattle.smt_terms.specs.declared.labels.Label.{Label};
-ghost use Rattle.smt_faults.specs.Outcome.{IsOutcome};
 
 use crate::labels::Labels;
 use crate::library::Library;
 use crate::library::draft::{CheckedTerm, Draft};
+use crate::library::frames::{Binder, Body, Frame, Labelled, Next, Part, narrow, place_before};
 use crate::library::scope::push_variable;
-use smt_faults::TermFault;
-use smt_forms::{NameSet, Variable, are_attributes, are_named, label_at, split_let, split_named};
-use smt_nodes::{Node, TermId};
+use smt_faults::{Memory, TermFault};
+use smt_forms::{
+    NameSet, Variable, are_attributes, are_named, label_at, split_let_placed, split_named,
+    split_named_placed,
+};
+use smt_nodes::Node;
 use smt_theory::Sort;
 use smt_trees::{Tree, Trees};
+use std::alloc::Global;
 
 impl Library<'_> {
-    // The sort and the node of a `let`, by the trees after its word (SMT-LIB 2.6, section 3.6.1). Its variables come
-    // before those around it.
-    #[cycle(check)]
-    pub(super) fn sort_of_let<'a>(
+    // Begins the check of a `let`, by the trees after its word (SMT-LIB 2.6, section 3.6.1).
+    pub(super) fn enter_let<'a>(
         &self,
         draft: &mut Draft<'a>,
+        frames: &mut Vec<Frame>,
+        whole: Trees<'a>,
         args: Trees<'a>,
-        around: u32,
-    ) -> Result<CheckedTerm, TermFault>
+        part: Part,
+    ) -> Result<Next, TermFault>
         requires { IsPlaced (seen_by draft.old) draft.old.base }
-        ensures sort { HasSort self.now draft.old (Items (Cons (Reserved Let) (sexps_of args.entry))) result }
-        ensures labels { GivesLabels self.now draft.old draft.new
-            (Items (Cons (Reserved Let) (sexps_of args.entry))) result }
-        ensures kept { OnOk result (SeesTheSame draft.old draft.new) }
-        ensures waiting { OnOk result (HasTheSame draft.old draft.new) }
-        ensures open { IfOk result (λ c. c.is_open
-            ≡ is_open draft.old (Items (Cons (Reserved Let) (sexps_of args.entry)))) }
-        ensures node { IfOk result (Stands self.now draft.old draft.new around
-            (Items (Cons (Reserved Let) (sexps_of args.entry)))) }
+        ensures next { (first : Begun) → LiesIn whole.entry args.entry part.to
+            → Chain self.now whole.entry (reverse frames.old.items) first
+            (begun (Items (Cons (Reserved Let) (sexps_of args.entry))) part.around draft.old)
+            → MatchResult result (IsNext self.now whole.entry (reverse frames.new.items) first draft.new)
+            (HasFault self.now first) }
+        ensures less { IsNested (reverse frames.old.items) (Enter part) → size_of args.entry + part.to < part.from
+            → IfOk result (IsLess (reverse frames.new.items) (work (reverse frames.old.items) (Enter part))) }
         ensures longer { GrowsTo draft.old draft.new }
     {
-        let Some((bindings, body)) = split_let(args) else {
+        let Some((bindings, bodies)) = split_let_placed(args) else {
             return Err(TermFault::Form);
         };
-        if !are_bindings(bindings) {
+        let Some(distinct) = distinct_bindings(self.alloc, bindings)? else {
             return Err(TermFault::Form);
-        }
-        let outer = draft.scope.len();
-        let start = draft.arguments.len();
-        let (bound, is_open) = self.bound_by(draft, bindings)?;
-        draft.bind(bound.as_slice())?;
-        let inner = self.sort_of(draft, body, 0)?;
-        draft.scope.cut(outer);
-        let checked = draft.push_let(&self.nodes, start, inner, is_open, around)?;
-        draft.arguments.truncate(start);
-        Ok(checked)
+        };
+        let body = place_before(bodies.size(), part.to)?;
+        let binder = Binder {
+            bindings: place_before(bindings.size(), body)?,
+            body,
+            end: part.to,
+            start: narrow(draft.arguments.len())?,
+            around: part.around,
+        };
+        self.check_bindings(draft, frames, whole, binder, bindings, distinct, false)
     }
 
-    // The variables of bindings with the sorts of their terms, which do not see these variables, and whether one of
-    // the terms uses a variable from outside. The terms then wait as arguments.
-    #[cycle(check)]
-    fn bound_by<'a>(
+    // Checks the terms of the bindings that are left of a `let` up to one that is a list, or begins the check of the
+    // body where there is none. Of the names that are left only so many are distinct from the names before them.
+    pub(super) fn check_bindings<'a>(
+        &self,
+        draft: &mut Draft<'a>,
+        frames: &mut Vec<Frame>,
+        whole: Trees<'a>,
+        binder: Binder,
+        left: Trees<'a>,
+        distinct: u32,
+        is_open: bool,
+    ) -> Result<Next, TermFault>
+        requires placed { IsPlaced (seen_by draft.old) draft.old.base }
+        requires start { binder.start ≤ length (argument_sorts draft.old.arguments) }
+        ensures next { (first outer : Begun) → IsPlaced (seen_by outer.draft) outer.draft.base
+            → IsBinding self.now whole.entry binder left.entry distinct is_open outer draft.old
+            → Chain self.now whole.entry (reverse frames.old.items) first outer
+            → MatchResult result (IsNext self.now whole.entry (reverse frames.new.items) first draft.new)
+            (HasFault self.now first) }
+        ensures less { AreNested (reverse frames.old.items)
+            → place_behind (reverse frames.old.items) ≤ binder.end → binder.end ≤ binder.body
+            → IfOk result (IsLess (reverse frames.new.items)
+            (2 * (size_of left.entry + binder.body) + 2 + length (reverse frames.old.items))) }
+        ensures longer { GrowsTo draft.old draft.new }
+    {
+        let mut is_open = is_open;
+        let mut distinct = distinct;
+        let mut left = left;
+        while let Some((_, term, rest)) = split_named_placed(left) {
+            if distinct == 0 {
+                return Err(TermFault::BoundTwice);
+            }
+            distinct -= 1;
+            match self.begin(draft, term, rest.size(), binder.body, 0)? {
+                Next::Checked(checked) => {
+                    draft.arguments.push(checked.sort, checked.node)?;
+                    is_open |= checked.is_open;
+                    left = rest;
+                }
+                Next::Enter(part) => {
+                    frames.push(Frame::Binding {
+                        binder,
+                        left: part.to,
+                        distinct,
+                        is_open,
+                    })?;
+                    return Ok(Next::Enter(part));
+                }
+            }
+        }
+        self.begin_body(draft, frames, whole, binder, is_open)
+    }
+
+    // Begins the check of the body of a `let` whose bindings are checked. Its variables come before those around it.
+    fn begin_body<'a>(
+        &self,
+        draft: &mut Draft<'a>,
+        frames: &mut Vec<Frame>,
+        whole: Trees<'a>,
+        binder: Binder,
+        is_open: bool,
+    ) -> Result<Next, TermFault>
+        requires placed { IsPlaced (seen_by draft.old) draft.old.base }
+        requires start { binder.start ≤ length (argument_sorts draft.old.arguments) }
+        ensures next { (first outer : Begun) (bindings : Sexps) (body : Sexp) (bound : List (List ℕ × Sort))
+            → IsPlaced (seen_by outer.draft) outer.draft.base
+            → IsLet whole.entry binder outer bindings body
+            → LetSoFar self.now outer.draft draft.old bindings Nil bound is_open
+            → Chain self.now whole.entry (reverse frames.old.items) first outer
+            → MatchResult result (IsNext self.now whole.entry (reverse frames.new.items) first draft.new)
+            (HasFault self.now first) }
+        ensures less { AreNested (reverse frames.old.items)
+            → place_behind (reverse frames.old.items) ≤ binder.end → binder.end ≤ binder.body
+            → IfOk result (IsLess (reverse frames.new.items)
+            (2 * binder.body + 2 + length (reverse frames.old.items))) }
+        ensures longer { GrowsTo draft.old draft.new }
+    {
+        let body = Body {
+            start: binder.start,
+            around: binder.around,
+            outer: narrow(draft.scope.len())?,
+        };
+        let bindings = whole.between(binder.bindings as usize, binder.body as usize);
+        self.bind_all(draft, bindings, binder.start as usize)?;
+        frames.push(Frame::Body { body, is_open })?;
+        let bodies = whole.between(binder.body as usize, binder.end as usize);
+        let Some((term, rest)) = bodies.split_placed() else {
+            return Err(TermFault::Form);
+        };
+        self.begin(draft, term, rest.size(), binder.end, 0)
+    }
+
+    // Binds the variables of bindings, whose terms are the arguments from this one on.
+    fn bind_all<'a>(
         &self,
         draft: &mut Draft<'a>,
         bindings: Trees<'a>,
-    ) -> Result<(Vec<Variable<'a, Sort>>, bool), TermFault>
-        requires placed { IsPlaced (seen_by draft.old) draft.old.base }
-        requires named { are_named_trees (sexps_of bindings) ≡ true }
-        ensures bound { IsOutcome (λ found. scope_view found.0.items)
-            (bound_in (names_for self.now (labels_view draft.old.labels)) (sorts_seen draft.old) []
-            (sexps_of bindings.entry)) result }
-        ensures labels { OnOk result
-            (AreGiven (names_of_library self.now) draft.old.labels draft.new.labels
-            (labels_in_bindings (sexps_of bindings.entry))) }
-        ensures kept { OnOk result (SeesTheSame draft.old draft.new) }
-        ensures sorts { OnOk result (HasMoreSorts draft.old draft.new) }
-        ensures open { IfOk result (λ found. found.1 ≡ are_open_bindings draft.old (sexps_of bindings.entry)) }
-        ensures nodes { IfOk result (λ found. (nodes : List ℕ)
-            × (argument_terms draft.new.arguments ≡ argument_terms draft.old.arguments ++ nodes)
-            × BindingsStand self.now draft.old draft.new (sexps_of bindings.entry) nodes found.1) }
-        ensures longer { GrowsTo draft.old draft.new }
+        start: usize,
+    ) -> Result<(), Memory>
+        requires { start ≤ length (argument_sorts draft.old.arguments) }
+        ensures bound { OnOk result (seen_by draft.new ≡ placed_from (length (seen_by draft.old))
+            (variables_of (sexps_of bindings.entry) (sorts_from start draft.old.arguments)) ++ seen_by draft.old) }
+        ensures base { draft.new.base ≡ draft.old.base }
+        ensures labels { draft.new.labels ≡ draft.old.labels }
+        ensures nodes { draft.new.nodes ≡ draft.old.nodes }
+        ensures arguments { draft.new.arguments ≡ draft.old.arguments }
     {
-        let mut names = NameSet::new(self.alloc);
-        let mut bound = Vec::new(self.alloc);
-        let mut is_open = false;
-        let mut left = bindings;
-        while let Some((name, term, rest)) = split_named(left) {
-            if names.contains(name) {
-                return Err(TermFault::BoundTwice);
-            }
-            let checked = self.sort_of(draft, term, 0)?;
-            names.insert(name)?;
-            push_variable(&mut bound, name, checked.sort)?;
-            draft.arguments.push(checked.sort, checked.node)?;
-            is_open |= checked.is_open;
-            left = rest;
-        }
-        Ok((bound, is_open))
+        let variables = variables_of(self.alloc, bindings, draft.arguments.sorts(start))?;
+        draft.bind(variables.as_slice())
     }
 
-    // The sort and the node of an annotated term, by the trees after the `!` (SMT-LIB 2.6, section 3.6.5). Unless the
-    // annotation has a label, the node is that of the term in it, with one more annotation around it.
-    #[cycle(check)]
-    pub(super) fn sort_of_annotated<'a>(
+    // The sort and the node of a `let` whose body is checked.
+    pub(super) fn end_let(
         &self,
-        draft: &mut Draft<'a>,
-        args: Trees<'a>,
-        around: u32,
-    ) -> Result<CheckedTerm, TermFault>
-        requires { IsPlaced (seen_by draft.old) draft.old.base }
-        ensures sort { HasSort self.now draft.old (Items (Cons (Reserved Bang) (sexps_of args.entry))) result }
-        ensures labels { GivesLabels self.now draft.old draft.new
-            (Items (Cons (Reserved Bang) (sexps_of args.entry))) result }
-        ensures kept { OnOk result (SeesTheSame draft.old draft.new) }
-        ensures waiting { OnOk result (HasTheSame draft.old draft.new) }
-        ensures open { IfOk result (λ c. c.is_open
-            ≡ is_open draft.old (Items (Cons (Reserved Bang) (sexps_of args.entry)))) }
-        ensures node { IfOk result (Stands self.now draft.old draft.new around
-            (Items (Cons (Reserved Bang) (sexps_of args.entry)))) }
+        draft: &mut Draft<'_>,
+        body: Body,
+        is_open: bool,
+        checked: CheckedTerm,
+    ) -> Result<Next, TermFault>
+        requires { body.start ≤ length (argument_sorts draft.old.arguments) }
+        ensures done { (outer inner : Begun) → IsPlaced (seen_by outer.draft) outer.draft.base
+            → BodyWaits self.now body is_open outer inner → IsDone self.now inner draft.old checked
+            → MatchResult result (IsDoneNext self.now outer draft.new) (HasFault self.now outer) }
+        ensures checked { IfOk result IsCheckedNext }
         ensures longer { GrowsTo draft.old draft.new }
     {
-        let Some((term, attributes)) = args.split_first() else {
+        draft.scope.cut(body.outer as usize);
+        let start = body.start as usize;
+        let checked = draft.push_let(&self.nodes, start, checked, is_open, body.around)?;
+        draft.arguments.truncate(start);
+        Ok(Next::Checked(checked))
+    }
+
+    // Begins the check of an annotated term, by the trees after the `!` (SMT-LIB 2.6, section 3.6.5). Unless the
+    // annotation has a label, the node is that of the term in it, with one more annotation around it. With one, the
+    // term may use no variable bound outside it.
+    pub(super) fn enter_annotated<'a>(
+        &self,
+        draft: &mut Draft<'a>,
+        frames: &mut Vec<Frame>,
+        args: Trees<'a>,
+        part: Part,
+    ) -> Result<Next, TermFault>
+        requires { IsPlaced (seen_by draft.old) draft.old.base }
+        ensures next { (whole : Trees) (first : Begun) → LiesIn whole args.entry part.to
+            → Chain self.now whole (reverse frames.old.items) first
+            (begun (Items (Cons (Reserved Bang) (sexps_of args.entry))) part.around draft.old)
+            → MatchResult result (IsNext self.now whole (reverse frames.new.items) first draft.new)
+            (HasFault self.now first) }
+        ensures less { IsNested (reverse frames.old.items) (Enter part) → size_of args.entry + part.to < part.from
+            → IfOk result (IsLess (reverse frames.new.items) (work (reverse frames.old.items) (Enter part))) }
+        ensures longer { GrowsTo draft.old draft.new }
+    {
+        let Some((term, attributes)) = args.split_placed() else {
             return Err(TermFault::Form);
         };
         if !are_attributes(attributes) {
             return Err(TermFault::Form);
         }
-        if has_label(attributes) {
-            return self.sort_of_labelled(draft, term, attributes, around);
+        if !has_label(attributes) {
+            let Some(around) = part.around.checked_add(1) else {
+                return Err(TermFault::Memory);
+            };
+            return self.begin(draft, term, attributes.size(), part.to, around);
         }
-        match around.checked_add(1) {
-            Some(more) => self.sort_of(draft, term, more),
-            None => Err(TermFault::Memory),
-        }
+        let parts = place_before(args.size(), part.to)?;
+        frames.push(Frame::Labelled(Labelled {
+            parts,
+            end: part.to,
+            around: part.around,
+            base: narrow(draft.base)?,
+        }))?;
+        draft.base = draft.scope.len();
+        self.begin(draft, term, attributes.size(), part.to, 0)
     }
 
-    // The sort and the node of a term whose attributes give it a label. The term may use no variable bound outside it.
-    // Its node is the name that the first label gives to it.
-    #[cycle(check)]
-    fn sort_of_labelled<'a>(
+    // The sort and the node of a term with a label, by the check of the term in it. Its node is the name that the first
+    // label gives to it.
+    pub(super) fn end_labelled<'a>(
         &self,
         draft: &mut Draft<'a>,
-        term: Tree<'a>,
-        attributes: Trees<'a>,
-        around: u32,
-    ) -> Result<CheckedTerm, TermFault>
-        requires placed { IsPlaced (seen_by draft.old) draft.old.base }
-        requires form { bindings.are_attributes (sexps_of attributes) ≡ true }
-        requires labelled { has_labels (labels_among (sexps_of attributes)) ≡ true }
-        ensures sort { HasSort self.now draft.old
-            (Items (Cons (Reserved Bang) (Cons (sexp_of term.entry) (sexps_of attributes.entry)))) result }
-        ensures labels { GivesLabels self.now draft.old draft.new
-            (Items (Cons (Reserved Bang) (Cons (sexp_of term.entry) (sexps_of attributes.entry)))) result }
-        ensures kept { OnOk result (SeesTheSame draft.old draft.new) }
-        ensures waiting { OnOk result (HasTheSame draft.old draft.new) }
-        ensures open { IfOk result (λ c. c.is_open ≡ is_open draft.old
-            (Items (Cons (Reserved Bang) (Cons (sexp_of term.entry) (sexps_of attributes.entry))))) }
-        ensures node { IfOk result (Stands self.now draft.old draft.new around
-            (Items (Cons (Reserved Bang) (Cons (sexp_of term.entry) (sexps_of attributes.entry))))) }
+        whole: Trees<'a>,
+        labelled: Labelled,
+        checked: CheckedTerm,
+    ) -> Result<Next, TermFault>
+        requires { (term : Sexp) × (attributes : Sexps)
+            × frames.Lie whole labelled.parts labelled.end (Cons term attributes)
+            × IsSortedUnlessOpen self.now checked term }
+        ensures done { (outer inner : Begun) → IsPlaced (seen_by outer.draft) outer.draft.base
+            → LabelledWaits whole.entry labelled outer inner → IsDone self.now inner draft.old checked
+            → MatchResult result (IsDoneNext self.now outer draft.new) (HasFault self.now outer) }
+        ensures checked { IfOk result IsCheckedNext }
         ensures longer { GrowsTo draft.old draft.new }
     {
-        let base = draft.base;
-        draft.base = draft.scope.len();
-        let checked = self.sort_of(draft, term, 0)?;
+        let args = whole.between(labelled.parts as usize, labelled.end as usize);
+        let Some((term, attributes)) = args.split_first() else {
+            return Err(TermFault::Form);
+        };
         let place = self.bodies.len() + draft.labels.given.len();
         self.give_labels(&mut draft.labels, term, &checked, attributes)?;
-        draft.base = base;
-        Ok(draft.push(
-            &self.nodes,
-            &Node::Defined { place, args: &[] },
-            &checked.sort,
-            false,
-            around,
-        )?)
+        draft.base = labelled.base as usize;
+        let node = Node::Defined { place, args: &[] };
+        let named = draft.push(&self.nodes, &node, &checked.sort, false, labelled.around)?;
+        Ok(Next::Checked(named))
     }
 
     // Gives the labels among attributes to a checked term, in order, or returns their first fault.
@@ -276,7 +371,7 @@ impl Library<'_> {
 
 // Whether these are the bindings of a `let`: one or more.
 fn are_bindings(trees: Trees<'_>) -> bool
-    ensures { result ≡ bindings.are_bindings (sexps_of trees.entry) }
+    ensures { result ≡ forms.are_bindings (sexps_of trees.entry) }
 {
     trees.split_first().is_some() && are_named(trees)
 }
@@ -293,4 +388,49 @@ fn has_label(attributes: Trees<'_>) -> bool
         left = rest;
     }
     false
+}
+
+// The variables of bindings with these sorts.
+fn variables_of<'a>(
+    alloc: Global,
+    bindings: Trees<'a>,
+    sorts: &[Sort],
+) -> Result<Vec<Variable<'a, Sort>>, Memory>
+    ensures { IfOk result (λ vs. scope_view vs.items
+        ≡ frames.variables_of (sexps_of bindings.entry) sorts.now) }
+{
+    let mut variables = Vec::new(alloc);
+    let mut left = bindings;
+    let mut sorts = sorts;
+    while let Some((name, _, rest)) = split_named(left) {
+        let Some((sort, more)) = sorts.split_first() else {
+            break;
+        };
+        push_variable(&mut variables, name, *sort)?;
+        left = rest;
+        sorts = more;
+    }
+    Ok(variables)
+}
+
+// How many of these bindings have names that no earlier one has, up to the first that has not; `None` where these are
+// not the bindings of a `let`, one or more.
+fn distinct_bindings(alloc: Global, bindings: Trees<'_>) -> Result<Option<u32>, Memory>
+    ensures { IfOk result (λ found. MatchOption found (forms.are_bindings (sexps_of bindings.entry) ≡ false)
+        (λ distinct. (forms.are_bindings (sexps_of bindings.entry) ≡ true)
+        × (distinct ≡ distinct_from [] (sexps_of bindings.entry)))) }
+{
+    if !are_bindings(bindings) {
+        return Ok(None);
+    }
+    let mut names = NameSet::new(alloc);
+    let mut left = bindings;
+    while let Some((name, _, rest)) = split_named(left) {
+        if names.contains(name) {
+            break;
+        }
+        names.insert(name)?;
+        left = rest;
+    }
+    Ok(Some(narrow(names.len())?))
 }

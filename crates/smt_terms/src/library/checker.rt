@@ -1,80 +1,51 @@
 //! The sort checker: the sort and the node of a term, or its first flaw. This file adds no name to a library,
 //! and knows no values.
 
-ghost use Rattle.std.specs.Prelude.{◌≡◌, ◌≤◌, ◌*◌, ◌++◌, ℕ, List, [], false, length, IfOk, OnOk};
+ghost use Rattle.std.specs.Prelude.{◌≡◌, ◌≤◌, ◌*◌, [], Ok, false, length, IfErr, IfOk, OnOk};
 ghost use Rattle.smt_nodes.specs.NodeView.{node_view};
-ghost use Rattle.smt_trees.specs.Sexp.{Atom, Binary, Hexadecimal, Items, Numeral, Symbol};
+ghost use Rattle.smt_trees.specs.Sexp.{Atom, Binary, Cons, Hexadecimal, Items, Numeral, Reserved, Sexp, Sexps, Symbol};
+ghost use Rattle.smt_trees.specs.declared.reserved.Word.TheVariants.{Underscore};
 ghost use Rattle.smt_trees.specs.View.{sexp_of, sexps_of};
 ghost use Rattle.smt_theory.specs.Operators.{op_by};
 ghost use Rattle.smt_theory.specs.Ranks.{are_exactly};
 ghost use Rattle.smt_theory.specs.Width.{width_of};
 ghost use Rattle.smt_theory.specs.Words.{look_up};
 ghost use Rattle.smt_terms.specs.Checking as checking;
-ghost use Rattle.smt_terms.specs.Checking.{sorts_in};
-ghost use Rattle.smt_terms.specs.Internal.Calls.{GivesLabels, HasSort, HasSorts, HasTheSame, SeesTheSame};
+ghost use Rattle.smt_terms.specs.Internal.Calls.{GivesLabels, HasSort, HasTheSame, SeesTheSame};
 ghost use Rattle.smt_terms.specs.Internal.Calls.{names_variable};
-ghost use Rattle.smt_terms.specs.Internal.DraftView.{IsPlaced, are_open, argument_sorts, argument_terms, is_open};
+ghost use Rattle.smt_terms.specs.Internal.DraftView.{IsPlaced, argument_sorts, is_open};
 ghost use Rattle.smt_terms.specs.Internal.DraftView.{seen_by, sorts_from, sorts_of, sorts_seen, terms_from};
 ghost use Rattle.smt_forms.specs.ScopeOf.{scope_of};
-ghost use Rattle.smt_forms.specs.Identifier.{Plain};
+ghost use Rattle.smt_forms.specs.Identifier as identifiers;
+ghost use Rattle.smt_forms.specs.Identifier.{Plain, applied};
 ghost use Rattle.smt_forms.specs.IdentifierView.{identifier_view};
-ghost use Rattle.smt_terms.specs.Internal.LabelsView.{AreGiven, labels_view};
-ghost use Rattle.smt_terms.specs.Internal.LibraryView.{names_for, names_of_library};
-ghost use Rattle.smt_forms.specs.Labels.{labels_in_all};
-ghost use Rattle.smt_terms.specs.Internal.NodesView.{AddsApplied, AddsNode, AddsOperator, GrowsTo};
-ghost use Rattle.smt_terms.specs.Internal.NodesView.{Stands, TermsStand};
+ghost use Rattle.smt_terms.specs.Internal.Frames.{HasFault, IsAtom, IsDone, Lie, begun};
+ghost use Rattle.smt_terms.specs.Internal.LibraryView.{names_of_library};
+ghost use Rattle.smt_terms.specs.Internal.NodesView.{AddsApplied, AddsNode, AddsOperator, GrowsTo, Stands};
 ghost use Rattle.smt_terms.specs.SortTrees.{bit_vectors, integers};
 ghost use Rattle.smt_faults.specs.Outcome.{IsOutcome};
 
 use crate::library::Library;
 use crate::library::draft::{Bound, CheckedTerm, Draft};
+use crate::library::frames::Application;
 use crate::sorts;
 use smt_faults::{TermFault, TermFlaw};
-use smt_forms::{
-    Identifier, Scope, applied_identifier, indexed_identifier, is_as, is_bang, is_let,
-    is_underscore,
-};
+use smt_forms::{Identifier, Scope, applied_identifier, indexed_identifier};
 use smt_nodes::{Node, Nodes, TermId};
 use smt_theory::{Op, OpFault, Sort, Width, op_of, plain_op_of, plain_rank, rank};
 use smt_trees::{Tree, Trees};
 
 impl Library<'_> {
-    /// The sort and the node of a term over these names and the variables that it sees, or its first fault. Unless it
-    /// fails, the draft then has the variables and the arguments of before. The draft may gain nodes and labels, at a
-    /// fault too. This many annotations without a label are directly round the term already; its node keeps how many
-    /// there are with those that the term begins with. The parts of a term start from none.
-    #[cycle(check)]
+    // The sort and the node of an atom.
     #[inline(always)]
-    pub(crate) fn sort_of<'a>(
+    pub(super) fn sort_of_atom(
         &self,
-        draft: &mut Draft<'a>,
-        term: Tree<'a>,
+        draft: &mut Draft<'_>,
+        term: Tree<'_>,
         around: u32,
     ) -> Result<CheckedTerm, TermFault>
-        requires { IsPlaced (seen_by draft.old) draft.old.base }
-        ensures sort { HasSort self.now draft.old (sexp_of term.entry) result }
-        ensures labels { GivesLabels self.now draft.old draft.new (sexp_of term.entry) result }
-        ensures kept { OnOk result (SeesTheSame draft.old draft.new) }
-        ensures waiting { OnOk result (HasTheSame draft.old draft.new) }
-        ensures open { IfOk result (λ c. c.is_open ≡ is_open draft.old (sexp_of term.entry)) }
-        ensures node { IfOk result (Stands self.now draft.old draft.new around (sexp_of term.entry)) }
-        ensures longer { GrowsTo draft.old draft.new }
-    {
-        match term {
-            Tree::Symbol(name) => self.sort_of_symbol(draft, name, around),
-            _ => self.sort_of_other(draft, term, around),
-        }
-    }
-
-    // The sort and the node of a term, as `sort_of` finds them, but out of line: most terms are symbols.
-    #[cycle(check)]
-    fn sort_of_other<'a>(
-        &self,
-        draft: &mut Draft<'a>,
-        term: Tree<'a>,
-        around: u32,
-    ) -> Result<CheckedTerm, TermFault>
-        requires { IsPlaced (seen_by draft.old) draft.old.base }
+        requires placed { IsPlaced (seen_by draft.old) draft.old.base }
+        requires atom { IsAtom (sexp_of term) }
         ensures sort { HasSort self.now draft.old (sexp_of term.entry) result }
         ensures labels { GivesLabels self.now draft.old draft.new (sexp_of term.entry) result }
         ensures kept { OnOk result (SeesTheSame draft.old draft.new) }
@@ -86,11 +57,11 @@ impl Library<'_> {
         match term {
             Tree::Symbol(name) => self.sort_of_symbol(draft, name, around),
             Tree::Numeral(digits) => self.push_numeral(draft, digits, around),
-            Tree::List(parts) => self.sort_of_list(draft, parts, around),
             Tree::Hex(digits) => self.push_hex(draft, digits, around),
             Tree::Bin(digits) => self.push_bin(draft, digits, around),
             Tree::Decimal(_) | Tree::Text(_) => Err(TermFault::Unsupported),
             Tree::Keyword(_) | Tree::Reserved(_) => Err(TermFault::Form),
+            Tree::List(_) => unreachable!(),
         }
     }
 
@@ -193,76 +164,55 @@ impl Library<'_> {
         sorts::bit_vectors(self.sorts.theories, width_of_digits(bits, digits))
     }
 
-    // The sort and the node of a term that is a list of these parts, or its first fault.
-    #[cycle(check)]
-    fn sort_of_list<'a>(
+    // The sort and the node of an identifier with indexes alone, by the trees after the `_`.
+    pub(super) fn sort_of_indexed_alone(
         &self,
-        draft: &mut Draft<'a>,
-        parts: Trees<'a>,
+        draft: &mut Draft<'_>,
+        args: Trees<'_>,
         around: u32,
     ) -> Result<CheckedTerm, TermFault>
-        requires { IsPlaced (seen_by draft.old) draft.old.base }
-        ensures sort { HasSort self.now draft.old (Items (sexps_of parts.entry)) result }
-        ensures labels { GivesLabels self.now draft.old draft.new (Items (sexps_of parts.entry)) result }
-        ensures kept { OnOk result (SeesTheSame draft.old draft.new) }
-        ensures waiting { OnOk result (HasTheSame draft.old draft.new) }
-        ensures open { IfOk result (λ c. c.is_open ≡ is_open draft.old (Items (sexps_of parts.entry))) }
-        ensures node { IfOk result (Stands self.now draft.old draft.new around (Items (sexps_of parts.entry))) }
+        ensures done { IfOk result (IsDone self.now
+            (begun (Items (Cons (Reserved Underscore) (sexps_of args.entry))) around draft.old) draft.new) }
+        ensures fault { IfErr result (HasFault self.now
+            (begun (Items (Cons (Reserved Underscore) (sexps_of args.entry))) around draft.old)) }
         ensures longer { GrowsTo draft.old draft.new }
     {
+        let identifier = indexed_identifier(self.alloc, args)?;
+        let start = draft.arguments.len();
+        self.sort_applied(draft, &identifier, start, false, around)
+    }
+
+    // The sort and the node of an application whose arguments wait. A head that is a variable is ill sorted, as a
+    // variable accepts no arguments.
+    #[inline(always)]
+    pub(super) fn sort_of_application(
+        &self,
+        draft: &mut Draft<'_>,
+        whole: Trees<'_>,
+        application: Application,
+        is_open: bool,
+    ) -> Result<CheckedTerm, TermFault>
+        requires { application.start ≤ length (argument_sorts draft.old.arguments) }
+        ensures call { (head : Sexp) (args : Sexps) (f : identifiers.Identifier)
+            → Lie whole.entry application.parts application.end (Cons head args) → applied head args ≡ Ok f
+            → IsOutcome (λ c. c.sort) (checking.sort_of_call (names_of_library self.now) (sorts_seen draft.old) f
+            (sorts_from application.start draft.old.arguments)) result
+            × IfOk result (AddsApplied self.now draft.old draft.new application.around f
+            (sorts_from application.start draft.old.arguments) (terms_from application.start draft.old.arguments)) }
+        ensures open { IfOk result (λ c. c.is_open ≡ is_open) }
+        ensures longer { GrowsTo draft.old draft.new }
+        ensures scope { draft.new.scope ≡ draft.old.scope }
+        ensures base { draft.new.base ≡ draft.old.base }
+        ensures labels { draft.new.labels ≡ draft.old.labels }
+        ensures arguments { draft.new.arguments ≡ draft.old.arguments }
+    {
+        let parts = whole.between(application.parts as usize, application.end as usize);
         let Some((head, args)) = parts.split_first() else {
             return Err(TermFault::Form);
         };
-        if is_underscore(head) {
-            let identifier = indexed_identifier(self.alloc, args)?;
-            let start = draft.arguments.len();
-            return self.sort_applied(draft, &identifier, start, false, around);
-        }
-        if is_let(head) {
-            return self.sort_of_let(draft, args, around);
-        }
-        if is_bang(head) {
-            return self.sort_of_annotated(draft, args, around);
-        }
-        if is_as(head) {
-            return self.sort_of_qualified(draft, args, around);
-        }
         let identifier = applied_identifier(self.alloc, head, args)?;
-        let start = draft.arguments.len();
-        let is_open = self.sorts_of(draft, args)?;
-        let checked = self.sort_of_call(draft, &identifier, start, is_open, around)?;
-        draft.arguments.truncate(start);
-        Ok(checked)
-    }
-
-    // Adds the sorts and the nodes of terms to the waiting arguments, in order. Returns whether one of the terms uses
-    // a variable from outside, or the first fault.
-    #[cycle(check)]
-    #[inline(always)]
-    fn sorts_of<'a>(&self, draft: &mut Draft<'a>, terms: Trees<'a>) -> Result<bool, TermFault>
-        requires { IsPlaced (seen_by draft.old) draft.old.base }
-        ensures sorts { HasSorts draft.old draft.new
-            (sorts_in (names_for self.now (labels_view draft.old.labels)) (sorts_seen draft.old)
-            (sexps_of terms.entry)) result }
-        ensures labels { OnOk result
-            (AreGiven (names_of_library self.now) draft.old.labels draft.new.labels
-            (labels_in_all (sexps_of terms.entry))) }
-        ensures kept { OnOk result (SeesTheSame draft.old draft.new) }
-        ensures open { IfOk result (λ is_open. is_open ≡ are_open draft.old (sexps_of terms.entry)) }
-        ensures nodes { IfOk result (λ is_open. (nodes : List ℕ)
-            × (argument_terms draft.new.arguments ≡ argument_terms draft.old.arguments ++ nodes)
-            × TermsStand self.now draft.old draft.new (sexps_of terms.entry) nodes is_open) }
-        ensures longer { GrowsTo draft.old draft.new }
-    {
-        let mut is_open = false;
-        let mut left = terms;
-        while let Some((term, rest)) = left.split_first() {
-            let checked = self.sort_of(draft, term, 0)?;
-            draft.arguments.push(checked.sort, checked.node)?;
-            is_open |= checked.is_open;
-            left = rest;
-        }
-        Ok(is_open)
+        let start = application.start as usize;
+        self.sort_of_call(draft, &identifier, start, is_open, application.around)
     }
 
     // The sort and the node of a symbol alone: of the variable that it names, of a name or an operator without

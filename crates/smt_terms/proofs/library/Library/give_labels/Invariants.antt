@@ -2,6 +2,7 @@ use Rattle.std.proofs.Common.{◌≡◌, ◌++◌, [], ℕ, List, map}
 use Rattle.smt_trees.specs.Sexp.{weight_all}
 use Rattle.smt_trees.specs.View.{sexp_of, sexps_of}
 use Rattle.smt_theory.specs.declared.sort.Sort.{Sort}
+use Rattle.smt_terms.specs.Internal.SoFar.{AreGivenOf}
 use Rattle.smt_terms.specs.Checking.{flaw_of_labels}
 use Rattle.smt_terms.specs.Internal.LabelsView.{labels_view}
 use Rattle.smt_terms.specs.Internal.LibraryView.{names_for, names_of_library}
@@ -11,7 +12,7 @@ use Rattle.smt_terms.specs.Denotes.{Denotes, Table}
 use Rattle.smt_terms.specs.Internal.NodesView.{nodes_given}
 use Rattle.smt_terms.specs.Internal.TableView.{AreNamed}
 use Rattle.smt_terms.specs.declared.labels.Label.{Label}
-use Rattle.smt_terms.proofs.LabelLemmas.{AreGivenOf, with_term}
+use Rattle.smt_terms.proofs.LabelLemmas.{with_term}
 use Rattle.smt_terms.proofs.library.Library.give_labels.Given as goal
 
 abbrev pub invariant-loop-tree : goal.invariant-loop-tree
