@@ -58,6 +58,56 @@ pub fn applied_identifier<'a>(
     }
 }
 
+/// What is wrong with the form of a list of this head and these arguments; `None` where it applies an identifier.
+#[inline(always)]
+pub fn applied_flaw(head: Tree<'_>, args: Trees<'_>) -> Option<TermFlaw>
+    ensures { MatchOption result
+        ((f : identifiers.Identifier) × (applied (sexp_of head.entry) (sexps_of args.entry) ≡ Ok f))
+        (λ flaw. applied (sexp_of head.entry) (sexps_of args.entry) ≡ Err flaw) }
+{
+    match head {
+        Tree::Symbol(_) => match args.split_first() {
+            Some(_) => None,
+            None => Some(TermFlaw::Form),
+        },
+        Tree::Reserved(word) => Some(word_flaw(word)),
+        Tree::List(parts) => list_flaw(parts, args),
+        _ => Some(TermFlaw::Form),
+    }
+}
+
+// The same where the head is a list of these parts.
+fn list_flaw(parts: Trees<'_>, args: Trees<'_>) -> Option<TermFlaw>
+    ensures { MatchOption result
+        ((f : identifiers.Identifier) × (applied (Items (sexps_of parts.entry)) (sexps_of args.entry) ≡ Ok f))
+        (λ flaw. applied (Items (sexps_of parts.entry)) (sexps_of args.entry) ≡ Err flaw) }
+{
+    match parts.split_first() {
+        Some((Tree::Reserved(Word::As), _)) => Some(TermFlaw::Unsupported),
+        Some((Tree::Reserved(Word::Underscore), rest)) if args.split_first().is_some() => {
+            indexed_flaw(rest)
+        }
+        _ => Some(TermFlaw::Form),
+    }
+}
+
+// What is wrong with the form of an identifier with indexes, by the trees after the `_`.
+fn indexed_flaw(parts: Trees<'_>) -> Option<TermFlaw>
+    ensures { MatchOption result ((f : identifiers.Identifier) × (indexed (sexps_of parts.entry) ≡ Ok f))
+        (λ flaw. indexed (sexps_of parts.entry) ≡ Err flaw) }
+{
+    let Some((Tree::Symbol(_), rest)) = parts.split_first() else {
+        return Some(TermFlaw::Form);
+    };
+    let Some(_) = rest.split_first() else {
+        return Some(TermFlaw::Form);
+    };
+    if !are_indexes(rest) {
+        return Some(TermFlaw::Form);
+    }
+    None
+}
+
 // The identifier that is applied where the head is a list of these parts.
 fn applied_list<'a>(
     alloc: Global,
@@ -112,12 +162,19 @@ pub fn are_indexes(trees: Trees<'_>) -> bool
 {
     let mut left = trees;
     while let Some((tree, rest)) = left.split_first() {
-        if index_of(tree).is_none() {
+        if !is_index(tree) {
             return false;
         }
         left = rest;
     }
     true
+}
+
+// Whether a tree is an index.
+fn is_index(tree: Tree<'_>) -> bool
+    ensures { result ≡ is_some (index_of_tree (sexp_of tree.entry)) }
+{
+    matches!(tree, Tree::Numeral(_) | Tree::Symbol(_))
 }
 
 // The index that a tree is: a numeral or a symbol.

@@ -28,7 +28,9 @@ pub use attributes::{are_attributes, label_at};
 pub use bindings::{are_named, split_let, split_let_placed, split_named, split_named_placed};
 pub use element_names::sort_of_element;
 pub use heads::{is_as, is_bang, is_let, is_underscore};
-pub use identifier::{Identifier, applied_identifier, are_indexes, indexed_identifier};
+pub use identifier::{
+    Identifier, applied_flaw, applied_identifier, are_indexes, indexed_identifier,
+};
 pub use items::{ItemForm, item_form};
 pub use name_set::NameSet;
 pub use params::{Param, params_of};

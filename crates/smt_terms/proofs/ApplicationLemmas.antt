@@ -1,10 +1,11 @@
 -- Applications, one argument at a time.
-use Rattle.std.proofs.Common.{◌≡◌, ◌+◌, ℕ, [], ◌∷◌, ◌++◌, ◌||◌, false, Ok, Err, Result, Bool, refl, ap, sym}
+use Rattle.std.proofs.Common.{◌≡◌, ◌+◌, ℕ, [], ◌∷◌, ◌++◌, ◌||◌, false, Ok, Err, Result, Bool, refl, ap, sym, List}
 use Rattle.std.proofs.Common.{subst, ◌∙◌, take, IfErr, IfOk, OnOk}
 use Rattle.smt_trees.specs.Places.{LiesIn, size_of}
-use Rattle.smt_trees.specs.Sexp.{Sexp, Sexps, Cons, Items, Nil}
+use Rattle.smt_trees.specs.Sexp.{Atom, Cons, Items, Nil, Sexp, Sexps, Symbol}
 use Rattle.smt_trees.specs.View.{sexps_of}
 use Rattle.smt_trees.specs.declared.view.Trees.{Trees}
+use Rattle.smt_forms.specs.Identifier.{Identifier, Plain, applied}
 use Rattle.smt_forms.specs.Labels.{labels_in, labels_in_all}
 use Rattle.smt_forms.specs.ScopeOf.{scope_of}
 use Rattle.smt_faults.specs.Outcome.{IsOutcome, Tells}
@@ -248,3 +249,9 @@ on_ok (Err e) P p = tt
 
 pub none_given : (names : Names) (old new : Labels) → new ≡ old → AreGiven names old new []
 none_given names old new same = subst (λ (ls : Labels). AreGiven names old ls []) (sym same) (AreGiven-none names old)
+
+-- a symbol before arguments is applied
+pub plain_applied : (name : List ℕ) (args : Sexps) (f : Identifier) → applied (Atom Symbol name) args ≡ Ok f
+    → f ≡ Plain name
+plain_applied name Nil f h = cc
+plain_applied name (Cons x xs) f h = cc

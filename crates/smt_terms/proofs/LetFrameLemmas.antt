@@ -1,8 +1,9 @@
 -- Lets, one binding at a time, and their bodies.
 use Rattle.std.proofs.Common.{◌≡◌, ◌+◌, ◌-◌, ◌<◌, ℕ, List, [], ◌∷◌, ◌++◌, ◌||◌, true, false, Ok, Bool, refl, ap}
-use Rattle.std.proofs.Common.{sym, subst, ◌∙◌, take, drop, cond, map, is_some, arith, append-nil, append_assoc, length, inr, None, Err}
+use Rattle.std.proofs.Common.{sym, subst, ◌∙◌, take, drop, cond, map, is_some, arith, append-nil, append_assoc, length, inr, None, Err, not}
+use Rattle.std.proofs.lemmas.List.{length-append}
 use Rattle.smt_trees.specs.Places.{LiesIn, size_of}
-use Rattle.smt_trees.specs.Sexp.{Sexp, Sexps, Cons, Items, Nil, Reserved}
+use Rattle.smt_trees.specs.Sexp.{Sexp, Sexps, Atom, Cons, Items, Nil, Reserved, Symbol}
 use Rattle.smt_trees.specs.View.{sexps_of}
 use Rattle.smt_trees.specs.declared.reserved.Word.TheVariants.{Let}
 use Rattle.smt_trees.specs.declared.view.Trees.{Trees}
@@ -83,6 +84,37 @@ fresh bound x term left rest n split counted some =
     (distinct_from (map (λ v. v.0) bound ++ x ∷ []) rest)
     (counted ∙ ap (distinct_from (map (λ v. v.0) bound)) split) some in
     (sym (among bound x) ∙ found.0, found.1)
+
+-- a name more is counted, if it is distinct from those before it
+pub name_counted : (total : ℕ) (names after : List (List ℕ)) (x : List ℕ) (rest : Sexps) (among added : Bool)
+    → added ≡ not among → after ≡ cond added (names ++ x ∷ []) names
+    → total ≡ length names + cond among 0 (1 + distinct_from (names ++ x ∷ []) rest)
+    → total ≡ length after + cond added (distinct_from after rest) 0
+name_counted total names after x rest true added is after_is h =
+    let same : after ≡ names = after_is ∙ ap (λ b. cond b (names ++ x ∷ []) names) is in
+    h ∙ ap (λ (xs : List (List ℕ)). length xs + 0) (sym same)
+    ∙ ap (λ b. length after + cond b (distinct_from after rest) 0) (sym is)
+name_counted total names after x rest false added is after_is h =
+    let same : after ≡ names ++ x ∷ [] = after_is ∙ ap (λ b. cond b (names ++ x ∷ []) names) is in
+    let one : length names + (1 + distinct_from (names ++ x ∷ []) rest)
+    ≡ length (names ++ x ∷ []) + distinct_from (names ++ x ∷ []) rest =
+    omega (arith, length-append names (x ∷ [])) in
+    h ∙ one ∙ ap (λ (xs : List (List ℕ)). length xs + distinct_from xs rest) (sym same)
+    ∙ ap (λ b. length after + cond b (distinct_from after rest) 0) (sym is)
+
+-- what is no binding is no named tree
+pub not_named : (first : Sexp) (rest : Sexps) → first_named (Cons first rest) ≡ None
+    → are_named_trees (Cons first rest) ≡ false
+not_named (Items (Cons (Atom Symbol x) (Cons term Nil))) rest h = cc
+not_named _ rest h = refl
+
+pub count_of_none : (n : ℕ) (b : Bool) → n + cond b 0 0 ≡ n
+count_of_none n true = omega arith
+count_of_none n false = omega arith
+
+pub no_variables : (bindings : Sexps) → variables_of bindings [] ≡ []
+no_variables (Cons (Items (Cons (Atom Symbol x) tail)) rest) = refl
+no_variables _ = refl
 
 -- ---- bindings
 

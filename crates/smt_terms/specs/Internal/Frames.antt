@@ -1,7 +1,7 @@
 -- What a stack of frames means: each frame is the place in the check of a part where the check of a part in it was
 -- begun, as the record of a recursive call would keep it.
 use Rattle.std.specs.Prelude.{◌≡◌, ◌<◌, ◌≤◌, ◌+◌, ◌*◌, ℕ, List, [], ◌∷◌, ◌++◌, Bool, true, false, ◌||◌, Ok, is_some}
-use Rattle.std.specs.Prelude.{length, map, if◌then◌else◌}
+use Rattle.std.specs.Prelude.{length, map, if◌then◌else◌, Option, Some, None}
 use Rattle.smt_trees.specs.Places.{LiesIn, size_of}
 use Rattle.smt_trees.specs.Sexp.{Sexp, Sexps, Atom, Cons, Items, Nil, Reserved, Symbol}
 use Rattle.smt_trees.specs.View.{sexps_of}
@@ -130,9 +130,13 @@ distinct_from earlier _ = 0
 
 -- the names of bindings with these sorts
 abbrev pub variables_of : Sexps → List Sort → List (List ℕ × Sort)
-variables_of (Cons (Items (Cons (Atom Symbol x) (Cons term Nil))) rest) (sort ∷ sorts) =
-    (x, sort) ∷ variables_of rest sorts
+variables_of (Cons (Items (Cons (Atom Symbol x) tail)) rest) (sort ∷ sorts) = (x, sort) ∷ variables_of rest sorts
 variables_of _ _ = []
+
+-- the name of the first binding
+abbrev pub first_name : Sexps → Option (List ℕ)
+first_name (Cons (Items (Cons (Atom Symbol x) tail)) rest) = Some x
+first_name _ = None
 
 -- a part is this `let` of bindings and a body
 pub record IsLet (whole : Trees) (b : Binder) (outer : Begun) (bindings : Sexps) (body : Sexp) : Type 0 where

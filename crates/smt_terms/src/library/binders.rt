@@ -2,12 +2,15 @@
 //! file adds no name to a library.
 
 ghost use Rattle.std.specs.Prelude.{◌≡◌, ◌<◌, ◌≤◌, ◌+◌, ◌*◌, ◌++◌, ◌∷◌, ℕ, List, [], true, false, length, map};
-ghost use Rattle.std.specs.Prelude.{IfOk, OnOk, MatchOption, MatchResult, reverse};
+ghost use Rattle.std.specs.Prelude.{IfOk, IfSome, MatchOption, MatchResult, None, OnOk, reverse};
 ghost use Rattle.smt_trees.specs.Places.{LiesIn, size_of};
-ghost use Rattle.smt_trees.specs.Sexp.{Cons, Items, Nil, Reserved, Sexp, Sexps};
+ghost use Rattle.smt_trees.specs.Sexp.{Atom, Cons, Items, Nil, Reserved, Sexp, Sexps, Symbol};
 ghost use Rattle.smt_trees.specs.View.{sexp_of, sexps_of};
 ghost use Rattle.smt_trees.specs.declared.reserved.Word.TheVariants.{Bang, Let};
 ghost use Rattle.smt_forms.specs.Bindings as forms;
+ghost use Rattle.smt_forms.specs.NamesIn.{names_in};
+ghost use Rattle.smt_forms.specs.Variables.{is_among};
+ghost use Rattle.std.specs.Prelude.{if◌then◌else◌, not};
 ghost use Rattle.smt_forms.specs.Labels.{label_of_tree, labels_among};
 ghost use Rattle.smt_forms.specs.ScopeView.{scope_view};
 ghost use Rattle.smt_theory.specs.declared.sort.Sort.{Sort};
@@ -17,7 +20,7 @@ ghost use Rattle.smt_terms.specs.Internal.Frames as frames;
 ghost use Rattle.smt_terms.specs.Internal.Frames.{AreNested, Begun, BodyWaits, Chain, HasFault, IsBinding, IsDone};
 ghost use Rattle.smt_terms.specs.Internal.Frames.{IsCheckedNext, IsDoneNext, IsLess, IsLet, IsNested, IsNext};
 ghost use Rattle.smt_terms.specs.Internal.Frames.{LabelledWaits, LetSoFar, begun, distinct_from, place_behind};
-ghost use Rattle.smt_terms.specs.Internal.Frames.{variables_of, work};
+ghost use Rattle.smt_terms.specs.Internal.Frames.{first_name, variables_of, work};
 ghost use Rattle.smt_terms.specs.Internal.LabelsView.{AreGiven, labels_view};
 ghost use Rattle.smt_terms.specs.Internal.LibraryView.{names_for, names_of_library};
 ghost use Rattle.smt_terms.specs.Denotes.{Denotes, Table};
@@ -33,8 +36,7 @@ use crate::library::frames::{Binder, Body, Frame, Labelled, Next, Part, narrow, 
 use crate::library::scope::push_variable;
 use smt_faults::{Memory, TermFault};
 use smt_forms::{
-    NameSet, Variable, are_attributes, are_named, label_at, split_let_placed, split_named,
-    split_named_placed,
+    NameSet, Variable, are_attributes, label_at, split_let_placed, split_named, split_named_placed,
 };
 use smt_nodes::Node;
 use smt_theory::Sort;
@@ -185,6 +187,10 @@ impl Library<'_> {
         ensures nodes { draft.new.nodes ≡ draft.old.nodes }
         ensures arguments { draft.new.arguments ≡ draft.old.arguments }
     {
+        if let Some((name, sort)) = only_variable(bindings, draft.arguments.sorts(start)) {
+            let place = draft.scope.len();
+            return draft.put(name, sort, place);
+        }
         let variables = variables_of(self.alloc, bindings, draft.arguments.sorts(start))?;
         draft.bind(variables.as_slice())
     }
@@ -369,13 +375,6 @@ impl Library<'_> {
     }
 }
 
-// Whether these are the bindings of a `let`: one or more.
-fn are_bindings(trees: Trees<'_>) -> bool
-    ensures { result ≡ forms.are_bindings (sexps_of trees.entry) }
-{
-    trees.split_first().is_some() && are_named(trees)
-}
-
 // Whether one of these attributes is a label.
 fn has_label(attributes: Trees<'_>) -> bool
     ensures { result ≡ has_labels (labels_among (sexps_of attributes.entry)) }
@@ -402,7 +401,7 @@ fn variables_of<'a>(
     let mut variables = Vec::new(alloc);
     let mut left = bindings;
     let mut sorts = sorts;
-    while let Some((name, _, rest)) = split_named(left) {
+    while let Some((name, _, rest)) = split_name(left) {
         let Some((sort, more)) = sorts.split_first() else {
             break;
         };
@@ -413,6 +412,38 @@ fn variables_of<'a>(
     Ok(variables)
 }
 
+// The variable of a binding, if there is one sort.
+fn only_variable<'a>(bindings: Trees<'a>, sorts: &[Sort]) -> Option<(&'a [u8], Sort)>
+    ensures { IfSome result
+        (λ v. frames.variables_of (sexps_of bindings.entry) sorts.now ≡ (v.0.now, v.1) ∷ []) }
+{
+    let Some((sort, more)) = sorts.split_first() else {
+        return None;
+    };
+    let Some((name, _, _)) = split_name(bindings) else {
+        return None;
+    };
+    match more.split_first() {
+        Some(_) => None,
+        None => Some((name, *sort)),
+    }
+}
+
+// The name of the first binding, what its list has after the name, and the bindings after it.
+fn split_name(bindings: Trees<'_>) -> Option<(&[u8], Trees<'_>, Trees<'_>)>
+    ensures { MatchOption result (first_name (sexps_of bindings.entry) ≡ None)
+        (λ p. sexps_of bindings.entry
+        ≡ Cons (Items (Cons (Atom Symbol p.0.now) (sexps_of p.1))) (sexps_of p.2)) }
+{
+    let Some((Tree::List(parts), rest)) = bindings.split_first() else {
+        return None;
+    };
+    let Some((Tree::Symbol(name), tail)) = parts.split_first() else {
+        return None;
+    };
+    Some((name, tail, rest))
+}
+
 // How many of these bindings have names that no earlier one has, up to the first that has not; `None` where these are
 // not the bindings of a `let`, one or more.
 fn distinct_bindings(alloc: Global, bindings: Trees<'_>) -> Result<Option<u32>, Memory>
@@ -420,17 +451,36 @@ fn distinct_bindings(alloc: Global, bindings: Trees<'_>) -> Result<Option<u32>, 
         (λ distinct. (forms.are_bindings (sexps_of bindings.entry) ≡ true)
         × (distinct ≡ distinct_from [] (sexps_of bindings.entry)))) }
 {
-    if !are_bindings(bindings) {
+    let Some((first, _, rest)) = split_named(bindings) else {
         return Ok(None);
-    }
+    };
+    let Some(_) = rest.split_first() else {
+        return Ok(Some(1));
+    };
     let mut names = NameSet::new(alloc);
-    let mut left = bindings;
+    names.insert(first)?;
+    let mut is_distinct = true;
+    let mut left = rest;
     while let Some((name, _, rest)) = split_named(left) {
-        if names.contains(name) {
-            break;
+        if is_distinct {
+            is_distinct = add_name(&mut names, name)?;
         }
-        names.insert(name)?;
         left = rest;
     }
-    Ok(Some(narrow(names.len())?))
+    match left.split_first() {
+        Some(_) => Ok(None),
+        None => Ok(Some(narrow(names.len())?)),
+    }
+}
+
+// Adds a name to others, unless it is one of them. Returns whether it was added.
+fn add_name<'a>(names: &mut NameSet<'a>, name: &'a [u8]) -> Result<bool, Memory>
+    ensures { IfOk result (λ added. (added ≡ not (is_among (names_in names.old) name.now))
+        × (names_in names.new ≡ (if added then names_in names.old ++ name.now ∷ [] else names_in names.old))) }
+{
+    if names.contains(name) {
+        return Ok(false);
+    }
+    names.insert(name)?;
+    Ok(true)
 }

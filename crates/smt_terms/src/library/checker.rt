@@ -207,12 +207,51 @@ impl Library<'_> {
         ensures arguments { draft.new.arguments ≡ draft.old.arguments }
     {
         let parts = whole.between(application.parts as usize, application.end as usize);
-        let Some((head, args)) = parts.split_first() else {
-            return Err(TermFault::Form);
-        };
-        let identifier = applied_identifier(self.alloc, head, args)?;
         let start = application.start as usize;
-        self.sort_of_call(draft, &identifier, start, is_open, application.around)
+        match parts.split_first() {
+            Some((Tree::Symbol(name), _)) => {
+                if draft.scope.find(name).is_some() {
+                    return Err(TermFault::IllSorted);
+                }
+                self.sort_of_plain(draft, name, start, is_open, application.around)
+            }
+            Some((head, args)) => self.sort_of_other_call(
+                draft,
+                head,
+                args,
+                start,
+                is_open,
+                application.around,
+            ),
+            None => Err(TermFault::Form),
+        }
+    }
+
+    // The same for a head that is no symbol.
+    fn sort_of_other_call(
+        &self,
+        draft: &mut Draft<'_>,
+        head: Tree<'_>,
+        args: Trees<'_>,
+        start: usize,
+        is_open: bool,
+        around: u32,
+    ) -> Result<CheckedTerm, TermFault>
+        requires { start ≤ length (argument_sorts draft.old.arguments) }
+        ensures call { (f : identifiers.Identifier) → applied (sexp_of head.entry) (sexps_of args.entry) ≡ Ok f
+            → IsOutcome (λ c. c.sort) (checking.sort_of_call (names_of_library self.now) (sorts_seen draft.old) f
+            (sorts_from start draft.old.arguments)) result
+            × IfOk result (AddsApplied self.now draft.old draft.new around f
+            (sorts_from start draft.old.arguments) (terms_from start draft.old.arguments)) }
+        ensures open { IfOk result (λ c. c.is_open ≡ is_open) }
+        ensures longer { GrowsTo draft.old draft.new }
+        ensures scope { draft.new.scope ≡ draft.old.scope }
+        ensures base { draft.new.base ≡ draft.old.base }
+        ensures labels { draft.new.labels ≡ draft.old.labels }
+        ensures arguments { draft.new.arguments ≡ draft.old.arguments }
+    {
+        let identifier = applied_identifier(self.alloc, head, args)?;
+        self.sort_of_call(draft, &identifier, start, is_open, around)
     }
 
     // The sort and the node of a symbol alone: of the variable that it names, of a name or an operator without

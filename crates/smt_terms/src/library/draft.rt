@@ -88,8 +88,8 @@ impl<'a> Draft<'a> {
         Ok(())
     }
 
-    // Puts a variable of this place before those in scope.
-    fn put(&mut self, name: &'a [u8], sort: Sort, place: usize) -> Result<(), Memory>
+    /// Puts a variable of this place before those in scope.
+    pub(crate) fn put(&mut self, name: &'a [u8], sort: Sort, place: usize) -> Result<(), Memory>
         ensures put { OnOk result (seen_by self.new
             ≡ (name.now, record { sort = sort; place = place }) ∷ seen_by self.old) }
         ensures base { self.new.base ≡ self.old.base }

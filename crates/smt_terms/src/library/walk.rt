@@ -17,7 +17,7 @@ use crate::library::Library;
 use crate::library::draft::{CheckedTerm, Draft};
 use crate::library::frames::{Application, Frame, Next, Part, narrow, place_before};
 use smt_faults::TermFault;
-use smt_forms::{applied_identifier, is_as, is_bang, is_let, is_underscore};
+use smt_forms::{applied_flaw, is_as, is_bang, is_let, is_underscore};
 use smt_trees::{Tree, Trees, Word};
 
 impl Library<'_> {
@@ -162,7 +162,9 @@ impl Library<'_> {
             → IfOk result (IsLess (reverse frames.new.items) (work (reverse frames.old.items) (Enter part))) }
         ensures longer { GrowsTo draft.old draft.new }
     {
-        let _identifier = applied_identifier(self.alloc, head, args)?;
+        if let Some(flaw) = applied_flaw(head, args) {
+            return Err(TermFault::from(flaw));
+        }
         let start = narrow(draft.arguments.len())?;
         let application = Application {
             parts: part.from,

@@ -1,28 +1,29 @@
 use Rattle.std.proofs.Common.{refl, reverse, ◌∙◌}
-use Rattle.std.proofs.lemmas.Result.{err_from_is_err_and}
 use Rattle.smt_trees.specs.Sexp.{Cons, Items}
 use Rattle.smt_trees.specs.View.{sexp_of, sexps_of}
-use Rattle.smt_forms.specs.IdentifierView.{identifier_view}
+use Rattle.smt_faults.specs.Faults.{flaw_of_term_fault}
+use Rattle.smt_forms.specs.Identifier.{applied}
+use Rattle.std.proofs.Common.{◌≡◌, Some, rules}
 use Rattle.smt_terms.specs.Internal.DraftView.{sorts_seen}
 use Rattle.smt_terms.specs.Internal.Frames.{IsApplication, IsCalled, begun}
 use Rattle.smt_terms.specs.Internal.LabelsView.{labels_view}
 use Rattle.smt_terms.specs.Internal.LibraryView.{names_for}
 use Rattle.smt_terms.specs.declared.library.frames.Application.{Application}
 use Rattle.smt_terms.proofs.ApplicationLemmas.{arguments_start}
-use Rattle.smt_terms.proofs.CheckerLemmas.{fault_of_form}
+use Rattle.smt_terms.proofs.CheckerLemmas.{fault_of_form, told}
 use Rattle.smt_terms.proofs.FrameLemmas.{fault_through}
 use Rattle.smt_terms.proofs.library.Library.enter_application.Goals as goal
 use Rattle.std.proofs.Common.{false}
 
-pub returns-in_err-_identifier-clause-next : goal.returns-in_err-_identifier-clause-next
-returns-in_err-_identifier-clause-next c first plain lie lies chain =
-    let p = err_from_is_err_and c.from_residual.result c.from_residual.ensures.1 in
+pub returns-in-Some-clause-next : goal.returns-in-Some-clause-next
+returns-in-Some-clause-next c first plain lie lies chain =
     let head = sexp_of c.args.head in
     let args = sexps_of c.args.args in
-    rw (p.1, p.2)
-    (fault_through c.args.self.now c.args.whole (reverse c.args.frames.now.items) first _ _ chain
+    let made : flaw_of_term_fault c.from.result ≡ Some c.in-Some.flaw = search rules in
+    fault_through c.args.self.now c.args.whole (reverse c.args.frames.now.items) first _ c.from.result chain
     (fault_of_form (names_for c.args.self.now (labels_view c.args.draft.now.labels)) (sorts_seen c.args.draft.now) head
-    args (Cons head args) _ refl plain c.in_err-_identifier.ensures))
+    args (Cons head args) c.from.result refl plain
+    (told (applied head args) c.in-Some.flaw c.from.result c.in-Some.ensures made))
 
 pub returns-clause-next : goal.returns-clause-next
 returns-clause-next c first plain lie lies chain =
@@ -39,11 +40,11 @@ returns-clause-next c first plain lie lies chain =
     } in
     let application : IsApplication c.args.whole a outer args = record {
       head = head;
-      identifier = identifier_view c.in_ok-_identifier._identifier;
+      identifier = c.in_default.ensures.0;
       lie = lie;
       is = refl;
       plain = plain;
-      named = c.in_ok-_identifier.ensures;
+      named = c.in_default.ensures.1;
       around = refl;
       start = c.in_ok-start.ensures ∙ c.len.ensures;
     } in
