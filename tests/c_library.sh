@@ -75,10 +75,12 @@ verdict: valid, confirmed 1, refuted 0, undecided 0, unchecked 1
 END
 cmp -s "$work/printed" "$work/shown" || fail "a session in C prints $(cat "$work/printed")"
 
-# the deepest lists, on a thread of the stack that smtcheck.h says is enough
+# the deepest lists, on threads of the stacks that smtcheck.h says are enough
 "${CC:-cc}" $strict -pthread -I"$work" -o "$work/small_stack" tests/small_stack.c "$work/libsmtcheck.a"
 status=0
-"$work/small_stack" 3145728 >"$work/printed" 2>&1 || status=$?
+"$work/small_stack" 262144 >"$work/printed" 2>&1 || status=$?
+[ "$status" = 0 ] || fail "256 KB of stack: status $status, $(cat "$work/printed")"
+"$work/small_stack" 3145728 explain >"$work/printed" 2>&1 || status=$?
 [ "$status" = 0 ] || fail "3 MB of stack: status $status, $(cat "$work/printed")"
 
 # 10,000 calls in buffers with no byte to spare: under -fsanitize=address, and fewer under valgrind, which sees the library's own reads too

@@ -1,7 +1,7 @@
 #!/bin/sh
-# Runs the program on terms that are evaluated deep, with a small machine's stack, and on definitions that no term uses: evaluation takes
-# memory for each call that waits, no stack, and nothing for what isn't used. And on the deepest terms where the heap has taken nearly all
-# addresses. Needs what `rt ci` has built. Says nothing where all is well.
+# Runs the program on terms that are evaluated deep, and on lists 1,000,000 deep, with a small machine's stack, and on definitions that no
+# term uses: reading, checking and evaluating take memory for what waits, no stack, and nothing for what isn't used. And on the deepest
+# terms where the heap has taken nearly all addresses. Needs what `rt ci` has built. Says nothing where all is well.
 set -e
 cd "$(dirname "$0")/.."
 program=${SMTCHECK:-$PWD/crates/smtcheck/out/smtcheck}
@@ -40,23 +40,62 @@ doubling() {
 echo '(assert true)(check-sat)(get-model)' | report 'an unused constant of the model' 'check 1 at command 2: sat, confirmed' \
     "sat ($(doubling)(define-fun c () Int (f63 0)))"
 
+# Lists that nest 1,000,000 deep, with 256 KB of stack.
+deep() {
+    cat >"$work/script"
+    status=0
+    (ulimit -s 256 && exec timeout 120 "$program" --profile wide --steps 100000000 --print-success off "$work/script" "$work/answers") \
+        >"$work/report" 2>"$work/errors" || status=$?
+    [ "$(head -n 1 "$work/report")" = "$2" ] || { echo "deep terms: $1: status $status, $(cat "$work/errors" "$work/report")"; exit 1; }
+}
+
+# nested COUNT HEAD OPEN MIDDLE CLOSE TAIL: a text with OPEN and CLOSE so often around a middle. In OPEN the first %d is the number of the list,
+# from 1, and the others are the number before it.
+nested() {
+    awk -v count="$1" -v head="$2" -v open="$3" -v middle="$4" -v close_="$5" -v tail="$6" 'BEGIN {
+        printf "%s", head
+        for (k = 1; k <= count; k++) printf open, k, k - 1, k - 1
+        printf "%s", middle
+        for (k = 0; k < count; k++) printf "%s", close_
+        print tail }'
+}
+
+head='(declare-const x0 Bool)(assert '
+tail=')(check-sat)(get-model)'
+confirmed='check 1 at command 3: sat, confirmed'
+echo 'sat ((define-fun x0 () Bool true))' >"$work/answers"
+nested 999998 "$head" '(not ' true ')' "$tail" | deep not "$confirmed"
+nested 999999 "$head" '(! ' x0 ' :a)' "$tail" | deep annotations "$confirmed"
+nested 999999 "$head" '(and true ' x0 ')' "$tail" | deep 'last arguments' "$confirmed"
+nested 999999 "$head" '(= ' x0 ' true)' "$tail" | deep 'first arguments' "$confirmed"
+nested 999996 "$head" '(let ((x%d (and x%d x%d))) ' x999996 ')' "$tail" | deep lets "$confirmed"
+nested 333332 "$head" '(let ((y true) (x ' x0 ')) (and x y))' "$tail" | deep "lets' values" "$confirmed"
+nested 142856 "$head" '(let ((x (= (! (ite true (and true ' x0 ' x0) false) :a) true))) x)' "$tail" | deep 'all mixed' "$confirmed"
+nested 999998 "$head" '(and true ' '(and 1 true)' ')' "$tail" | deep 'a fault inside' 'fault C7 F4 at command 2'
+nested 999999 "$head" '(and (' true ') nobody)' "$tail" | deep 'lists beyond the limit' 'fault X2 in the script at byte 3000030'
+nested 999990 'sat ((define-fun f ((i Int)) Int ' '(ite (= i %d) %d ' 0 ')' '))' >"$work/answers"
+echo '(declare-fun f (Int) Int)(assert (= (f 500000) 499999))(check-sat)(get-model)' | deep "a model's choices" "$confirmed"
+nested 1000001 '' '(' '' ')' '' >"$work/answers"
+echo '(check-sat)' | deep 'answers beyond the limit' 'fault X2 in the answers at byte 1000000'
+
 # Under limits that leave too little for the stack of the deepest term it says so, and opens no file.
 refused() {
     status=0
-    (ulimit "$1" "$2" && exec "$program" "$work/none" "$work/none") >"$work/report" 2>"$work/errors" || status=$?
+    (ulimit "$1" "$2" && shift 2 && exec "$program" "$@" "$work/none" "$work/none") >"$work/report" 2>"$work/errors" || status=$?
     [ "$status" = 4 ] && [ ! -s "$work/report" ] && [ "$(cat "$work/errors")" = 'smtcheck: memory' ] ||
         { echo "deep terms: ulimit $1 $2: status $status, $(cat "$work/errors")"; exit 1; }
 }
 
-refused -s 256
-refused -s 3071
+refused -s 255
 refused -v 8191
+refused -s 3071 --explain
+refused -v 8191 --explain
 
 # Within them the deepest term has its report.
 echo 'sat ()' >"$work/answers"
 awk 'BEGIN { printf "(assert "; for (k = 0; k < 998; k++) printf "(not "; printf "true"; for (k = 0; k < 998; k++) printf ")"
     print ")(check-sat)(get-model)" }' >"$work/script"
-for limit in '-s 3072' '-v 8192'; do
+for limit in '-s 256' '-v 8192'; do
     status=0
     # (two words)
     (ulimit $limit && exec "$program" --print-success off "$work/script" "$work/answers") >"$work/report" 2>"$work/errors" || status=$?

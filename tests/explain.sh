@@ -284,6 +284,15 @@ explains F3 off '(declare-sort U 0)(declare-const d U)(define-fun U!val!0 () U d
 explains F3 off '(declare-sort U 0)(define-sort V () U)(declare-const c U)(check-sat)(get-model)' 'sat ((define-fun c () U V!val!0))' \
     'check 1: s:1:58, command 4: (check-sat)' '  item 1: a:1:6: (define-fun c () U V!val!0)' \
     '  F3: a name, a sort or a literal is unknown there' '  unknown: V!val!0'
+
+# ---- lists that nest deep, in the profile wide
+explains X2 off "$(printf '%01000001d' 0 | tr 0 '(')" '' 'fault: s:1:1000001: a list at a depth over 1,000,000'
+# Of a tree over 1,000 deep the claim and the model are shown, and no part of it.
+deep="$(printf '%01500d' 0 | sed 's/0/(not /g')p$(printf '%01500d' 0 | tr 0 ')')"
+printf '%s' "(declare-const p Bool)(assert $deep)(check-sat)(get-model)" >"$work/s"
+printf '%s' 'sat ((define-fun p () Bool false))' >"$work/a"
+"$program" --explain --profile wide --print-success off "$work/s" "$work/a" >"$work/told" || [ $? = 1 ]
+[ "$(sed '1,/^verdict: /d' "$work/told" | sed 's/:.*//' | tr '\n' ' ')" = 'check 1   claim   model ' ] || fail 'a deep claim'
 profile=base
 
 printf '%s' "$asked" >"$work/s"

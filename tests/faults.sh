@@ -76,6 +76,8 @@ shows off 'fault P2 at command 1, answer 1' '(echo "a")' 'a'
 shows off 'fault P3 at answer 3' "$asked" "$model $model"
 shows off 'fault P3 at answer 1' '(set-logic QF_UF)' 'success'
 profile=wide
+shows off 'fault C1 at command 1' "$(printf '%01001d' 0 | tr 0 '(')$(printf '%01001d' 0 | tr 0 ')')" ''
+shows off 'fault X2 in the script at byte 1000000' "$(printf '%01000001d' 0 | tr 0 '(')" ''
 shows off 'fault C7 F7 at command 1' '(declare-sort Real 0)' ''
 shows off 'fault C7 F7 at command 1' '(define-sort Array () Int)' ''
 shows off 'item 1 F7' '(declare-sort U 0)(assert (! true :named U!val!0))(check-sat)(get-model)' 'sat ((define-fun U!val!0 () Bool true))'

@@ -1,7 +1,7 @@
-/* small_stack BYTES: checks dialogues whose lists stand in one another to the limit of 1,000, on a thread with so many bytes of stack,
-   through smtcheck_validate, through smtcheck_explain and through a session; and explains dialogues whose definitions are deep together.
-   Prints each dialogue whose verdict is another than the right one, and nothing where all is well. A stack that is too small ends it by a
-   signal. */
+/* small_stack BYTES [explain]: checks dialogues whose lists stand in one another to the limits of 1,000, and of 1,000,000 in the wide
+   profile, on a thread with so many bytes of stack, through smtcheck_validate and through a session; or it explains those of the first
+   limit, and dialogues whose definitions are deep together. Prints each dialogue whose verdict is another than the right one, and nothing
+   where all is well. A stack that is too small ends it by a signal. */
 #include "smtcheck.h"
 #include <pthread.h>
 #include <stdio.h>
@@ -61,6 +61,22 @@ static const struct dialogue dialogues[] = {
     {"answers that are left over", PLAIN(""), {"", "(", 1000, "", ")", ""}, SMTCHECK_REFUSED},
 };
 
+/* In the wide profile. */
+static const struct dialogue deep[] = {
+    CHECKED("(not ", 999998, "true", ")", SMTCHECK_VALID),
+    CHECKED("(and true ", 999999, "true", ")", SMTCHECK_VALID),
+    CHECKED("(and ", 999999, "true", " true)", SMTCHECK_VALID),
+    CHECKED("(! ", 999999, "true", " :a)", SMTCHECK_VALID),
+    CHECKED("(let ((x true)) ", 999997, "x", ")", SMTCHECK_VALID),
+    CHECKED("(let ((x false) (y ", 333333, "true", ")) y)", SMTCHECK_VALID),
+    CHECKED("(not ", 999999, "1", ")", SMTCHECK_REFUSED),
+    MODEL("(ite true ", 999998, "true", " false)", SMTCHECK_VALID),
+    {"a sort", {"(declare-const x ", "(Array Int ", 999999, "Bool", ")", ")"}, PLAIN(""), SMTCHECK_REFUSED},
+    {"information", {"(set-info :a ", "(", 999999, "", ")", ")"}, PLAIN(""), SMTCHECK_VALID},
+    {"lists that are too deep", {"", "(", 1000001, "", ")", ""}, PLAIN(""), SMTCHECK_REFUSED},
+    {"answers that are left over", PLAIN(""), {"", "(", 1000000, "", ")", ""}, SMTCHECK_REFUSED},
+};
+
 /* The text's bytes. */
 static char *written(const struct text *text) {
     size_t most = 1 + strlen(text->head) + text->times * (strlen(text->open) + strlen(text->close)) + strlen(text->middle) +
@@ -75,14 +91,14 @@ static char *written(const struct text *text) {
     return bytes;
 }
 
-static const struct smtcheck_options options = {SMTCHECK_STEPS, false, false};
+static const struct smtcheck_options options = {SMTCHECK_STEPS, false, false}, wide = {100 * SMTCHECK_STEPS, false, true};
 
 /* The verdict on two whole texts. */
-static uint32_t whole(const char *script, const char *answers) {
+static uint32_t whole(const struct smtcheck_options *options, const char *script, const char *answers) {
     struct smtcheck_summary summary;
     char text[4096] = {0};
     size_t wanted = 0;
-    return smtcheck_validate(script, strlen(script), answers, strlen(answers), &options, &summary, text, sizeof text, &wanted);
+    return smtcheck_validate(script, strlen(script), answers, strlen(answers), options, &summary, text, sizeof text, &wanted);
 }
 
 /* The verdict on two whole texts that comes with their explanation. */
@@ -93,14 +109,14 @@ static uint32_t explained(const char *script, const char *answers) {
 }
 
 /* The verdict of a session that is told the script, and then the answers, in pieces of seven bytes. */
-static uint32_t in_pieces(const char *script, const char *answers) {
+static uint32_t in_pieces(const struct smtcheck_options *options, const char *script, const char *answers) {
     struct smtcheck_session session = {0};
-    if (smtcheck_session_new(&options, &session) != SMTCHECK_OPEN) return SMTCHECK_MEMORY;
-    for (size_t left; (left = strlen(script)) > 0; script += left < 7 ? left : 7)
-        smtcheck_session_script(&session, script, left < 7 ? left : 7);
+    const char *script_end = script + strlen(script), *answers_end = answers + strlen(answers);
+    if (smtcheck_session_new(options, &session) != SMTCHECK_OPEN) return SMTCHECK_MEMORY;
+    for (; script < script_end; script += 7) smtcheck_session_script(&session, script, script_end - script < 7 ? script_end - script : 7);
     smtcheck_session_end_script(&session);
-    for (size_t left; (left = strlen(answers)) > 0; answers += left < 7 ? left : 7)
-        smtcheck_session_answers(&session, answers, left < 7 ? left : 7);
+    for (; answers < answers_end; answers += 7)
+        smtcheck_session_answers(&session, answers, answers_end - answers < 7 ? answers_end - answers : 7);
     uint32_t outcome = smtcheck_session_end_answers(&session);
     smtcheck_session_free(&session);
     return outcome;
@@ -144,16 +160,30 @@ static int explain_all(void) {
     return wrong;
 }
 
+/* Whether a verdict is another than the right one. */
+static int differs(const struct dialogue *it, const char *how, uint32_t outcome) {
+    if (outcome != it->outcome) printf("%s, %s: %u, not %u\n", it->name, how, (unsigned)outcome, (unsigned)it->outcome);
+    return outcome != it->outcome;
+}
+
+static int check(const struct smtcheck_options *options, const struct dialogue *it) {
+    char *script = written(&it->script), *answers = written(&it->answers);
+    int wrong = differs(it, "whole", whole(options, script, answers)) | differs(it, "in pieces", in_pieces(options, script, answers));
+    free(script), free(answers);
+    return wrong;
+}
+
 static void *check_all(void *wrong) {
-    if (explain_all()) *(int *)wrong = 1;
+    for (size_t i = 0; i < sizeof dialogues / sizeof *dialogues; i++) *(int *)wrong |= check(&options, &dialogues[i]);
+    for (size_t i = 0; i < sizeof deep / sizeof *deep; i++) *(int *)wrong |= check(&wide, &deep[i]);
+    return wrong;
+}
+
+static void *explain_each(void *wrong) {
+    *(int *)wrong |= explain_all();
     for (size_t i = 0; i < sizeof dialogues / sizeof *dialogues; i++) {
-        const struct dialogue *it = &dialogues[i];
-        char *script = written(&it->script), *answers = written(&it->answers);
-        uint32_t first = whole(script, answers), second = in_pieces(script, answers), third = explained(script, answers);
-        if (first != it->outcome || second != it->outcome || third != it->outcome) {
-            printf("%s: %u, %u and %u, not %u\n", it->name, (unsigned)first, (unsigned)second, (unsigned)third, (unsigned)it->outcome);
-            *(int *)wrong = 1;
-        }
+        char *script = written(&dialogues[i].script), *answers = written(&dialogues[i].answers);
+        *(int *)wrong |= differs(&dialogues[i], "explained", explained(script, answers));
         free(script), free(answers);
     }
     return wrong;
@@ -163,8 +193,9 @@ int main(int count, char **words) {
     pthread_attr_t attributes;
     pthread_t thread;
     int wrong = 0;
-    if (count != 2 || pthread_attr_init(&attributes) || pthread_attr_setstacksize(&attributes, strtoul(words[1], NULL, 10)) ||
-        pthread_create(&thread, &attributes, check_all, &wrong) || pthread_join(thread, NULL))
+    void *(*work)(void *) = count == 3 && strcmp(words[2], "explain") == 0 ? explain_each : check_all;
+    if (count < 2 || pthread_attr_init(&attributes) || pthread_attr_setstacksize(&attributes, strtoul(words[1], NULL, 10)) ||
+        pthread_create(&thread, &attributes, work, &wrong) || pthread_join(thread, NULL))
         return 64;
     return wrong;
 }

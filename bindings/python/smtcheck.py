@@ -52,7 +52,7 @@ __all__ = [
     "Detail", "Explained", "Explanation", "Item", "LibraryError", "Line", "PROFILES", "Part", "Place", "Report", "STEPS", "Session", "Spot",
     "VERDICTS", "Value", "check", "check_files", "explain", "explanation_of", "line_of", "main", "version",
 ]
-__version__ = "0.8.1"
+__version__ = "0.9.0"
 
 VERDICTS = ("valid", "invalid", "not decided", "refused")
 PROFILES = ("base", "wide")

@@ -13,7 +13,7 @@ from models import Structure
 from script import CHECKS, Assertion, Declaration, Definition, Force, Refused, command_of, is_define_fun
 from sorts import BASE, BITS, BOOL, INT, INTS, LOGICS, THEORIES, WIDE, Faulty, Free
 from terms import Checker, Context, Rank, Use, check_assertion, check_definition, check_literal
-from text import BINARY, Atom, is_symbol
+from text import BINARY, DEEPEST, Atom, is_symbol
 from trees import copied, depth_of, keyword, listed, lists_in, numeral, string, symbol, word, written
 from validator import IF_FITS, NEEDED, QUESTIONS, takes
 from values import OPEN
@@ -1230,13 +1230,13 @@ class Story:
         """Bytes that are changed in the texts, and texts that are cut."""
         rng = self.rng
         if self.aim == "script":
-            return spoiled_text(rng, script, self.what, self.turn), answers
+            return spoiled_text(rng, script, self.what, self.turn, self.PROFILE), answers
         if self.aim == "answers":
-            return script, spoiled_text(rng, answers, self.what, self.turn)
+            return script, spoiled_text(rng, answers, self.what, self.turn, self.PROFILE)
         if self.chance(0.04):
-            script = spoiled_text(rng, script, rng.choice(("X1", "X1", "X3", "X2", "any", "any")))
+            script = spoiled_text(rng, script, rng.choice(("X1", "X1", "X3", "X2", "any", "any")), None, self.PROFILE)
         if self.chance(0.05):
-            answers = spoiled_text(rng, answers, rng.choice(("X1", "X1", "X3", "X2", "any", "any")))
+            answers = spoiled_text(rng, answers, rng.choice(("X1", "X1", "X3", "X2", "any", "any")), None, self.PROFILE)
         return script, answers
 
 
@@ -1265,7 +1265,7 @@ UNENDED_PIECES = [
 ]
 
 
-def spoiled_text(rng, text, letter, turn=None):
+def spoiled_text(rng, text, letter, turn=None, profile=BASE):
     """A text with a fault of its own, mostly, or with bytes changed."""
     place = rng.randint(0, len(text))
     before, behind = text[:place], text[place:]
@@ -1277,7 +1277,10 @@ def spoiled_text(rng, text, letter, turn=None):
             before, behind = text[:place], b" " + text[place:]
         return before + piece + behind
     if letter == "X2":
-        return before + b" " + b"(" * rng.choice((1001, 1001, 1500)) + (b")" * 1001 + behind if rng.random() < 0.5 else b"")
+        depth = rng.choice((1001, 1001, 1500))
+        if profile == WIDE and (turn is not None or rng.random() < 0.1):
+            depth = DEEPEST[WIDE] + rng.choice((1, 1, 500))
+        return before + b" " + b"(" * depth + (b")" * (depth - rng.choice((0, 1, 1000))) + behind if rng.random() < 0.5 else b"")
     if letter == "X3":
         piece = rng.choice(UNENDED_PIECES) if turn is None else UNENDED_PIECES[turn % len(UNENDED_PIECES)]
         return text + piece if rng.random() < 0.7 else before

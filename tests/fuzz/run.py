@@ -28,6 +28,7 @@ from dialogues import Dialogue, invent
 from inventor import ALL_OPERATORS
 from mutate import Corpus
 from sorts import BASE, WIDE, WIDE_LOGICS, WIDE_SORTS
+from spines import invent_spine
 from text import read
 from trees import copied, lists_in, written
 from validator import STATUS, STEPS, report, with_deep_stack
@@ -428,7 +429,7 @@ class Streams:
 class Fuzzer:
     """Runs seeds, and counts what they reach."""
 
-    def __init__(self, program, with_steps, corpus, folder, mutated, profile, sorts):
+    def __init__(self, program, with_steps, corpus, folder, mutated, profile, sorts, spines):
         # Files in memory, where there are such, are written ten times as fast.
         memory = "/dev/shm" if os.access("/dev/shm", os.W_OK) else None
         self.work = tempfile.mkdtemp(prefix="smtcheck-fuzz-", dir=memory)
@@ -439,6 +440,7 @@ class Fuzzer:
         self.mutated = mutated
         self.profile = profile
         self.sorts = sorts
+        self.spines = spines
         self.counts = Counter()
         self.differences = 0
         self.slowest = (0.0, None)
@@ -461,6 +463,9 @@ class Fuzzer:
             self.counts["both texts with changed bytes"] += texts == 2
             self.sources.add(source)
             return dialogue
+        if self.spines:
+            self.counts["dialogue with a spine"] += 1
+            return invent_spine(seed, self.profile)
         if self.corpus.dialogues and rng.random() < 0.2 and not self.sorts:
             self.counts["dialogue mutated"] += 1
             found = self.corpus.mutated(seed, self.with_steps)
@@ -725,13 +730,16 @@ def main():
         "differences alone",
     )
     parser.add_argument("--sorts", action="store_true", help="in `wide`, invent each dialogue with a declared sort; no kind has to be reached")
+    parser.add_argument(
+        "--spines", action="store_true", help="invent each dialogue with a term that nests deep, up to 2,000 frames; no kind has to be reached"
+    )
     parser.add_argument("-j", dest="jobs", type=int, default=1, help="how many run side by side")
     chosen = parser.parse_args()
     if not os.access(chosen.program, os.X_OK) or not stat.S_ISREG(os.stat(chosen.program).st_mode):
         sys.exit("fuzz: no program: " + chosen.program)
     with_steps = knows_steps(chosen.program) if chosen.steps_option == "ask" else chosen.steps_option == "on"
     folder = chosen.folder or os.path.join(tempfile.gettempdir(), "smtcheck-differences")
-    settings = os.path.abspath(chosen.program), with_steps, chosen.rows, folder, chosen.mutated, chosen.profile, chosen.sorts
+    settings = os.path.abspath(chosen.program), with_steps, chosen.rows, folder, chosen.mutated, chosen.profile, chosen.sorts, chosen.spines
     seeds = range(chosen.seed, chosen.seed + chosen.number)
     size = max(1, min(2000, -(-len(seeds) // max(1, chosen.jobs))))
     works = [(settings, seeds[begin : begin + size]) for begin in range(0, len(seeds), size)]
@@ -746,7 +754,7 @@ def main():
     if chosen.mutated:
         counts["different stored dialogues"] = len(sources)
         counts["different stored dialogues of solvers"] = sum(map(of_solver, sources))
-    required = [] if chosen.mutated or chosen.sorts else REQUIRED + WITH_STEPS * with_steps
+    required = [] if chosen.mutated or chosen.sorts or chosen.spines else REQUIRED + WITH_STEPS * with_steps
     if required and chosen.profile == WIDE:
         required = [name for name in required if name != NOT_WIDE] + WIDE_KINDS
     table(counts, required)

@@ -17,7 +17,8 @@ Flaw = namedtuple("Flaw", "letter place")
 NUMERAL, DECIMAL, HEXADECIMAL, BINARY = "numeral", "decimal", "hexadecimal", "binary"
 STRING, SYMBOL, RESERVED, KEYWORD = "string", "symbol", "reserved word", "keyword"
 
-DEEPEST = 1000
+# How deep lists may nest, by profile. What is read for its trees alone is read as in `wide`.
+DEEPEST = {"base": 1000, "wide": 1000000}
 
 COMMAND_WORDS = (
     "assert check-sat check-sat-assuming declare-const declare-datatype declare-datatypes declare-fun declare-sort define-fun "
@@ -100,7 +101,7 @@ def token_at(text, place):
     return symbol_or_word(found.group()), found.end()
 
 
-def read(data, ended=True):
+def read(data, ended=True, deepest=DEEPEST["wide"]):
     """The reading of a text, or of a beginning of one if it has not ended."""
     text = data.decode("latin-1")
     size = len(text)
@@ -114,7 +115,7 @@ def read(data, ended=True):
             return Reading(top, Flaw("X3", size) if ended and above else None, ended)
         first = text[place]
         if first == "(":
-            if len(above) == DEEPEST:
+            if len(above) == deepest:
                 return Reading(top, Flaw("X2", place), ended)
             above.append(here)
             here = []

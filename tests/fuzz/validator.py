@@ -12,7 +12,7 @@ from script import CHANGING, CHECKS, Abbreviation, Assertion, Declaration, Defin
 from script import is_define_const, is_option
 from sorts import BASE, LOGICS, WIDE, WIDE_LOGICS, WIDE_SORTS, element_sort
 from terms import labels_of
-from text import STRING, begins_with, is_kind, is_symbol, read
+from text import DEEPEST, STRING, begins_with, is_kind, is_symbol, read
 
 STEPS = 10000000
 STATUS = {"valid": 0, "invalid": 1, "not decided": 2, "refused": 3}
@@ -436,7 +436,8 @@ def report(script, answers, print_success=True, steps=STEPS, script_ended=True, 
     Of texts that have not ended, these are the lines that are decided by what has come, and the verdict is None where it isn't. What is
     reached is counted in `reached`, if that is given.
     """
-    dialogue = Dialogue(read(script, script_ended), read(answers, answers_ended), print_success, steps, profile, reached)
+    readings = [read(text, told, DEEPEST[profile]) for text, told in ((script, script_ended), (answers, answers_ended))]
+    dialogue = Dialogue(*readings, print_success, steps, profile, reached)
     try:
         verdict = dialogue.run()
     except Waits:

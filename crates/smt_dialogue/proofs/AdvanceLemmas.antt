@@ -5,8 +5,7 @@ use Rattle.std.proofs.Common.{arith, refl, ap, sym, ◌∙◌, subst, length-app
 use Rattle.std.proofs.lemmas.List.{append-nil}
 use Rattle.std.specs.List.{list_any}
 use Rattle.smt_script.specs.StackView.{profile_of}
-use Rattle.smt_text.specs.Grammar.{max_depth}
-use Rattle.smt_text.specs.Reader.{bytes_fed}
+use Rattle.smt_text.specs.Reader.{bytes_fed, depth_limit}
 use Rattle.smt_text.specs.Reading.{Reads}
 use Rattle.smt_trees.specs.Sexp.{Sexp, Sexps, Nil, Cons, count}
 use Rattle.smt_faults.specs.declared.text_flaw.TextFlaw.{TextFlaw}
@@ -55,8 +54,8 @@ commands_count profile (p ∷ ps) Nil later h = absurd h
 commands_count profile (p ∷ ps) (Cons t ts) later h = omega (arith, commands_count profile ps ts later h.1)
 
 pub few_told : EveryTextReads → TreesStay → FewTrees → TreesAreFew
-few_told every stay few true bytes trees f h = few max_depth bytes trees f h
-few_told every stay few false bytes trees f h =
+few_told every stay few max_depth true bytes trees f h = few max_depth bytes trees f h
+few_told every stay few max_depth false bytes trees f h =
     let all = every max_depth true bytes in
     let more = stay max_depth true bytes [] trees all.0 f all.1 h
     (subst (λ bs. Reads max_depth true bs all.0 all.1) (sym (append-nil bytes)) all.2) in
@@ -69,7 +68,7 @@ bounded few x texts pairs later rest h =
     omega (
       arith,
       commands_count (profile_of x.dialogue.stack) pairs texts.script.trees later h.paired.pairing.commands,
-      few texts.script.told texts.script_bytes texts.script.trees texts.script.fault h.script_front.reads,
+      few (depth_limit x.script.reader) texts.script.told texts.script_bytes texts.script.trees texts.script.fault h.script_front.reads,
       h.script_front.stands.0,
     )
 
@@ -104,7 +103,8 @@ room_for_answer few x texts pairs t left later rest is h =
       arith,
       ap count h.paired.pairing.answered,
       answers_counted pairs rest,
-      few texts.answers.told texts.answers_bytes texts.answers.trees texts.answers.fault h.answers_front.reads,
+      few (depth_limit x.answers.reader) texts.answers.told texts.answers_bytes texts.answers.trees
+          texts.answers.fault h.answers_front.reads,
       h.answers_front.stands.0,
       h.stands.answers,
       ap count is,

@@ -1,9 +1,8 @@
 -- An exchange goes on as more of a text comes, or its end is told.
 use Rattle.std.proofs.Common.{true, ◌||◌, is_some, ◌≡◌, ℕ, Bool, false, List, Option, Some, None, refl, ap, sym, ◌∙◌, subst}
 use Rattle.smt_script.specs.StackView.{profile_of, start_of}
-use Rattle.smt_text.specs.Grammar.{max_depth}
 use Rattle.smt_text.specs.Reader as readers
-use Rattle.smt_text.specs.Reader.{is_finished}
+use Rattle.smt_text.specs.Reader.{depth_limit, is_finished}
 use Rattle.smt_text.specs.Reading.{Reads}
 use Rattle.smt_text.specs.declared.reader.Reader.{Reader}
 use Rattle.smt_trees.specs.Sexp.{Sexps, Nil, append}
@@ -36,16 +35,17 @@ no_more text = record {
 
 -- what is left of a text with more of it
 pub front_more : (f g : TreeQueue) (bytes more_bytes : List ℕ) (text grown : TextSoFar) (rest : Sexps)
-    (s : IsGrown text grown) → g.next ≡ f.next
+    (s : IsGrown text grown) → g.next ≡ f.next → depth_limit g.reader ≡ depth_limit f.reader
     → ((taken : Sexps) → readers.StandsFor f.reader bytes taken → readers.StandsFor g.reader more_bytes taken)
-    → IsRead (is_finished g.reader) more_bytes grown
+    → IsRead (depth_limit f.reader) (is_finished g.reader) more_bytes grown
     → HasQueue f bytes text rest → HasQueue g more_bytes grown (append rest s.later)
-front_more f g bytes more_bytes text grown rest s same stands read h = record {
+front_more f g bytes more_bytes text grown rest s same limit stands read h = record {
   taken = h.taken;
   stands = subst (λ o. readers.StandsFor g.reader more_bytes (append h.taken (next_trees o))) (sym same)
       (stands (append h.taken (next_trees f.next)) h.stands);
   told = read.told_so;
-  reads = subst (λ b. Reads max_depth b more_bytes grown.trees grown.fault) (sym read.told_so) read.reads;
+  reads = subst (λ m. Reads m grown.told more_bytes grown.trees grown.fault) (sym limit)
+      (subst (λ b. Reads (depth_limit f.reader) b more_bytes grown.trees grown.fault) (sym read.told_so) read.reads);
   trees = s.trees ∙ ap (λ ts. append ts s.later) h.trees ∙ append_assoc h.taken rest s.later;
   behind = append h.behind s.later;
   begins = ap (λ ts. append ts s.later) h.begins ∙ append_assoc (next_trees f.next) h.behind s.later
@@ -128,14 +128,14 @@ goes_on_with Answers x y texts told bytes dialogue command same goes = λ pairs 
 
 -- what is read of a text whose end was not told
 pub read_open : (f : TreeQueue) (bytes : List ℕ) (text : TextSoFar) (rest : Sexps) → is_finished f.reader ≡ false
-    → HasQueue f bytes text rest → IsRead false bytes text
+    → HasQueue f bytes text rest → IsRead (depth_limit f.reader) false bytes text
 read_open f bytes text rest open' h =
     let told : text.told ≡ false = h.told ∙ open' in
     record {
       told_so = told;
-      reads = subst (λ b. Reads max_depth b bytes text.trees text.fault) told h.reads;
+      reads = subst (λ b. Reads (depth_limit f.reader) b bytes text.trees text.fault) told h.reads;
     }
 
-pub read_now : (reader : Reader) (told : Bool) (bytes : List ℕ) (text : TextSoFar) → is_finished reader ≡ told
-    → IsRead told bytes text → IsRead (is_finished reader) bytes text
-read_now reader told bytes text is read = subst (λ b. IsRead b bytes text) (sym is) read
+pub read_now : (max_depth : ℕ) (reader : Reader) (told : Bool) (bytes : List ℕ) (text : TextSoFar)
+    → is_finished reader ≡ told → IsRead max_depth told bytes text → IsRead max_depth (is_finished reader) bytes text
+read_now max_depth reader told bytes text is read = subst (λ b. IsRead max_depth b bytes text) (sym is) read

@@ -2,13 +2,13 @@
 use Rattle.std.proofs.Common.{◌≡◌, ℕ, Bool, true, false, ◌||◌, List, ◌++◌, Option, None, Some, is_some, refl, ap}
 use Rattle.std.proofs.Common.{sym, ◌∙◌, subst}
 use Rattle.std.proofs.lemmas.List.{append-nil}
-use Rattle.smt_text.specs.Grammar.{max_depth}
 use Rattle.smt_text.specs.Reading.{Reads}
 use Rattle.smt_trees.specs.Sexp.{Sexps, Nil, Cons, append}
 use Rattle.smt_faults.specs.declared.text_flaw.TextFlaw.{TextFlaw}
 use Rattle.smt_dialogue.proofs.ReportExists.{EveryTextReads, rests_ended, some_rest, text}
 use Rattle.smt_dialogue.proofs.ReportUnique.{OneReading, one_turn, same_text}
 use Rattle.smt_dialogue.specs.FirstFault.{Ends, TextSoFar}
+use Rattle.smt_dialogue.specs.Depth.{max_depth_of}
 use Rattle.smt_dialogue.specs.Report.{IsRead, IsReport, IsTurn}
 use Rattle.smt_dialogue.specs.SoFar.{AreGrown, AreLinesSoFar, IsGrown, IsSoFar, lines_at}
 use Rattle.smt_dialogue.specs.declared.options.Options.{Options}
@@ -21,8 +21,8 @@ pub some_so_far : EveryTextReads → (options : Options) (script_told answers_to
     (script answers : List ℕ)
     → (ls : List Line) × IsSoFar options script_told script answers_told answers ls
 some_so_far every options script_told answers_told script answers =
-    let read = every max_depth script_told script in
-    let printed = every max_depth answers_told answers in
+    let read = every (max_depth_of options.profile) script_told script in
+    let printed = every (max_depth_of options.profile) answers_told answers in
     let first = text script_told read.0 read.1 in
     let second = text answers_told printed.0 printed.1 in
     let way = some_rest (start_by options) first second in (
@@ -55,9 +55,9 @@ pub one_so_far : OneReading → (options : Options) (script_told answers_told : 
     → IsSoFar options script_told script answers_told answers ms → ls ≡ ms
 one_so_far one options script_told answers_told script answers ls ms x y =
     let start = start_by options in
-    let scripts = same_text one script_told script y.script_text x.script_text y.script_read x.script_read in
-    let printed = same_text one answers_told answers y.answers_text x.answers_text y.answers_read x.answers_read
-    in
+    let scripts = same_text one (max_depth_of options.profile) script_told script y.script_text x.script_text y.script_read x.script_read in
+    let printed = same_text one (max_depth_of options.profile) answers_told answers y.answers_text x.answers_text
+    y.answers_read x.answers_read in
     one_lines options x.script_text x.answers_text ls ms x.lines_are
     (subst (λ t. AreLinesSoFar options x.script_text t ms) printed
     (subst (λ t. AreLinesSoFar options t y.answers_text ms) scripts y.lines_are))
@@ -117,14 +117,15 @@ sexps-nil Nil = refl
 sexps-nil (Cons x xs) = ap (Cons x) (sexps-nil xs)
 
 -- behind the end of a text nothing comes
-grown_whole : OneReading → (bytes : List ℕ) (grown_told : Bool) (grown : List ℕ) (x y : TextSoFar)
-    → AreGrown true bytes grown_told grown → IsRead true bytes x → IsRead grown_told grown y → IsGrown x y
-grown_whole one bytes grown_told grown x y g f h =
+grown_whole : OneReading → (max_depth : ℕ) (bytes : List ℕ) (grown_told : Bool) (grown : List ℕ) (x y : TextSoFar)
+    → AreGrown true bytes grown_told grown → IsRead max_depth true bytes x → IsRead max_depth grown_told grown y
+    → IsGrown x y
+grown_whole one max_depth bytes grown_told grown x y g f h =
     let none = g.none_behind refl in
     let same : grown ≡ bytes = g.bytes_are ∙ ap (λ more. bytes ++ more) none.0 ∙ append-nil bytes in
-    let there : IsRead true bytes y =
-    subst (λ b. IsRead b bytes y) none.1 (subst (λ bs. IsRead grown_told bs y) same h) in
-    let text_is = same_text one true bytes x y f there in
+    let there : IsRead max_depth true bytes y =
+    subst (λ b. IsRead max_depth b bytes y) none.1 (subst (λ bs. IsRead max_depth grown_told bs y) same h) in
+    let text_is = same_text one max_depth true bytes x y f there in
     record {
       later = Nil;
       trees = ap (λ (t : TextSoFar). t.trees) (sym text_is) ∙ sym (sexps-nil x.trees);
@@ -141,10 +142,10 @@ not_told true h g = cc
 not_told false h g = cc
 
 -- a text whose end was not told
-grown_open : TreesStay → FaultsStay → (bytes : List ℕ) (grown_told : Bool) (grown : List ℕ) (x y : TextSoFar)
+grown_open : TreesStay → FaultsStay → (max_depth : ℕ) (bytes : List ℕ) (grown_told : Bool) (grown : List ℕ) (x y : TextSoFar)
     (f : Option TextFlaw) → x.fault ≡ f → AreGrown false bytes grown_told grown
-    → IsRead false bytes x → IsRead grown_told grown y → IsGrown x y
-grown_open trees_stay faults_stay bytes grown_told grown x y (Some fault) is g a b =
+    → IsRead max_depth false bytes x → IsRead max_depth grown_told grown y → IsGrown x y
+grown_open trees_stay faults_stay max_depth bytes grown_told grown x y (Some fault) is g a b =
     let here = subst (λ o. Reads max_depth false bytes x.trees o) is a.reads in
     let there = subst (λ bs. Reads max_depth grown_told bs y.trees y.fault) g.bytes_are b.reads in
     let same = faults_stay max_depth grown_told bytes g.more x.trees y.trees fault y.fault here there in
@@ -154,7 +155,7 @@ grown_open trees_stay faults_stay bytes grown_told grown x y (Some fault) is g a
       over = λ over. (refl, same.1 ∙ sym is);
       told = λ told. absurd (not_told x.told a.told_so told);
     }
-grown_open trees_stay faults_stay bytes grown_told grown x y None is g a b =
+grown_open trees_stay faults_stay max_depth bytes grown_told grown x y None is g a b =
     let there = subst (λ bs. Reads max_depth grown_told bs y.trees y.fault) g.bytes_are b.reads in
     let more = trees_stay max_depth grown_told bytes g.more x.trees y.trees x.fault y.fault a.reads there in
     record {
@@ -164,10 +165,10 @@ grown_open trees_stay faults_stay bytes grown_told grown x y None is g a b =
       told = λ told. absurd (not_told x.told a.told_so told);
     }
 
-pub grown_text : OneReading → TreesStay → FaultsStay → (told : Bool) (bytes : List ℕ) (grown_told : Bool)
-    (grown : List ℕ) (x y : TextSoFar) → AreGrown told bytes grown_told grown
-    → IsRead told bytes x → IsRead grown_told grown y → IsGrown x y
-grown_text one trees_stay faults_stay true bytes grown_told grown x y g a b =
-    grown_whole one bytes grown_told grown x y g a b
-grown_text one trees_stay faults_stay false bytes grown_told grown x y g a b =
-    grown_open trees_stay faults_stay bytes grown_told grown x y x.fault refl g a b
+pub grown_text : OneReading → TreesStay → FaultsStay → (max_depth : ℕ) (told : Bool) (bytes : List ℕ)
+    (grown_told : Bool) (grown : List ℕ) (x y : TextSoFar) → AreGrown told bytes grown_told grown
+    → IsRead max_depth told bytes x → IsRead max_depth grown_told grown y → IsGrown x y
+grown_text one trees_stay faults_stay max_depth true bytes grown_told grown x y g a b =
+    grown_whole one max_depth bytes grown_told grown x y g a b
+grown_text one trees_stay faults_stay max_depth false bytes grown_told grown x y g a b =
+    grown_open trees_stay faults_stay max_depth bytes grown_told grown x y x.fault refl g a b

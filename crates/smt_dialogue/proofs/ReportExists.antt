@@ -20,8 +20,8 @@ use Rattle.smt_dialogue.specs.Pairing.{AllTake, AreCommands}
 use Rattle.smt_dialogue.specs.Pairs.{Pair, answers_taken, answers_then, next_of, pair_of, with_answer}
 use Rattle.smt_dialogue.specs.declared.need.Need.{Need}
 use Rattle.smt_dialogue.specs.declared.need.Need.TheVariants.{Nothing, Optional, Needed}
+use Rattle.smt_dialogue.specs.Depth.{max_depth_of}
 use Rattle.smt_dialogue.specs.Report.{IsReport, IsTurn, lines_at_end}
-use Rattle.smt_text.specs.Grammar.{max_depth}
 use Rattle.smt_script.specs.Command.{is_check}
 use Rattle.smt_dialogue.specs.declared.options.Options.{Options}
 use Rattle.smt_report.specs.declared.line.Line.{Line}
@@ -286,8 +286,8 @@ pub some_report : EveryTextReads → (options : Options) (script answers : List 
     → (ls : List Line) × IsReport options script answers ls
 some_report every options script answers =
     let start = start_by options in
-    let read = every max_depth true script in
-    let printed = every max_depth true answers in
+    let read = every (max_depth_of options.profile) true script in
+    let printed = every (max_depth_of options.profile) true answers in
     let way = way_through start read.0 [] true read.1 true printed.0 printed.1 in
     let ends = ends_there start way.pairs way.later read.1 way.rest printed.1 way.turn way.rests way.turn_is
     in (

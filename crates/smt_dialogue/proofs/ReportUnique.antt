@@ -14,9 +14,9 @@ use Rattle.smt_dialogue.specs.FirstFault.{Ends, GoesOn, IsRest, TextSoFar, Turn,
 use Rattle.smt_dialogue.specs.InForce.{AreFaultless, flaw_of_pair, has_exited_after, need_after, start_by}
 use Rattle.smt_dialogue.specs.Pairing.{AllTake, AreCommands}
 use Rattle.smt_dialogue.specs.Pairs.{Pair, answers_then, next_of}
+use Rattle.smt_dialogue.specs.Depth.{max_depth_of}
 use Rattle.smt_dialogue.specs.Report.{IsRead, IsReport, IsTurn, lines_at_end}
 use Rattle.smt_dialogue.specs.declared.options.Options.{Options}
-use Rattle.smt_text.specs.Grammar.{max_depth}
 use Rattle.smt_report.specs.declared.line.Line.{Line}
 use Rattle.smt_script.specs.declared.stack.Start.{Start}
 
@@ -102,9 +102,9 @@ OneReading = (bound : ℕ) (ended : Bool) (text : List ℕ) (xs ys : Sexps) (f g
     → Reads bound ended text xs f → Reads bound ended text ys g → (xs ≡ ys) × (f ≡ g)
 
 -- so a text is read as one
-pub same_text : OneReading → (told : Bool) (bytes : List ℕ) (x y : TextSoFar) → IsRead told bytes x
-    → IsRead told bytes y → x ≡ y
-same_text one told bytes x y f g =
+pub same_text : OneReading → (max_depth : ℕ) (told : Bool) (bytes : List ℕ) (x y : TextSoFar)
+    → IsRead max_depth told bytes x → IsRead max_depth told bytes y → x ≡ y
+same_text one max_depth told bytes x y f g =
     let both = one max_depth told bytes x.trees y.trees x.fault y.fault f.reads g.reads in
     let first : x ≡ record { told = y.told; trees = x.trees; fault = x.fault } =
     ap (λ (b : Bool). record { told = b; trees = x.trees; fault = x.fault }) (f.told_so ∙ sym g.told_so)
@@ -128,8 +128,9 @@ one_turn start script answers xs ys f g u v x y =
 pub one_report : OneReading → (options : Options) (script answers : List ℕ) (ls ms : List Line)
     → IsReport options script answers ls → IsReport options script answers ms → ls ≡ ms
 one_report one options script answers ls ms x y =
-    let scripts = same_text one true script y.script_text x.script_text y.script_read x.script_read in
-    let both = same_text one true answers y.answers_text x.answers_text y.answers_read x.answers_read in
+    let depth = max_depth_of options.profile in
+    let scripts = same_text one depth true script y.script_text x.script_text y.script_read x.script_read in
+    let both = same_text one depth true answers y.answers_text x.answers_text y.answers_read x.answers_read in
     let start = start_by options in
     let first : IsTurn start x.script_text y.answers_text y.lines_are.pairs (Ends y.lines_are.fault) =
     subst (λ (t : TextSoFar). IsTurn start t y.answers_text y.lines_are.pairs (Ends y.lines_are.fault))

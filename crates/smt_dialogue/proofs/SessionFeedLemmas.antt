@@ -4,17 +4,19 @@ use Rattle.std.proofs.Common.{is_some, refl, ap, sym, ◌∙◌, subst, arith, i
 use Rattle.std.proofs.lemmas.Bool.Decides.{nat_tests}
 use Rattle.std.proofs.lemmas.List.{append-nil}
 use Rattle.smt_dialogue.proofs.SessionGrowthLemmas.{AreTold, as_before, end_told, piece_more}
-use Rattle.smt_dialogue.proofs.SessionTurnLemmas.{none_by}
+use Rattle.smt_dialogue.proofs.SessionTurnLemmas.{limited_on, none_by}
 use Rattle.std.specs.Prelude.{if◌then◌else◌, nat_eq}
-use Rattle.smt_text.specs.Grammar.{max_depth}
-use Rattle.smt_text.specs.Reader.{bytes_fed, is_finished}
+use Rattle.smt_text.specs.Reader.{bytes_fed, depth_limit, is_finished}
 use Rattle.smt_dialogue.specs.FirstFault.{TextSoFar}
 use Rattle.smt_dialogue.specs.History.{HasGrown, HasMore, History, IsLong, Told, of_side, other_side, text_at}
 use Rattle.smt_dialogue.specs.History.{with_end, with_more, with_piece, with_text}
+use Rattle.smt_dialogue.specs.Depth.{max_depth_of}
+use Rattle.smt_dialogue.specs.Report.{IsRead}
 use Rattle.smt_dialogue.specs.Session.{AreCounted, IsCounted, StandsFor, is_answers_ended, is_ended, is_script_ended}
 use Rattle.smt_dialogue.specs.SoFar.{IsBeginning}
 use Rattle.smt_dialogue.specs.Internal.AcceptedState.{options_of}
-use Rattle.smt_dialogue.specs.Internal.PairingView.{GoesOnWith, IsUnderWay, Texts, bytes_at, queue_at, waiting}
+use Rattle.smt_dialogue.specs.Internal.PairingView.{AreLimited, AreLimitedAlike, GoesOnWith, IsUnderWay, Texts}
+use Rattle.smt_dialogue.specs.Internal.PairingView.{bytes_at, queue_at, waiting}
 use Rattle.smt_dialogue.specs.Internal.PairingView.{with_read}
 use Rattle.smt_dialogue.specs.Internal.SessionStep.{IsFed, IsGoingOn, TextLaws, fed_at, left_of, with_fed}
 use Rattle.smt_dialogue.specs.Internal.SessionView.{GoesOn, IsOpen, IsToldText, texts_of}
@@ -131,19 +133,27 @@ same_texts : (side : Side) (h : History) (script answers text : TextSoFar) (told
 same_texts Script h script answers text told = refl
 same_texts Answers h script answers text told = refl
 
+-- how deep lists may nest in the text of this side
+limit_at : (side : Side) (max_depth : ℕ) (x : Pairing) → AreLimited max_depth x
+    → depth_limit (queue_at side x).reader ≡ max_depth
+limit_at Script max_depth x limited = limited.script
+limit_at Answers max_depth x limited = limited.answers
+
 -- the dialogue is under way with more of a text
 open_with : TextLaws → (side : Side) (x y : Pairing) (h : History) (told : Told) → y.dialogue ≡ x.dialogue
+    → AreLimitedAlike x y
     → ((texts : Texts) → bytes_at side texts ≡ (text_at side h).bytes
     → GoesOnWith side x y texts told.ended told.bytes)
     → IsOpen x h → IsOpen y (with_text side told h)
-open_with laws side x y h told dialogue goes o =
-    let a = laws.every max_depth told.ended told.bytes in
+open_with laws side x y h told dialogue alike goes o =
+    let depth = max_depth_of h.options.profile in
+    let a = laws.every depth told.ended told.bytes in
     let text : TextSoFar = record { told = told.ended; trees = a.0; fault = a.1 } in
-    let read : IsToldText told text = record { told_so = refl; reads = a.2 } in
-    let both = by_side IsToldText side told text h.script h.answers o.script o.answers o.read.script_read
+    let read : IsToldText depth told text = record { told_so = refl; reads = a.2 } in
+    let both = by_side (IsToldText depth) side told text h.script h.answers o.script o.answers o.read.script_read
     o.read.answers_read read in
     let on = goes (texts_of h o.script o.answers) (same_bytes side h o.script o.answers) o.pairs o.later o.rest text
-    o.way read in
+    o.way (subst (λ m. IsRead m told.ended told.bytes text) (sym (limit_at side depth x o.limits)) read) in
     record {
       script = of_side side text o.script;
       answers = of_side side o.answers text;
@@ -153,6 +163,7 @@ open_with laws side x y h told dialogue goes o =
       rest = on.1;
       way = subst (λ ts. IsUnderWay y ts o.pairs on.0 on.1) (same_texts side h o.script o.answers text told) on.2;
       start = ap options_of dialogue ∙ o.start;
+      limits = limited_on x y depth alike o.limits;
     }
 
 pub is_under_way : (s : Session) (h : History) → s.failure ≡ None → false ≡ is_some s.verdict → StandsFor s h
@@ -167,10 +178,11 @@ is_under_way s h none unset k =
 takes_more : TextLaws → (side : Side) (s m : Session) (y : Pairing) (h : History) (fed : Fed) (told : Told)
     → m.failure ≡ None → false ≡ is_some m.verdict → m ≡ with_fed side fed s → AreTold m (with_text side told h)
     → (AreCounted s h → AreCounted m (with_text side told h)) → y.dialogue ≡ m.exchange.dialogue
+    → AreLimitedAlike m.exchange y
     → ((texts : Texts) → bytes_at side texts ≡ (text_at side h).bytes
     → GoesOnWith side m.exchange y texts told.ended told.bytes)
     → StandsFor s h → IsGoingOn (record m { exchange = y }) (with_text side told h)
-takes_more laws side s m y h fed told none unset is ends counts dialogue goes k =
+takes_more laws side s m y h fed told none unset is ends counts dialogue alike goes k =
     let exchange : m.exchange ≡ s.exchange = ap (λ (m' : Session). m'.exchange) is in
     let verdict : m.verdict ≡ s.verdict = ap (λ (m' : Session). m'.verdict) is in
     let failure : m.failure ≡ s.failure = ap (λ (m' : Session). m'.failure) is in
@@ -181,7 +193,7 @@ takes_more laws side s m y h fed told none unset is ends counts dialogue goes k 
       script_ended = ends.script;
       answers_ended = ends.answers;
       counted = record { script = counted.script; answers = counted.answers };
-      open' = open_with laws side m.exchange y h told dialogue goes
+      open' = open_with laws side m.exchange y h told dialogue alike goes
           (subst (λ x. IsOpen x h) (sym exchange)
           (is_under_way s h (sym failure ∙ none) (unset ∙ ap is_some verdict) k));
     }
@@ -191,14 +203,14 @@ pub piece_fed : TextLaws → (side : Side) (s m : Session) (y : Pairing) (h : Hi
     (before after : ℕ) → m.failure ≡ None → false ≡ is_some m.verdict → is_ended side s ≡ false
     → m ≡ with_fed side (record (fed_at side s) { bytes = after }) s → AreTold m (with_piece side h piece)
     → before ≡ (fed_at side s).bytes → (before + length piece < 2 ^ 64) × (after ≡ before + length piece)
-    → y.dialogue ≡ m.exchange.dialogue
+    → y.dialogue ≡ m.exchange.dialogue → AreLimitedAlike m.exchange y
     → ((texts : Texts) → GoesOnWith side m.exchange y texts false (bytes_at side texts ++ piece))
     → StandsFor s h → IsGoingOn (record m { exchange = y }) (with_piece side h piece)
-piece_fed laws side s m y h piece before after none unset open' is ends read sum dialogue goes k =
+piece_fed laws side s m y h piece before after none unset open' is ends read sum dialogue alike goes k =
     let told : Told = record { bytes = (text_at side h).bytes ++ piece; ended = (text_at side h).ended } in
     takes_more laws side s m y h (record (fed_at side s) { bytes = after }) told none unset is ends
     (λ counted. piece_counted side s m h piece after is counted (omega (arith, sum.0, read))
-    (omega (arith, sum.1, read))) dialogue
+    (omega (arith, sum.1, read))) dialogue alike
     (λ texts same. subst (λ b. GoesOnWith side m.exchange y texts b ((text_at side h).bytes ++ piece))
     (sym (is_open side s h open' k))
     (subst (λ bs. GoesOnWith side m.exchange y texts false (bs ++ piece)) same (goes texts))) k
@@ -206,13 +218,13 @@ piece_fed laws side s m y h piece before after none unset open' is ends read sum
 -- or its end
 pub end_fed : TextLaws → (side : Side) (s m : Session) (y : Pairing) (h : History) → m.failure ≡ None
     → false ≡ is_some m.verdict → m ≡ with_fed side (record (fed_at side s) { ended = true }) s
-    → AreTold m (with_end side h) → y.dialogue ≡ m.exchange.dialogue
+    → AreTold m (with_end side h) → y.dialogue ≡ m.exchange.dialogue → AreLimitedAlike m.exchange y
     → ((texts : Texts) → GoesOnWith side m.exchange y texts true (bytes_at side texts))
     → StandsFor s h → IsGoingOn (record m { exchange = y }) (with_end side h)
-end_fed laws side s m y h none unset is ends dialogue goes k =
+end_fed laws side s m y h none unset is ends dialogue alike goes k =
     let told : Told = record { bytes = (text_at side h).bytes; ended = true } in
     takes_more laws side s m y h (record (fed_at side s) { ended = true }) told none unset is ends
-    (end_counted side s m h is) dialogue
+    (end_counted side s m h is) dialogue alike
     (λ texts same. subst (λ bs. GoesOnWith side m.exchange y texts true bs) same (goes texts)) k
 
 -- the reader of this side is open, and has read what was counted

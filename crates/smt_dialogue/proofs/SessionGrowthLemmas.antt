@@ -2,13 +2,13 @@
 use Rattle.std.proofs.Common.{◌≡◌, ℕ, Bool, true, false, List, [], ◌∷◌, ◌++◌, length, Option, Some, None, refl, ap}
 use Rattle.std.proofs.Common.{sym, ◌∙◌, subst, arith, inl, inr, length-append}
 use Rattle.std.proofs.lemmas.List.{append-nil}
-use Rattle.smt_text.specs.Grammar.{max_depth}
 use Rattle.smt_dialogue.proofs.AcceptedLemmas.{begins_trans}
 use Rattle.smt_dialogue.proofs.ReadSoFarLemmas.{grown_text, some_so_far}
 use Rattle.smt_dialogue.proofs.SoFarLemmas.{ends_stay, lines_stay}
 use Rattle.smt_dialogue.specs.FirstFault.{Ends, TextSoFar}
 use Rattle.smt_dialogue.specs.History.{AreDecided, AreFirstDecided, HasGrown, History, IsLong}
 use Rattle.smt_dialogue.specs.Lines.{lines_in}
+use Rattle.smt_dialogue.specs.Depth.{max_depth_of}
 use Rattle.smt_dialogue.specs.Report.{IsRead, IsTurn, lines_at_end, lines_of_end}
 use Rattle.smt_dialogue.specs.Session.{AreCounted, AreLines, IsVerdictIn, StandsFor, is_answers_ended}
 use Rattle.smt_dialogue.specs.Session.{is_script_ended, lines_waiting}
@@ -53,12 +53,13 @@ end_told told bytes open' = record {
 grown_lines : TextLaws → (h g : History) → HasGrown h g → (ls ms : List Line) → AreDecided h ls → AreDecided g ms
     → IsBeginning ls ms
 grown_lines laws h g s ls ms x y =
-    let grown = grown_text laws.one laws.trees_stay laws.faults_stay in
+    let grown = grown_text laws.one laws.trees_stay laws.faults_stay (max_depth_of h.options.profile) in
     lines_stay h.options x.script_text x.answers_text y.script_text y.answers_text ls ms
     (grown h.script.ended h.script.bytes g.script.ended g.script.bytes x.script_text y.script_text s.script x.script_read
-    y.script_read)
-    (grown h.answers.ended h.answers.bytes g.answers.ended g.answers.bytes x.answers_text y.answers_text s.answers x.answers_read
-    y.answers_read)
+    (subst (λ (o : Options). IsRead (max_depth_of o.profile) g.script.ended g.script.bytes y.script_text) s.options y.script_read))
+    (grown h.answers.ended h.answers.bytes g.answers.ended g.answers.bytes x.answers_text y.answers_text s.answers
+    x.answers_read
+    (subst (λ (o : Options). IsRead (max_depth_of o.profile) g.answers.ended g.answers.bytes y.answers_text) s.options y.answers_read))
     x.lines_are
     (subst (λ (o : Options). AreLinesSoFar o y.script_text y.answers_text ms) s.options y.lines_are)
 
@@ -86,16 +87,22 @@ long_grown h g s (inr long) =
 read_again : TextLaws → (h g : History) (script answers : TextSoFar) → HasGrown h g → AreRead h script answers
     → (st : TextSoFar) × (at' : TextSoFar) × AreRead g st at' × IsGrown script st × IsGrown answers at'
 read_again laws h g script answers s r =
-    let a = laws.every max_depth g.script.ended g.script.bytes in
-    let b = laws.every max_depth g.answers.ended g.answers.bytes in
+    let depth = max_depth_of h.options.profile in
+    let a = laws.every depth g.script.ended g.script.bytes in
+    let b = laws.every depth g.answers.ended g.answers.bytes in
     let st : TextSoFar = record { told = g.script.ended; trees = a.0; fault = a.1 } in
     let at' : TextSoFar = record { told = g.answers.ended; trees = b.0; fault = b.1 } in
-    let rs : IsRead g.script.ended g.script.bytes st = record { told_so = refl; reads = a.2 } in
-    let ra : IsRead g.answers.ended g.answers.bytes at' = record { told_so = refl; reads = b.2 } in
-    let grown = grown_text laws.one laws.trees_stay laws.faults_stay in (
+    let rs : IsRead depth g.script.ended g.script.bytes st = record { told_so = refl; reads = a.2 } in
+    let ra : IsRead depth g.answers.ended g.answers.bytes at' = record { told_so = refl; reads = b.2 } in
+    let grown = grown_text laws.one laws.trees_stay laws.faults_stay depth in (
       st,
       at',
-      record { script_read = rs; answers_read = ra },
+      record {
+        script_read = subst (λ (o : Options). IsRead (max_depth_of o.profile) g.script.ended g.script.bytes st)
+            (sym s.options) rs;
+        answers_read = subst (λ (o : Options). IsRead (max_depth_of o.profile) g.answers.ended g.answers.bytes at')
+            (sym s.options) ra;
+      },
       grown h.script.ended h.script.bytes g.script.ended g.script.bytes script st s.script r.script_read rs,
       grown h.answers.ended h.answers.bytes g.answers.ended g.answers.bytes answers at' s.answers r.answers_read ra,
     )

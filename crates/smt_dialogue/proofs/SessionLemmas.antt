@@ -3,20 +3,22 @@ use Rattle.std.proofs.Common.{◌≡◌, ℕ, false, List, [], ◌∷◌, ◌++�
 use Rattle.std.proofs.Common.{lit<}
 use Rattle.std.proofs.lemmas.List.{append-nil}
 use Rattle.std.specs.List.{list_any}
-use Rattle.smt_text.specs.Grammar.{Forest, max_depth}
+use Rattle.smt_text.specs.Grammar.{Forest}
+use Rattle.smt_text.specs.Reader.{depth_limit}
 use Rattle.smt_text.specs.Reading.{Reads}
 use Rattle.smt_trees.specs.Sexp.{Sexps, Nil, Cons, append}
 use Rattle.smt_dialogue.proofs.ValidityLemmas.{OneForest}
-use Rattle.smt_dialogue.proofs.SessionTurnLemmas.{same_counted}
+use Rattle.smt_dialogue.proofs.SessionTurnLemmas.{limited_on, same_counted}
 use Rattle.smt_dialogue.specs.FirstFault.{TextSoFar, Waits}
 use Rattle.smt_dialogue.specs.History.{History, begun, with_taken}
 use Rattle.smt_dialogue.specs.Pairs.{Pair}
+use Rattle.smt_dialogue.specs.Depth.{max_depth_of}
 use Rattle.smt_dialogue.specs.Report.{IsRead}
 use Rattle.smt_dialogue.specs.Session.{AreCounted, AreLines, IsVerdictIn, StandsFor, is_answers_ended}
 use Rattle.smt_dialogue.specs.Session.{is_script_ended, lines_waiting}
 use Rattle.smt_dialogue.specs.SoFar.{is_verdict_line}
 use Rattle.smt_dialogue.specs.Internal.AcceptedState.{options_of}
-use Rattle.smt_dialogue.specs.Internal.PairingView.{IsUnderWay, Texts, waiting}
+use Rattle.smt_dialogue.specs.Internal.PairingView.{AreLimited, AreLimitedAlike, IsUnderWay, Texts, waiting}
 use Rattle.smt_dialogue.specs.Internal.SessionStep.{IsGoingOn}
 use Rattle.smt_dialogue.specs.Internal.SessionView.{GoesOn, HasEnded, IsOpen, texts_of}
 use Rattle.smt_dialogue.specs.declared.pairing.Pairing.{Pairing}
@@ -25,6 +27,7 @@ use Rattle.smt_dialogue.specs.declared.session.Failed.{Failed}
 use Rattle.smt_dialogue.specs.declared.session.Fed.{Fed}
 use Rattle.smt_dialogue.specs.declared.session.Failed.TheVariants.{Long}
 use Rattle.smt_dialogue.specs.declared.session.Session.{Session}
+use Rattle.smt_dialogue.specs.declared.tree_queue.TreeQueue.{TreeQueue}
 use Rattle.smt_report.specs.declared.line.Line.{Line}
 use Rattle.smt_report.specs.declared.verdict.Verdict.{Verdict}
 
@@ -39,8 +42,8 @@ no_more Nil = refl
 no_more (Cons x xs) = ap (Cons x) (no_more xs)
 
 -- of a text of which nothing has come nothing is read
-nothing_read : OneForest → Forest max_depth [] Nil → Reads max_depth false [] Nil None
-nothing_read one none = (
+nothing_read : OneForest → (max_depth : ℕ) → Forest max_depth [] Nil → Reads max_depth false [] Nil None
+nothing_read one max_depth none = (
   ([], Nil, none),
   record {
     settled = record { beginning = []; rest = []; parts = refl; forest = none; settled = inl refl };
@@ -54,16 +57,20 @@ nothing_read one none = (
   },
 )
 
-pub new_stands : OneForest → Forest max_depth [] Nil → (s : Session) (options : Options) → s.verdict ≡ None
-    → s.failure ≡ None → is_script_ended s ≡ false → is_answers_ended s ≡ false
+pub new_stands : OneForest → (s : Session) (options : Options)
+    → Forest (max_depth_of options.profile) [] Nil → s.verdict ≡ None → s.failure ≡ None
+    → is_script_ended s ≡ false → is_answers_ended s ≡ false
     → s.script.bytes ≡ 0 → s.answers.bytes ≡ 0 → lines_waiting s ≡ []
     → options_of s.exchange.dialogue ≡ options
-    → ((script answers : TextSoFar) → IsRead false [] script → IsRead false [] answers
+    → AreLimited (max_depth_of options.profile) s.exchange
+    → ((script answers : TextSoFar) → IsRead (max_depth_of options.profile) false [] script
+    → IsRead (max_depth_of options.profile) false [] answers
     → IsUnderWay s.exchange (texts_of (begun options) script answers) [] script.trees answers.trees)
     → StandsFor s (begun options)
-new_stands one none s options no_verdict no_failure open' answers_open zero answers_zero empty start way =
+new_stands one s options none no_verdict no_failure open' answers_open zero answers_zero empty start limits way =
     let text : TextSoFar = record { told = false; trees = Nil; fault = None } in
-    let read : IsRead false [] text = record { told_so = refl; reads = nothing_read one none } in
+    let depth = max_depth_of options.profile in
+    let read : IsRead depth false [] text = record { told_so = refl; reads = nothing_read one depth none } in
     record {
       lines = subst (λ f. AreLines f (begun options) (lines_waiting s)) (sym no_failure) (record {
         script_text = text;
@@ -104,14 +111,23 @@ new_stands one none s options no_verdict no_failure open' answers_open zero answ
             rest = Nil;
             way = way text text read read;
             start = start;
+            limits = limits;
           }));
     }
 
 -- ---- lines are taken
 
+-- the texts are the same, and so is how deep lists may nest in them
+pub limited_same : (x y : Pairing) → y.script ≡ x.script → y.answers ≡ x.answers → AreLimitedAlike x y
+limited_same x y script answers = record {
+  script = ap (λ (q : TreeQueue). depth_limit q.reader) script;
+  answers = ap (λ (q : TreeQueue). depth_limit q.reader) answers;
+}
+
 -- these lines were taken of x, which is y then
 pub record IsTakenOf (x y : Pairing) (ls : List Line) : Type 0 where
   pub start : options_of y.dialogue ≡ options_of x.dialogue
+  pub limits : AreLimitedAlike x y
   pub way : (texts : Texts) (pairs : List Pair) (later rest : Sexps) → IsUnderWay x texts pairs later rest
       → IsUnderWay y (record texts { taken = texts.taken ++ ls }) pairs later rest
 
@@ -125,6 +141,7 @@ taken_on x y h ls takes o = record {
   rest = o.rest;
   way = takes.way (texts_of h o.script o.answers) o.pairs o.later o.rest o.way;
   start = takes.start ∙ o.start;
+  limits = limited_on x y (max_depth_of h.options.profile) takes.limits o.limits;
 }
 
 ended_taken : (v : Verdict) (h : History) (ls ms ns : List Line) → ms ≡ ns → HasEnded v h ms

@@ -9,11 +9,13 @@ use Rattle.smt_dialogue.proofs.FirstFaultLemmas.{none_of}
 use Rattle.smt_dialogue.proofs.SessionGrowthLemmas.{AreTold, ended_lines, ended_verdict}
 use Rattle.smt_dialogue.specs.FirstFault.{TextSoFar, Waits, turn_at}
 use Rattle.smt_dialogue.specs.History.{AreDecided, AreFirstDecided, History, Told}
+use Rattle.smt_dialogue.specs.Depth.{max_depth_of}
 use Rattle.smt_dialogue.specs.Report.{ArePaired}
 use Rattle.smt_dialogue.specs.Session.{AreCounted, AreLines, IsCounted, IsVerdictIn, StandsFor}
 use Rattle.smt_dialogue.specs.Session.{is_verdict_waiting, lines_waiting}
 use Rattle.smt_dialogue.specs.SoFar.{IsBeginning, is_verdict_line}
-use Rattle.smt_dialogue.specs.Internal.PairingView.{HasAdvanced, HasRested, IsAdvance, IsCut, waiting}
+use Rattle.smt_dialogue.specs.Internal.PairingView.{AreLimited, AreLimitedAlike, HasAdvanced, HasRested}
+use Rattle.smt_dialogue.specs.Internal.PairingView.{IsAdvance, IsCut, waiting}
 use Rattle.smt_dialogue.specs.Internal.SessionStep.{IsFed, IsFedBy, IsGoingOn}
 use Rattle.smt_dialogue.specs.Internal.SessionView.{AreRead, GoesOn, HasEnded, texts_of}
 use Rattle.smt_dialogue.specs.declared.pairing.Advance.{Advance}
@@ -26,6 +28,14 @@ use Rattle.smt_dialogue.specs.declared.session.Failed.TheVariants.{Long, Memory}
 use Rattle.smt_dialogue.specs.declared.session.Session.{Session}
 use Rattle.smt_report.specs.declared.line.Line.{Line}
 use Rattle.smt_report.specs.declared.verdict.Verdict.{Verdict}
+
+-- lists may nest as deep as before
+pub limited_on : (x y : Pairing) (max_depth : ℕ) → AreLimitedAlike x y → AreLimited max_depth x
+    → AreLimited max_depth y
+limited_on x y max_depth alike limited = record {
+  script = alike.script ∙ limited.script;
+  answers = alike.answers ∙ limited.answers;
+}
 
 -- ---- the turns come to rest
 
@@ -56,10 +66,10 @@ rested_lines h script answers x ls r o is = (
 )
 
 pub waits_stands : (s t : Session) (h : History) → (on : IsGoingOn s h) → t.failure ≡ None → t.verdict ≡ None
-    → AreTold t h → AreCounted t h
+    → AreTold t h → AreCounted t h → AreLimited (max_depth_of h.options.profile) t.exchange
     → HasRested None h.options t.exchange (texts_of h on.open'.script on.open'.answers)
     → StandsFor t h
-waits_stands s t h on none unset told counted o =
+waits_stands s t h on none unset told counted limits o =
     let r = rested_lines h on.open'.script on.open'.answers t.exchange (h.taken ++ lines_waiting t) on.open'.read o refl
     in
     record {
@@ -79,6 +89,7 @@ waits_stands s t h on none unset told counted o =
             rest = o.3;
             way = o.4;
             start = o.5;
+            limits = limits;
           }));
     }
 
@@ -121,11 +132,12 @@ counted_on s t h script answers counted = record {
 
 pub rests_stands : (s t : Session) (h : History) (verdict : Option Verdict) → (on : IsGoingOn s h) → t.failure ≡ None
     → t.verdict ≡ verdict → AreTold t h → t.script ≡ s.script → t.answers ≡ s.answers
+    → AreLimited (max_depth_of h.options.profile) t.exchange
     → HasRested verdict h.options t.exchange (texts_of h on.open'.script on.open'.answers)
     → StandsFor t h
-rests_stands s t h None on none is told script answers o =
-    waits_stands s t h on none is told (counted_on s t h script answers on.counted) o
-rests_stands s t h (Some v) on none is told script answers o =
+rests_stands s t h None on none is told script answers limits o =
+    waits_stands s t h on none is told (counted_on s t h script answers on.counted) limits o
+rests_stands s t h (Some v) on none is told script answers limits o =
     ends_stands s t h v on none is told (counted_on s t h script answers on.counted) o
 
 -- memory was refused: the lines are the first
@@ -213,8 +225,9 @@ first_going s h on =
 -- turns were taken, and more are left
 pub paused_going : (s t : Session) (h : History) → (on : IsGoingOn s h) → t.failure ≡ None → t.verdict ≡ None
     → AreTold t h → t.script ≡ s.script → t.answers ≡ s.answers
+    → AreLimited (max_depth_of h.options.profile) t.exchange
     → HasAdvanced Pauses h.options t.exchange (texts_of h on.open'.script on.open'.answers) → IsGoingOn t h
-paused_going s t h on none unset told script answers p = record {
+paused_going s t h on none unset told script answers limits p = record {
   failure = none;
   verdict = unset;
   script_ended = told.script;
@@ -229,6 +242,7 @@ paused_going s t h on none unset told script answers p = record {
     rest = p.2;
     way = p.3;
     start = p.4;
+    limits = limits;
   };
 }
 

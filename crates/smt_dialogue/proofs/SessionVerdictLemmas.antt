@@ -12,6 +12,7 @@ use Rattle.smt_dialogue.proofs.ValidityLemmas.{OneForest, invalid_means, valid_m
 use Rattle.smt_dialogue.specs.FirstFault.{Ends}
 use Rattle.smt_dialogue.specs.History.{History, whole}
 use Rattle.smt_dialogue.specs.Lines.{lines_in}
+use Rattle.smt_dialogue.specs.Depth.{max_depth_of}
 use Rattle.smt_dialogue.specs.Report.{AreLinesOf, IsRead, IsReport, lines_of_end}
 use Rattle.smt_dialogue.specs.Session.{AreLines, StandsFor, failure_of, lines_waiting}
 use Rattle.smt_dialogue.specs.SoFar.{is_verdict_line}
@@ -74,8 +75,8 @@ ended_valid laws one h ls e =
     let all = lines_in h.options.profile h.options.limit.steps true [] e.pairs [] ++ lines_of_end e.fault in
     let told = ended_told Valid h ls e (faultless_end Valid h ls e (valid_lines all (sym e.verdict_is)).0) in
     valid_means laws one h.options h.script.bytes h.answers.bytes e.script e.answers ls Valid
-    (subst (λ b. IsRead b h.script.bytes e.script) told.0 e.read.script_read)
-    (subst (λ b. IsRead b h.answers.bytes e.answers) told.1 e.read.answers_read) (lines_of Valid h ls e)
+    (subst (λ b. IsRead (max_depth_of h.options.profile) b h.script.bytes e.script) told.0 e.read.script_read)
+    (subst (λ b. IsRead (max_depth_of h.options.profile) b h.answers.bytes e.answers) told.1 e.read.answers_read) (lines_of Valid h ls e)
     (ended_verdict Valid h ls e) refl
 
 pub ended_invalid : Laws → (h : History) (ls : List Line) → HasEnded Invalid h ls
@@ -84,8 +85,8 @@ ended_invalid laws h ls e =
     let all = lines_in h.options.profile h.options.limit.steps true [] e.pairs [] ++ lines_of_end e.fault in
     let told = ended_told Invalid h ls e (faultless_end Invalid h ls e (invalid_lines all (sym e.verdict_is)).0) in
     invalid_means laws h.options h.script.bytes h.answers.bytes e.script e.answers ls Invalid
-    (subst (λ b. IsRead b h.script.bytes e.script) told.0 e.read.script_read)
-    (subst (λ b. IsRead b h.answers.bytes e.answers) told.1 e.read.answers_read) (lines_of Invalid h ls e)
+    (subst (λ b. IsRead (max_depth_of h.options.profile) b h.script.bytes e.script) told.0 e.read.script_read)
+    (subst (λ b. IsRead (max_depth_of h.options.profile) b h.answers.bytes e.answers) told.1 e.read.answers_read) (lines_of Invalid h ls e)
     (ended_verdict Invalid h ls e) refl
 
 -- ---- both texts were told to their ends

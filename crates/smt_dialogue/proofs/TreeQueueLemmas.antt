@@ -3,9 +3,8 @@ use Rattle.std.proofs.Common.{◌≡◌, ℕ, Bool, true, false, ◌||◌, List,
 use Rattle.std.proofs.Common.{sym, ◌∙◌, subst}
 use Rattle.std.proofs.lemmas.Bool.{false≢true}
 use Rattle.std.specs.Prelude.{MatchOption}
-use Rattle.smt_text.specs.Grammar.{max_depth}
 use Rattle.smt_text.specs.Reader as readers
-use Rattle.smt_text.specs.Reader.{is_finished}
+use Rattle.smt_text.specs.Reader.{depth_limit, is_finished}
 use Rattle.smt_text.specs.Reading.{Reads}
 use Rattle.smt_trees.specs.Sexp.{Sexps, Nil, Cons, append}
 use Rattle.smt_trees.specs.Owned.{sexp_of}
@@ -18,13 +17,15 @@ use Rattle.smt_dialogue.specs.Report.{IsRead}
 use Rattle.smt_dialogue.specs.Internal.TreeQueueView.{HasQueue, next_trees}
 use Rattle.smt_dialogue.specs.declared.tree_queue.TreeQueue.{TreeQueue}
 
-pub front_new : (f : TreeQueue) (text : TextSoFar) → f.next ≡ None → readers.StandsFor f.reader [] Nil
-    → is_finished f.reader ≡ false → IsRead false [] text → HasQueue f [] text text.trees
-front_new f text none stands open' read = record {
+pub front_new : (f : TreeQueue) (max_depth : ℕ) (text : TextSoFar) → f.next ≡ None
+    → readers.StandsFor f.reader [] Nil → is_finished f.reader ≡ false → depth_limit f.reader ≡ max_depth
+    → IsRead max_depth false [] text → HasQueue f [] text text.trees
+front_new f max_depth text none stands open' limit read = record {
   taken = Nil;
   stands = subst (λ o. readers.StandsFor f.reader [] (next_trees o)) (sym none) stands;
   told = read.told_so ∙ sym open';
-  reads = subst (λ b. Reads max_depth b [] text.trees text.fault) (sym read.told_so) read.reads;
+  reads = subst (λ m. Reads m text.told [] text.trees text.fault) (sym limit)
+      (subst (λ b. Reads max_depth b [] text.trees text.fault) (sym read.told_so) read.reads);
   trees = refl;
   behind = text.trees;
   begins = ap (λ o. append (next_trees o) text.trees) (sym none);
@@ -45,7 +46,7 @@ front_taken f g t bytes text later same some none h =
       stands = subst (λ ts. readers.StandsFor g.reader bytes ts)
           (sym (append_nil taken) ∙ ap (λ o. append taken (next_trees o)) (sym none)) here;
       told = h.told ∙ ap is_finished (sym same);
-      reads = h.reads;
+      reads = subst (λ r. Reads (depth_limit r) text.told bytes text.trees text.fault) (sym same) h.reads;
       trees = h.trees ∙ sym (append_assoc h.taken one later);
       behind = later;
       begins = ap (λ o. append (next_trees o) later) (sym none);
@@ -60,23 +61,24 @@ stands_open f bytes text rest none h =
 
 -- what is read of the same bytes is the text
 read_as : OneReading → (f : TreeQueue) (bytes : List ℕ) (text : TextSoFar) (rest xs : Sexps) (o : Option TextFlaw)
-    → HasQueue f bytes text rest → Reads max_depth (is_finished f.reader) bytes xs o
+    → HasQueue f bytes text rest → Reads (depth_limit f.reader) (is_finished f.reader) bytes xs o
     → (text.trees ≡ xs) × (text.fault ≡ o)
 read_as one f bytes text rest xs o h read =
-    one max_depth text.told bytes text.trees xs text.fault o h.reads
-    (subst (λ b. Reads max_depth b bytes xs o) (sym h.told) read)
+    one (depth_limit f.reader) text.told bytes text.trees xs text.fault o h.reads
+    (subst (λ b. Reads (depth_limit f.reader) b bytes xs o) (sym h.told) read)
 
 -- the reader has a tree
 pub looked_tree : OneReading → (f g : TreeQueue) (t : OwnedTree) (bytes : List ℕ) (text : TextSoFar) (rest : Sexps)
     → f.next ≡ None → g.next ≡ Some t → is_finished g.reader ≡ is_finished f.reader
+    → depth_limit g.reader ≡ depth_limit f.reader
     → ((fed : List ℕ) (taken : Sexps) → readers.StandsFor f.reader fed taken
     → (later : Sexps) × (flaw : Option TextFlaw)
-    × Reads max_depth (is_finished f.reader) fed (append taken (Cons (sexp_of t) later)) flaw)
+    × Reads (depth_limit f.reader) (is_finished f.reader) fed (append taken (Cons (sexp_of t) later)) flaw)
     → ((fed : List ℕ) (taken : Sexps) → readers.StandsFor f.reader fed taken
     → readers.StandsFor g.reader fed (append taken (Cons (sexp_of t) Nil)))
     → HasQueue f bytes text rest
     → HasQueue g bytes text rest × ((later : Sexps) × (rest ≡ Cons (sexp_of t) later))
-looked_tree one f g t bytes text rest none some finished answers stands h =
+looked_tree one f g t bytes text rest none some finished limit answers stands h =
     let before = stands_open f bytes text rest none h in
     let read = answers bytes h.taken before in
     let same = read_as one f bytes text rest (append h.taken (Cons (sexp_of t) read.0)) read.1 h read.2 in
@@ -86,7 +88,7 @@ looked_tree one f g t bytes text rest none some finished answers stands h =
         stands = subst (λ o. readers.StandsFor g.reader bytes (append h.taken (next_trees o))) (sym some)
             (stands bytes h.taken before);
         told = h.told ∙ sym finished;
-        reads = h.reads;
+        reads = subst (λ m. Reads m text.told bytes text.trees text.fault) (sym limit) h.reads;
         trees = h.trees;
         behind = read.0;
         begins = left ∙ ap (λ o. append (next_trees o) read.0) (sym some);
@@ -97,13 +99,14 @@ looked_tree one f g t bytes text rest none some finished answers stands h =
 -- the reader has none
 pub looked_none : OneReading → (f g : TreeQueue) (bytes : List ℕ) (text : TextSoFar) (rest : Sexps)
     (o : Option TextFlaw) → f.next ≡ None → g.next ≡ None → is_finished g.reader ≡ is_finished f.reader
+    → depth_limit g.reader ≡ depth_limit f.reader
     → ((fed : List ℕ) (taken : Sexps) → readers.StandsFor f.reader fed taken
-    → Reads max_depth (is_finished f.reader) fed taken o)
+    → Reads (depth_limit f.reader) (is_finished f.reader) fed taken o)
     → ((fed : List ℕ) (taken : Sexps) → readers.StandsFor f.reader fed taken
     → readers.StandsFor g.reader fed taken)
     → HasQueue f bytes text rest
     → HasQueue g bytes text rest × (rest ≡ Nil) × (text.fault ≡ o)
-looked_none one f g bytes text rest o none after finished answers stands h =
+looked_none one f g bytes text rest o none after finished limit answers stands h =
     let before = stands_open f bytes text rest none h in
     let same = read_as one f bytes text rest h.taken o h (answers bytes h.taken before) in
     let left : rest ≡ Nil = same_behind h.taken (sym h.trees ∙ same.0 ∙ sym (append_nil h.taken)) in (
@@ -113,7 +116,7 @@ looked_none one f g bytes text rest o none after finished answers stands h =
             (sym (append_nil h.taken) ∙ ap (λ n. append h.taken (next_trees n)) (sym after))
             (stands bytes h.taken before);
         told = h.told ∙ sym finished;
-        reads = h.reads;
+        reads = subst (λ m. Reads m text.told bytes text.trees text.fault) (sym limit) h.reads;
         trees = h.trees;
         behind = Nil;
         begins = left ∙ ap (λ n. append (next_trees n) Nil) (sym after);
@@ -142,9 +145,9 @@ pub faulty_text : (text : TextSoFar) (f : TextFlaw) → text.fault ≡ Some f �
 faulty_text text f is = ap (λ o. text.told || is_some o) is ∙ faulty_by text.told f
 
 -- what is read of a text whose end was told, or wasn't
-pub reads_at : (told ended : Bool) (fed : List ℕ) (xs : Sexps) (o : Option TextFlaw)
+pub reads_at : (max_depth : ℕ) (told ended : Bool) (fed : List ℕ) (xs : Sexps) (o : Option TextFlaw)
     → (ended ≡ told) × Reads max_depth told fed xs o → Reads max_depth ended fed xs o
-reads_at told ended fed xs o h = subst (λ b. Reads max_depth b fed xs o) (sym h.0) h.1
+reads_at max_depth told ended fed xs o h = subst (λ b. Reads max_depth b fed xs o) (sym h.0) h.1
 
 pub take_matches : (f g : TreeQueue) (o : Option OwnedTree) → g.reader ≡ f.reader → o ≡ f.next → g.next ≡ None
     → MatchOption o (f.next ≡ None) (λ tree. (f.next ≡ Some tree)

@@ -4,7 +4,7 @@ use Rattle.std.proofs.Common.{Some, None, is_some, Result, Ok, Err, cond, codes,
 use Rattle.std.proofs.Common.{arith, append_assoc, nat_lt}
 use Rattle.std.proofs.lemmas.List.{append-nil}
 use Rattle.std.specs.List.{list_any}
-use Rattle.smt_text.specs.Grammar.{Forest, max_depth}
+use Rattle.smt_text.specs.Grammar.{Forest}
 use Rattle.smt_text.specs.Reading.{Reads}
 use Rattle.smt_trees.specs.Sexp.{Sexp, Sexps, Nil, is_symbol}
 use Rattle.smt_faults.specs.declared.text_flaw.TextFlaw.{TextFlaw}
@@ -16,6 +16,7 @@ use Rattle.smt_dialogue.proofs.ConfirmedLemmas.{Laws, closed_value, confirmed_at
 use Rattle.smt_dialogue.proofs.ConfirmedLemmas.{is_false_value, lines_at, lines_of_sat_at}
 use Rattle.smt_script.specs.Command.{is_check}
 use Rattle.smt_dialogue.specs.FirstFault.{TextSoFar, is_over}
+use Rattle.smt_dialogue.specs.Depth.{max_depth_of}
 use Rattle.smt_dialogue.specs.Report.{AreLinesOf, IsRead, lines_of_end}
 use Rattle.smt_dialogue.specs.declared.options.Options.{Options}
 use Rattle.smt_dialogue.specs.Validity.{IsFullyPaired, IsInvalid, IsSatCheck}
@@ -54,7 +55,8 @@ use Rattle.smt_theory.specs.declared.profile.Profile.{Profile}
 -- ## A dialogue without the line of a fault is paired whole
 
 pub fully_paired : (options : Options) (script answers : List ℕ) (st at' : TextSoFar) (ls : List Line)
-    → IsRead true script st → IsRead true answers at' → (j : AreLinesOf options st at' ls)
+    → IsRead (max_depth_of options.profile) true script st
+    → IsRead (max_depth_of options.profile) true answers at' → (j : AreLinesOf options st at' ls)
     → list_any is_fault_line (lines_in options.profile options.limit.steps true [] j.pairs [] ++ lines_of_end j.fault)
     ≡ false
     → IsFullyPaired options script answers j.pairs × (j.fault ≡ None)
@@ -71,10 +73,10 @@ fully_paired options script answers st at' ls rs ra j h =
     subst (λ (t : Sexps). IsPairing start j.pairs st.trees t at'.trees j.ends.rest) clean.trees told in (
       record {
         script_trees = st.trees;
-        script_forest = subst (λ (f : Option TextFlaw). Reads max_depth true script st.trees f)
+        script_forest = subst (λ (f : Option TextFlaw). Reads (max_depth_of options.profile) true script st.trees f)
             clean.script rs.reads;
         answer_trees = at'.trees;
-        answers_forest = subst (λ (f : Option TextFlaw). Reads max_depth true answers at'.trees f)
+        answers_forest = subst (λ (f : Option TextFlaw). Reads (max_depth_of options.profile) true answers at'.trees f)
             clean.answers ra.reads;
         pairing = subst (λ (t : Sexps). IsPairing start j.pairs st.trees Nil at'.trees t) clean.left one;
       },
@@ -109,14 +111,16 @@ OneForest = (bound other : ℕ) (text : List ℕ) (xs ys : Sexps) → Forest bou
 -- there is one such pairing, and none that leaves answers
 pub only_pairing : OneForest
     → (options : Options) (script answers : List ℕ) (pairs others : List Pair) (trees answered rest : Sexps)
-    → IsFullyPaired options script answers pairs → Forest max_depth script trees → Forest max_depth answers answered
+    → IsFullyPaired options script answers pairs → Forest (max_depth_of options.profile) script trees
+    → Forest (max_depth_of options.profile) answers answered
     → IsPairing (start_by options) others trees Nil answered rest → (others ≡ pairs) × (rest ≡ Nil)
 only_pairing one options script answers pairs others trees answered rest whole f g p =
     let start = start_by options in
+    let depth = max_depth_of options.profile in
     let same_script : whole.script_trees ≡ trees =
-    one max_depth max_depth script whole.script_trees trees whole.script_forest f in
+    one depth depth script whole.script_trees trees whole.script_forest f in
     let same_answers : whole.answer_trees ≡ answered =
-    one max_depth max_depth answers whole.answer_trees answered whole.answers_forest g in
+    one depth depth answers whole.answer_trees answered whole.answers_forest g in
     let once : IsPairing start pairs trees Nil whole.answer_trees Nil =
     subst (λ (t : Sexps). IsPairing start pairs t Nil whole.answer_trees Nil) same_script whole.pairing in
     let mine : IsPairing start pairs trees Nil answered Nil =
@@ -131,7 +135,8 @@ only_pairing one options script answers pairs others trees answered rest whole f
 
 pub valid_means : Laws → OneForest
     → (options : Options) (script answers : List ℕ) (st at' : TextSoFar) (ls : List Line) (v : Verdict)
-    → IsRead true script st → IsRead true answers at' → AreLinesOf options st at' ls
+    → IsRead (max_depth_of options.profile) true script st
+    → IsRead (max_depth_of options.profile) true answers at' → AreLinesOf options st at' ls
     → IsVerdictOf v ls → v ≡ Valid → IsValid options script answers
 valid_means laws one options script answers st at' ls v rs ra l verdict h =
     let mine = lines_in options.profile options.limit.steps true [] l.pairs [] in
@@ -383,7 +388,8 @@ line_place l1 l2 end line = append_assoc l1 (line ∷ l2) end
 
 pub invalid_means : Laws
     → (options : Options) (script answers : List ℕ) (st at' : TextSoFar) (ls : List Line) (v : Verdict)
-    → IsRead true script st → IsRead true answers at' → AreLinesOf options st at' ls
+    → IsRead (max_depth_of options.profile) true script st
+    → IsRead (max_depth_of options.profile) true answers at' → AreLinesOf options st at' ls
     → IsVerdictOf v ls → v ≡ Invalid → IsInvalid options script answers ls
 invalid_means laws options script answers st at' ls v rs ra j verdict h =
     let mine = lines_in options.profile options.limit.steps true [] j.pairs [] in

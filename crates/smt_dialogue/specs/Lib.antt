@@ -1,6 +1,7 @@
 pub mod Answers
 pub mod Pairs
 pub mod InForce
+pub mod Depth
 pub mod Pairing
 pub mod Window
 pub mod Judgement

@@ -1,10 +1,10 @@
 -- The report on a script and answers.
 use Rattle.std.specs.Prelude.{◌≡◌, ℕ, List, [], ◌∷◌, ◌++◌, Bool, true, Option, Some, None}
-use Rattle.smt_text.specs.Grammar.{max_depth}
 use Rattle.smt_text.specs.Reading.{Reads}
 use Rattle.smt_trees.specs.Sexp.{Sexps}
 use Rattle.smt_theory.specs.declared.profile.Profile.{Profile}
 use Rattle.smt_script.specs.declared.stack.Start.{Start}
+use Rattle.smt_dialogue.specs.Depth.{max_depth_of}
 use Rattle.smt_dialogue.specs.FirstFault.{Ends, TextSoFar, Turn, is_over, turn_after}
 use Rattle.smt_dialogue.specs.InForce.{AreFaultless, start_by}
 use Rattle.smt_dialogue.specs.Lines.{lines_in}
@@ -46,15 +46,15 @@ pub record AreLinesOf (options : Options) (script answers : TextSoFar) (ls : Lis
   pub ends : IsTurn (start_by options) script answers pairs (Ends fault)
   pub lines_are : ls ≡ lines_at_end options.profile options.limit.steps pairs fault
 
--- this is read of the bytes of a text so far, whose end was told or not
-pub record IsRead (told : Bool) (bytes : List ℕ) (text : TextSoFar) : Type 0 where
+-- this is read of the bytes of a text so far, in which lists may nest so deep, and whose end was told or not
+pub record IsRead (max_depth : ℕ) (told : Bool) (bytes : List ℕ) (text : TextSoFar) : Type 0 where
   pub told_so : text.told ≡ told
   pub reads : Reads max_depth told bytes text.trees text.fault
 
 -- the report on a script and answers: where the dialogue of what is read of them ends
 pub record IsReport (options : Options) (script answers : List ℕ) (ls : List Line) : Type 0 where
   pub script_text : TextSoFar
-  pub script_read : IsRead true script script_text
+  pub script_read : IsRead (max_depth_of options.profile) true script script_text
   pub answers_text : TextSoFar
-  pub answers_read : IsRead true answers answers_text
+  pub answers_read : IsRead (max_depth_of options.profile) true answers answers_text
   pub lines_are : AreLinesOf options script_text answers_text ls

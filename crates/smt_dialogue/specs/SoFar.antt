@@ -7,6 +7,7 @@ use Rattle.smt_dialogue.specs.FirstFault.{Ends, GoesOn, IsRest, TextSoFar, Turn,
 use Rattle.smt_dialogue.specs.InForce.{start_by}
 use Rattle.smt_dialogue.specs.Lines.{lines_in}
 use Rattle.smt_dialogue.specs.Pairs.{Pair}
+use Rattle.smt_dialogue.specs.Depth.{max_depth_of}
 use Rattle.smt_dialogue.specs.Report.{IsRead, IsTurn, lines_at_end}
 use Rattle.smt_dialogue.specs.declared.options.Options.{Options}
 use Rattle.smt_report.specs.declared.line.Line.{Line}
@@ -31,9 +32,9 @@ pub record AreLinesSoFar (options : Options) (script answers : TextSoFar) (ls : 
 pub record IsSoFar (options : Options) (script_told : Bool) (script : List ℕ) (answers_told : Bool)
     (answers : List ℕ) (ls : List Line) : Type 0 where
   pub script_text : TextSoFar
-  pub script_read : IsRead script_told script script_text
+  pub script_read : IsRead (max_depth_of options.profile) script_told script script_text
   pub answers_text : TextSoFar
-  pub answers_read : IsRead answers_told answers answers_text
+  pub answers_read : IsRead (max_depth_of options.profile) answers_told answers answers_text
   pub lines_are : AreLinesSoFar options script_text answers_text ls
 
 -- ---- growth

@@ -1,7 +1,7 @@
 -- What a valid and an invalid verdict mean, in the words of the standard and beside the report.
 use Rattle.std.specs.Prelude.{◌≡◌, ℕ, ◌+◌, List, [], ◌∷◌, ◌++◌, length, true, false, Some, Ok, codes, slice_get}
 use Rattle.std.specs.List.{AllByRecursion}
-use Rattle.smt_text.specs.Grammar.{Forest, max_depth}
+use Rattle.smt_text.specs.Grammar.{Forest}
 use Rattle.smt_trees.specs.Sexp.{Sexp, Sexps, Nil, is_symbol}
 use Rattle.smt_theory.specs.declared.profile.Profile.{Profile}
 use Rattle.smt_theory.specs.declared.sort.Sort.TheVariants.{Bool as Boolean}
@@ -18,6 +18,7 @@ use Rattle.smt_dialogue.specs.InForce.{signature_after, start_by}
 use Rattle.smt_script.specs.Command.{is_check}
 use Rattle.smt_dialogue.specs.Pairing.{IsPairing}
 use Rattle.smt_dialogue.specs.Pairs.{Pair, checks_in, effective_commands, is_effective}
+use Rattle.smt_dialogue.specs.Depth.{max_depth_of}
 use Rattle.smt_dialogue.specs.declared.options.Options.{Options}
 use Rattle.smt_dialogue.specs.Window.{Printed, models_from, structure_at, window}
 use Rattle.smt_report.specs.declared.claim.Claim.{Claim}
@@ -28,9 +29,9 @@ use Rattle.smt_report.specs.declared.line.Line.TheVariants.{Refuted}
 -- both texts are of trees, and the pairs pair every command with every answer
 pub record IsFullyPaired (options : Options) (script answers : List ℕ) (pairs : List Pair) : Type 0 where
   pub script_trees : Sexps
-  pub script_forest : Forest max_depth script script_trees
+  pub script_forest : Forest (max_depth_of options.profile) script script_trees
   pub answer_trees : Sexps
-  pub answers_forest : Forest max_depth answers answer_trees
+  pub answers_forest : Forest (max_depth_of options.profile) answers answer_trees
   pub pairing : IsPairing (start_by options) pairs script_trees Nil answer_trees Nil
 
 -- the pair is a check that was answered `sat`
@@ -95,8 +96,9 @@ pub record IsConfirmed (profile : Profile) (before : List Pair) (check : Pair) (
 pub record IsValid (options : Options) (script answers : List ℕ) : Type 0 where
   pub pairs : List Pair
   pub paired : IsFullyPaired options script answers pairs
-  pub only : (others : List Pair) (script_trees answer_trees rest : Sexps) → Forest max_depth script script_trees
-      → Forest max_depth answers answer_trees
+  pub only : (others : List Pair) (script_trees answer_trees rest : Sexps)
+      → Forest (max_depth_of options.profile) script script_trees
+      → Forest (max_depth_of options.profile) answers answer_trees
       → IsPairing (start_by options) others script_trees Nil answer_trees rest
       → (others ≡ pairs) × (rest ≡ Nil)
   pub confirmed : (before after : List Pair) (check : Pair) → pairs ≡ before ++ check ∷ after

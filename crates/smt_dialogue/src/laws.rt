@@ -7,7 +7,7 @@ pub mod windows;
 
 ghost use Rattle.std.specs.Prelude.{◌≡◌, ◌≤◌, ◌<◌, ℕ, ◌+◌, List, [], ◌∷◌, ◌++◌, length, true, false, ◌&&◌};
 ghost use Rattle.std.specs.Prelude.{Option, Ok, Err};
-ghost use Rattle.smt_text.specs.Grammar.{Forest, max_depth};
+ghost use Rattle.smt_text.specs.Grammar.{Forest};
 ghost use Rattle.smt_trees.specs.Sexp.{Sexp, Sexps, Nil};
 ghost use Rattle.smt_theory.specs.declared.sort.Sort.TheVariants.{Bool as Boolean};
 ghost use Rattle.smt_values.specs.Element.{Truth};
@@ -30,6 +30,7 @@ ghost use Rattle.smt_dialogue.specs.Judgement.{Claimed, claims_cost, judgement_o
 ghost use Rattle.smt_dialogue.specs.Pairing.{IsPairing};
 ghost use Rattle.smt_dialogue.specs.Pairs.{Pair, checks_in, is_effective};
 ghost use Rattle.smt_dialogue.specs.FirstFault.{Ends, IsRest, TextSoFar, Turn};
+ghost use Rattle.smt_dialogue.specs.Depth.{max_depth_of};
 ghost use Rattle.smt_dialogue.specs.Report.{IsReport, IsTurn};
 ghost use Rattle.smt_dialogue.specs.Validity.{IsAsserted, IsAssumed, IsClaimed, IsFullyPaired, IsInvalid, IsValid};
 ghost use Rattle.smt_dialogue.specs.Validity.{names_of_claim};
@@ -97,8 +98,8 @@ pub fn valid_is_paired()
 pub fn no_second_pairing()
     ensures { (options : Options) (script answers : List ℕ) (pairs others : List Pair)
         (trees answered rest : Sexps)
-        → IsFullyPaired options script answers pairs → Forest max_depth script trees
-        → Forest max_depth answers answered
+        → IsFullyPaired options script answers pairs → Forest (max_depth_of options.profile) script trees
+        → Forest (max_depth_of options.profile) answers answered
         → IsPairing (start_by options) others trees Nil answered rest
         → (others ≡ pairs) × (rest ≡ Nil) }
 {

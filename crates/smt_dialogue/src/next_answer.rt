@@ -1,7 +1,7 @@
 //! The answer that a command accepts from the answers so far. This file knows nothing that is in force.
 
 ghost use Rattle.std.specs.Prelude.{◌≡◌, List, ℕ, IfOk, MatchOption, Some, None, true, false};
-ghost use Rattle.smt_text.specs.Reader.{bytes_fed, is_finished};
+ghost use Rattle.smt_text.specs.Reader.{bytes_fed, depth_limit, is_finished};
 ghost use Rattle.smt_trees.specs.Sexp.{Sexps};
 ghost use Rattle.smt_trees.specs.Owned.{sexp_of};
 ghost use Rattle.smt_dialogue.specs.Answers as answers;
@@ -36,6 +36,7 @@ pub(crate) fn take_answer(need: Need, answers: &mut TreeQueue) -> Result<NextAns
     ensures known { IfOk result (λ found. IsKnown found) }
     ensures fed { bytes_fed answers.new.reader ≡ bytes_fed answers.old.reader }
     ensures finished { is_finished answers.new.reader ≡ is_finished answers.old.reader }
+    ensures limit { depth_limit answers.new.reader ≡ depth_limit answers.old.reader }
 {
     match need {
         Need::Nothing => Ok(NextAnswer::Takes(None)),
@@ -63,6 +64,7 @@ fn take_if(form: AnswerForm, answers: &mut TreeQueue) -> Option<TakenAnswer>
     ensures known { AreKnown result }
     ensures fed { bytes_fed answers.new.reader ≡ bytes_fed answers.old.reader }
     ensures finished { is_finished answers.new.reader ≡ is_finished answers.old.reader }
+    ensures limit { depth_limit answers.new.reader ≡ depth_limit answers.old.reader }
 {
     let Some(tree) = &answers.next else {
         return None;

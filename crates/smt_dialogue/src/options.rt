@@ -29,6 +29,18 @@ pub struct Options {
 impl Options {
     ghost use Rattle.std.specs.Prelude.{◌≡◌};
     ghost use Rattle.smt_dialogue.specs.InForce.{start_by};
+    ghost use Rattle.smt_dialogue.specs.Depth.{max_depth_of};
+
+    /// How deep lists may nest in the script and in the answers, a list at the top being at depth 1: 1,000 in the
+    /// base profile, and 1,000,000 in the wide profile.
+    pub fn max_depth(self) -> usize
+        ensures { result ≡ max_depth_of self.profile }
+    {
+        match self.profile {
+            Profile::Base => 1000,
+            Profile::Wide => 1_000_000,
+        }
+    }
 
     /// The options that hold before the first command of the script.
     pub(crate) fn start(self) -> Start

@@ -6,10 +6,12 @@ ghost use Rattle.smt_text.specs.Reader.{bytes_fed, is_finished};
 ghost use Rattle.smt_trees.specs.Sexp.{Nil, Sexps};
 ghost use Rattle.smt_dialogue.specs.FirstFault.{TextSoFar};
 ghost use Rattle.smt_dialogue.specs.Pairs.{Pair};
+ghost use Rattle.smt_dialogue.specs.Depth.{max_depth_of};
 ghost use Rattle.smt_dialogue.specs.Report.{IsRead};
 ghost use Rattle.smt_dialogue.specs.SoFar.{IsBeginning};
 ghost use Rattle.smt_dialogue.specs.Internal.AcceptedState.{options_of};
-ghost use Rattle.smt_dialogue.specs.Internal.PairingView.{AllNext, AllTurned, GoesOnWith, HasAdvanced, HasRoom};
+ghost use Rattle.smt_dialogue.specs.Internal.PairingView.{AllNext, AllTurned, AreLimited, AreLimitedAlike};
+ghost use Rattle.smt_dialogue.specs.Internal.PairingView.{GoesOnWith, HasAdvanced, HasRoom};
 ghost use Rattle.smt_dialogue.specs.Internal.PairingView.{IsAdvance, IsCut, IsFedAlike, IsTurned, IsUnderWay};
 ghost use Rattle.smt_dialogue.specs.Internal.PairingView.{Texts, TreesAreFew, bytes_at, queue_at, waiting};
 
@@ -55,8 +57,8 @@ pub struct Pairing {
 impl Pairing {
     /// The pairing of two texts of which nothing has come.
     pub(crate) fn new(alloc: Global, options: Options) -> Self
-        ensures way { (script answers : TextSoFar) → IsRead false [] script
-            → IsRead false [] answers
+        ensures way { (script answers : TextSoFar) → IsRead (max_depth_of options.profile) false [] script
+            → IsRead (max_depth_of options.profile) false [] answers
             → IsUnderWay result (record {
               script_bytes = [];
               script = script;
@@ -66,15 +68,17 @@ impl Pairing {
             }) [] script.trees answers.trees }
         ensures waiting { waiting result ≡ [] }
         ensures start { options_of result.dialogue ≡ options }
+        ensures limits { AreLimited (max_depth_of options.profile) result }
         ensures script_fed { bytes_fed result.script.reader ≡ 0 }
         ensures answers_fed { bytes_fed result.answers.reader ≡ 0 }
         ensures script_open { is_finished result.script.reader ≡ false }
         ensures answers_open { is_finished result.answers.reader ≡ false }
     {
+        let max_depth = options.max_depth();
         Pairing {
             dialogue: AcceptedPairs::new(alloc, options),
-            script: TreeQueue::new(alloc),
-            answers: TreeQueue::new(alloc),
+            script: TreeQueue::new(alloc, max_depth),
+            answers: TreeQueue::new(alloc, max_depth),
             command: None,
         }
     }
@@ -114,6 +118,7 @@ impl Pairing {
             → IsUnderWay self.old texts pairs later rest
             → IsCut (options_of self.old.dialogue) (waiting self.new) texts) }
         ensures kept { IsBeginning (waiting self.old) (waiting self.new) }
+        ensures limits { AreLimitedAlike self.old self.new }
     {
         // A law: there are no more pairs than bytes, so that the turns come to an end.
         trees_are_few();
@@ -143,6 +148,7 @@ impl Pairing {
         ensures way { (texts : Texts)
             → GoesOnWith side self.old self.new texts false (bytes_at side texts ++ piece.now) }
         ensures dialogue { self.new.dialogue ≡ self.old.dialogue }
+        ensures limits { AreLimitedAlike self.old self.new }
     {
         match side {
             Side::Script => self.script.feed(piece),
@@ -156,6 +162,7 @@ impl Pairing {
         ensures way { (texts : Texts) → GoesOnWith side self.old self.new texts true
             (bytes_at side texts) }
         ensures dialogue { self.new.dialogue ≡ self.old.dialogue }
+        ensures limits { AreLimitedAlike self.old self.new }
     {
         match side {
             Side::Script => self.script.finish(),

@@ -2,7 +2,7 @@
 
 ghost use Rattle.std.specs.Prelude.{◌≡◌, ◌<◌, ◌+◌, ◌++◌, ◌^◌, List, [], ℕ, IfOk, MatchOption, None, Some, false};
 ghost use Rattle.std.specs.Prelude.{length, true};
-ghost use Rattle.smt_text.specs.Reader.{bytes_fed, is_finished};
+ghost use Rattle.smt_text.specs.Reader.{bytes_fed, depth_limit, is_finished};
 ghost use Rattle.smt_trees.specs.Sexp.{Cons, Sexps};
 ghost use Rattle.smt_trees.specs.Owned.{sexp_of};
 ghost use Rattle.smt_dialogue.specs.FirstFault.{TextSoFar};
@@ -35,15 +35,16 @@ pub enum Ahead {
 }
 
 impl TreeQueue {
-    /// A text of which nothing has come.
-    pub(crate) fn new(alloc: Global) -> Self
-        ensures front { (text : TextSoFar) → IsRead false [] text
+    /// A text of which nothing has come, whose lists nest no deeper than `max_depth`.
+    pub(crate) fn new(alloc: Global, max_depth: usize) -> Self
+        ensures front { (text : TextSoFar) → IsRead max_depth false [] text
             → HasQueue result [] text text.trees }
+        ensures limit { depth_limit result.reader ≡ max_depth }
         ensures fed { bytes_fed result.reader ≡ 0 }
         ensures open { is_finished result.reader ≡ false }
     {
         TreeQueue {
-            reader: Reader::new(alloc),
+            reader: Reader::new(alloc, max_depth),
             next: None,
         }
     }
@@ -55,6 +56,7 @@ impl TreeQueue {
         ensures goes_on { (bytes : List ℕ)
             → GoesOnFrom self.old self.new bytes false (bytes ++ piece.now) }
         ensures next { self.new.next ≡ self.old.next }
+        ensures limit { depth_limit self.new.reader ≡ depth_limit self.old.reader }
     {
         // Laws: a text has one reading, and trees and faults that are read stay.
         one_reading();
@@ -68,6 +70,7 @@ impl TreeQueue {
         requires open { is_finished self.old.reader ≡ false }
         ensures goes_on { (bytes : List ℕ) → GoesOnFrom self.old self.new bytes true bytes }
         ensures next { self.new.next ≡ self.old.next }
+        ensures limit { depth_limit self.new.reader ≡ depth_limit self.old.reader }
     {
         one_reading();
         read_faults_stay();
@@ -82,6 +85,7 @@ impl TreeQueue {
             → HasQueue self.new bytes text rest × IsAhead ahead self.new.next text rest) }
         ensures fed { bytes_fed self.new.reader ≡ bytes_fed self.old.reader }
         ensures finished { is_finished self.new.reader ≡ is_finished self.old.reader }
+        ensures limit { depth_limit self.new.reader ≡ depth_limit self.old.reader }
     {
         // A law: a text has one reading.
         one_reading();
@@ -111,6 +115,7 @@ impl TreeQueue {
             → HasQueue self.new bytes text later)) }
         ensures fed { bytes_fed self.new.reader ≡ bytes_fed self.old.reader }
         ensures finished { is_finished self.new.reader ≡ is_finished self.old.reader }
+        ensures limit { depth_limit self.new.reader ≡ depth_limit self.old.reader }
     {
         self.next.take()
     }

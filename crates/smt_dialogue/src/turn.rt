@@ -2,7 +2,7 @@
 //! know what a command does.
 
 ghost use Rattle.std.specs.Prelude.{◌≡◌, ◌<◌, ◌≤◌, ◌+◌, ◌^◌, Bool, List, ℕ, IfOk, OnErr, true};
-ghost use Rattle.smt_text.specs.Reader.{bytes_fed, is_finished};
+ghost use Rattle.smt_text.specs.Reader.{bytes_fed, depth_limit, is_finished};
 ghost use Rattle.smt_trees.specs.Sexp.{Sexps};
 ghost use Rattle.smt_script.specs.Command as commands;
 ghost use Rattle.smt_script.specs.CommandView.{command_view};
@@ -67,6 +67,7 @@ pub(crate) fn take_up(
         ≡ dialogue.old.decided.lines.items) }
     ensures fed { bytes_fed answers.new.reader ≡ bytes_fed answers.old.reader }
     ensures finished { is_finished answers.new.reader ≡ is_finished answers.old.reader }
+    ensures limit { depth_limit answers.new.reader ≡ depth_limit answers.old.reader }
 {
     let number = dialogue.commands + 1;
     let kind = command.kind();

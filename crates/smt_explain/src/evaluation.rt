@@ -21,7 +21,8 @@ use std::alloc::{AllocError, AllocFailed, Global};
 const NAMES: u64 = 64;
 
 /// The deepest terms that are evaluated, as `Cost` counts: the evaluator takes the machine's stack for each term within
-/// another, also in the bodies of definitions. A tree of a text, at most 1,000 deep, is less deep without these.
+/// another, also in the bodies of definitions. A tree that is read to be explained, at most 1,000 deep, is less deep
+/// without these.
 const MOST_DEPTH: u64 = 1_100;
 
 /// What is written for the value of a term that is deeper.

@@ -53,7 +53,10 @@ pub(crate) fn tell_text_fault(
             page.put_cut(line_at(text, byte))?;
             page.end()
         }
-        TextFlaw::Deep { .. } => page.line(b": a list at a depth over 1,000"),
+        TextFlaw::Deep { .. } => page.line(match dialogue.texts.profile {
+            Profile::Base => b": a list at a depth over 1,000",
+            Profile::Wide => b": a list at a depth over 1,000,000",
+        }),
         TextFlaw::End { .. } => {
             page.line(b": the text ends here")?;
             tell_all_open(page, text, name, scan)

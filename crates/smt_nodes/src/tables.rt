@@ -29,6 +29,9 @@ use smt_faults::Memory;
 use smt_theory::{Op, PlainOp, number};
 use std::alloc::Global;
 
+/// Not more arguments than these are added one by one.
+const FEW: usize = 4;
+
 /// The greatest length of a list.
 const MOST: usize = u32::MAX as usize;
 
@@ -371,8 +374,28 @@ impl Tables {
             return Ok(0);
         }
         let count = narrow(parts.len())?;
-        self.parts.extend_from_slice(parts)?;
+        if parts.len() > FEW || self.parts.capacity() - self.parts.len() < parts.len() {
+            self.push_many(parts)?;
+            return Ok(count);
+        }
+        for part in parts {
+            self.parts.push_reserved(*part);
+        }
         Ok(count)
+    }
+
+    // Adds arguments, out of line: most operators have few, and most often there is room.
+    #[inline(never)]
+    fn push_many(&mut self, parts: &[TermId]) -> Result<(), Memory>
+        ensures pushed { OnOk result (self.new.parts.items ≡ self.old.parts.items ++ parts.now) }
+        ensures unchanged { OnErr result (self.new.parts.items ≡ self.old.parts.items) }
+        ensures digits { self.new.digits ≡ self.old.digits }
+        ensures ops { self.new.ops ≡ self.old.ops }
+        ensures large { self.new.large ≡ self.old.large }
+        ensures annotated { annotated_of self.new ≡ annotated_of self.old }
+    {
+        self.parts.extend_from_slice(parts)?;
+        Ok(())
     }
 
     // The last `count` digits before an end.

@@ -11,7 +11,6 @@ use Rattle.smt_text.specs.declared.lexer.AtomState.{AtomState}
 use Rattle.smt_text.specs.declared.lexer.AtomState.TheVariants.{Nothing, Digits, Hash, HexMark, HexDigits}
 use Rattle.smt_text.specs.declared.lexer.AtomState.TheVariants.{BinMark, BinDigits, Name, InComment}
 use Rattle.smt_text.specs.declared.lexer.LexerStep.TheVariants.{Push, Skip, Finish, Open, Close, Stuck}
-use Rattle.smt_text.specs.declared.reader.TheConstants.{MAX_DEPTH}
 
 -- a byte between tokens is kept by none
 not_kept : (token : AtomState) (s t u v : Bool)
@@ -30,60 +29,60 @@ kept_digit token b true h = refl
 kept_digit token b false h = absurd (not_kept token (b == 40) (b == 41) (b == 59) (is_white b) h)
 
 -- the two bytes of a mark
-mark_run : (levels : Levels) (mark : AtomState) (text : List ℕ) (b d : ℕ) → 1 < length text
+mark_run : (max_depth : ℕ) (levels : Levels) (mark : AtomState) (text : List ℕ) (b d : ℕ) → 1 < length text
     → get_or text 0 0 ≡ 35 → get_or text 1 d ≡ b → lex Hash b ≡ Skip mark
-    → run MAX_DEPTH (At Nothing [] levels) (take 2 text) ≡ Some (At mark [] levels)
-mark_run levels mark [] b d lt first second e = absurd (omega arith)
-mark_run levels mark (h ∷ []) b d lt first second e = absurd (omega arith)
-mark_run levels mark (h ∷ c ∷ text) b d lt first second e =
-    run-cons MAX_DEPTH (At Nothing [] levels) (At Hash [] levels) h (c ∷ [])
-    (step-at MAX_DEPTH (At Nothing [] levels) h (Skip Hash) (ap (lex Nothing) first))
-    ∙ run-cons MAX_DEPTH (At Hash [] levels) (At mark [] levels) c []
-    (step-at MAX_DEPTH (At Hash [] levels) c (Skip mark) (ap (lex Hash) second ∙ e))
+    → run max_depth (At Nothing [] levels) (take 2 text) ≡ Some (At mark [] levels)
+mark_run max_depth levels mark [] b d lt first second e = absurd (omega arith)
+mark_run max_depth levels mark (h ∷ []) b d lt first second e = absurd (omega arith)
+mark_run max_depth levels mark (h ∷ c ∷ text) b d lt first second e =
+    run-cons max_depth (At Nothing [] levels) (At Hash [] levels) h (c ∷ [])
+    (step-at max_depth (At Nothing [] levels) h (Skip Hash) (ap (lex Nothing) first))
+    ∙ run-cons max_depth (At Hash [] levels) (At mark [] levels) c []
+    (step-at max_depth (At Hash [] levels) c (Skip mark) (ap (lex Hash) second ∙ e))
 
 -- the state where no token has begun
 at_start : (P : AtomState → List ℕ → Type 0) (token : AtomState) (bytes : List ℕ) → token ≡ Nothing
     → bytes ≡ [] → P Nothing [] → P token bytes
 at_start P token bytes e f p = subst (λ t. P t bytes) (sym e) (subst (λ b. P Nothing b) (sym f) p)
 
-pub hexadecimal_begins : (token : AtomState) (bytes text : List ℕ) (levels : Levels) (d : ℕ) → token ≡ Nothing
-    → bytes ≡ [] → true ≡ nat_lt 1 (length text) → get_or text 0 0 ≡ 35 → get_or text 1 d ≡ 120
-    → BeginsAtom (At token bytes levels) text 2 HexDigits
-hexadecimal_begins token bytes text levels d e f lt first second =
-    at_start (λ t b. BeginsAtom (At t b levels) text 2 HexDigits) token bytes e f (record {
+pub hexadecimal_begins : (max_depth : ℕ) (token : AtomState) (bytes text : List ℕ) (levels : Levels) (d : ℕ)
+    → token ≡ Nothing → bytes ≡ [] → true ≡ nat_lt 1 (length text) → get_or text 0 0 ≡ 35 → get_or text 1 d ≡ 120
+    → BeginsAtom max_depth (At token bytes levels) text 2 HexDigits
+hexadecimal_begins max_depth token bytes text levels d e f lt first second =
+    at_start (λ t b. BeginsAtom max_depth (At t b levels) text 2 HexDigits) token bytes e f (record {
       start = HexMark;
-      marked = mark_run levels HexMark text 120 d (ltb-true 1 (length text) (sym lt)) first second refl;
+      marked = mark_run max_depth levels HexMark text 120 d (ltb-true 1 (length text) (sym lt)) first second refl;
       first = λ h. push_first_hex (get_or text 2 0)
           (kept_digit HexDigits (get_or text 2 0) (is_hexadecimal_digit (get_or text 2 0)) h);
       ended = λ b h. lex_ended HexDigits b tt h;
     })
 
-pub binary_begins : (token : AtomState) (bytes text : List ℕ) (levels : Levels) (d : ℕ) → token ≡ Nothing
-    → bytes ≡ [] → true ≡ nat_lt 1 (length text) → get_or text 0 0 ≡ 35 → get_or text 1 d ≡ 98
-    → BeginsAtom (At token bytes levels) text 2 BinDigits
-binary_begins token bytes text levels d e f lt first second =
-    at_start (λ t b. BeginsAtom (At t b levels) text 2 BinDigits) token bytes e f (record {
+pub binary_begins : (max_depth : ℕ) (token : AtomState) (bytes text : List ℕ) (levels : Levels) (d : ℕ)
+    → token ≡ Nothing → bytes ≡ [] → true ≡ nat_lt 1 (length text) → get_or text 0 0 ≡ 35 → get_or text 1 d ≡ 98
+    → BeginsAtom max_depth (At token bytes levels) text 2 BinDigits
+binary_begins max_depth token bytes text levels d e f lt first second =
+    at_start (λ t b. BeginsAtom max_depth (At t b levels) text 2 BinDigits) token bytes e f (record {
       start = BinMark;
-      marked = mark_run levels BinMark text 98 d (ltb-true 1 (length text) (sym lt)) first second refl;
+      marked = mark_run max_depth levels BinMark text 98 d (ltb-true 1 (length text) (sym lt)) first second refl;
       first = λ h. push_first_bin (get_or text 2 0)
           (kept_digit BinDigits (get_or text 2 0) (is_binary_digit (get_or text 2 0)) h);
       ended = λ b h. lex_ended BinDigits b tt h;
     })
 
-pub name_begins : (token : AtomState) (bytes text : List ℕ) (levels : Levels) → token ≡ Nothing → bytes ≡ []
-    → is_letter (get_or text 0 0) ≡ true → BeginsAtom (At token bytes levels) text 0 Name
-name_begins token bytes text levels e f letter =
-    at_start (λ t b. BeginsAtom (At t b levels) text 0 Name) token bytes e f (record {
+pub name_begins : (max_depth : ℕ) (token : AtomState) (bytes text : List ℕ) (levels : Levels)
+    → token ≡ Nothing → bytes ≡ [] → is_letter (get_or text 0 0) ≡ true → BeginsAtom max_depth (At token bytes levels) text 0 Name
+name_begins max_depth token bytes text levels e f letter =
+    at_start (λ t b. BeginsAtom max_depth (At t b levels) text 0 Name) token bytes e f (record {
       start = Nothing;
       marked = refl;
       first = λ h. letter_begins (get_or text 0 0) letter;
       ended = λ b h. lex_ended Name b tt h;
     })
 
-pub numeral_begins : (token : AtomState) (bytes text : List ℕ) (levels : Levels) → token ≡ Nothing
-    → bytes ≡ [] → is_nonzero_digit (get_or text 0 0) ≡ true → BeginsAtom (At token bytes levels) text 0 Digits
-numeral_begins token bytes text levels e f digit =
-    at_start (λ t b. BeginsAtom (At t b levels) text 0 Digits) token bytes e f (record {
+pub numeral_begins : (max_depth : ℕ) (token : AtomState) (bytes text : List ℕ) (levels : Levels)
+    → token ≡ Nothing → bytes ≡ [] → is_nonzero_digit (get_or text 0 0) ≡ true → BeginsAtom max_depth (At token bytes levels) text 0 Digits
+numeral_begins max_depth token bytes text levels e f digit =
+    at_start (λ t b. BeginsAtom max_depth (At t b levels) text 0 Digits) token bytes e f (record {
       start = Nothing;
       marked = refl;
       first = λ h. digit_begins (get_or text 0 0) digit;

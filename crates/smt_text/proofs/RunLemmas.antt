@@ -19,7 +19,6 @@ use Rattle.smt_faults.specs.declared.failure.Failure.TheVariants.{Fault}
 use Rattle.smt_text.specs.declared.refusal.Refusal.{Refusal}
 use Rattle.smt_faults.specs.declared.text_flaw.TextFlaw.{TextFlaw}
 use Rattle.smt_text.specs.declared.reader.Reader.{Reader}
-use Rattle.smt_text.specs.declared.reader.TheConstants.{MAX_DEPTH}
 
 -- bytes that are kept
 pub kept_run : (max_depth : ℕ) (levels : Levels) (token : AtomState) (bytes text : List ℕ) (n : ℕ)
@@ -123,17 +122,20 @@ pub goes_further : (old mid new : Reader) (text : List ℕ) (place n : ℕ) → 
     → GoesOn mid (rest_of text place) n new → GoesOn old text (place + n) new
 goes_further old mid new text place n h k = record {
   within = omega (arith, rest_length text place, h.within, k.within);
-  runs = further MAX_DEPTH (state_of old) (state_of mid) (state_of new) text place n h.runs k.runs;
+  runs = further old.max_depth (state_of old) (state_of mid) (state_of new) text place n h.runs
+      (subst (λ m. run m (state_of mid) (take n (rest_of text place)) ≡ Some (state_of new)) h.limit k.runs);
+  limit = k.limit ∙ h.limit;
   token = k.token ∙ h.token;
   bytes = k.bytes ∙ h.bytes;
 }
 
 pub over_goes : (old new : Reader) (text : List ℕ) (n : ℕ)
-    → Over MAX_DEPTH (state_of old) text n (state_of new) → new.token ≡ old.token → new.bytes ≡ old.bytes
-    → GoesOn old text n new
-over_goes old new text n h e f = record {
+    → Over old.max_depth (state_of old) text n (state_of new) → new.max_depth ≡ old.max_depth
+    → new.token ≡ old.token → new.bytes ≡ old.bytes → GoesOn old text n new
+over_goes old new text n h m e f = record {
   within = h.1;
   runs = h.2;
+  limit = m;
   token = e;
   bytes = f;
 }
@@ -154,49 +156,49 @@ kept_on token text mark known count first found k lt = by (cases_lt k known)
         ap (lex token) at ∙ found n (omega arith)
 
 -- an atom behind its mark
-marked_run : (s : State) (text : List ℕ) (mark n : ℕ) (token : AtomState) → BeginsAtom s text mark token → 0 < n
+marked_run : (max_depth : ℕ) (s : State) (text : List ℕ) (mark n : ℕ) (token : AtomState) → BeginsAtom max_depth s text mark token → 0 < n
     → mark + n ≤ length text
     → ((k : ℕ) → k < n → lex token (get_or (rest_of text mark) k 0) ≡ Push token)
-    → run MAX_DEPTH s (take (mark + n) text) ≡ Some (At token (take n (rest_of text mark)) (levels_in s))
-marked_run s text mark n token begins some le h =
+    → run max_depth s (take (mark + n) text) ≡ Some (At token (take n (rest_of text mark)) (levels_in s))
+marked_run max_depth s text mark n token begins some le h =
     let first : lex begins.start (get_or (rest_of text mark) 0 0) ≡ Push token = ap (lex begins.start)
     (first_of_rest text mark) ∙ begins.first (ap (lex token) (sym (first_of_rest text mark)) ∙ h 0 some) in
-    further MAX_DEPTH s (At begins.start [] (levels_in s))
+    further max_depth s (At begins.start [] (levels_in s))
     (At token (take n (rest_of text mark)) (levels_in s)) text mark n begins.marked
-    (atom_run MAX_DEPTH (levels_in s) begins.start token (rest_of text mark) n some
+    (atom_run max_depth (levels_in s) begins.start token (rest_of text mark) n some
     (omega (arith, rest_length text mark)) first h)
 
-pub atom_white : (s : State) (next : Levels) (token new : AtomState) (left text : List ℕ) (mark n : ℕ)
-    → BeginsAtom s text mark token → new ≡ Nothing → left ≡ [] → 0 < n → mark + n < length text
+pub atom_white : (max_depth : ℕ) (s : State) (next : Levels) (token new : AtomState) (left text : List ℕ) (mark n : ℕ)
+    → BeginsAtom max_depth s text mark token → new ≡ Nothing → left ≡ [] → 0 < n → mark + n < length text
     → ((k : ℕ) → k < n → lex token (get_or (rest_of text mark) k 0) ≡ Push token)
     → is_white (get_or text (mark + n) 0) ≡ true
     → next ≡ add_if (atom_of token (take n (rest_of text mark))) (levels_in s)
-    → Over MAX_DEPTH s text (mark + n + 1) (At new left next)
-atom_white s next token new left text mark n begins e f some lt h white adds =
+    → Over max_depth s text (mark + n + 1) (At new left next)
+atom_white max_depth s next token new left text mark n begins e f some lt h white adds =
     let said = take n (rest_of text mark) in
     let b = get_or text (mark + n) 0 in (
       omega arith,
       omega arith,
-      one_more MAX_DEPTH s (At token said (levels_in s)) (At new left next) text (mark + n) lt
-          (marked_run s text mark n token begins some (omega arith) h)
-          (white_step MAX_DEPTH (levels_in s) token said b (begins.ended b (white_ends b white)) white ∙ ap
+      one_more max_depth s (At token said (levels_in s)) (At new left next) text (mark + n) lt
+          (marked_run max_depth s text mark n token begins some (omega arith) h)
+          (white_step max_depth (levels_in s) token said b (begins.ended b (white_ends b white)) white ∙ ap
           (λ x. Some (At Nothing [] x)) (sym adds) ∙ ap Some (at_nothing new left next e f)),
     )
 
-pub atom_close : (s : State) (mid next : Levels) (token new : AtomState) (left text : List ℕ) (mark n : ℕ)
-    → BeginsAtom s text mark token → new ≡ Nothing → left ≡ [] → 0 < n → mark + n < length text
+pub atom_close : (max_depth : ℕ) (s : State) (mid next : Levels) (token new : AtomState) (left text : List ℕ) (mark n : ℕ)
+    → BeginsAtom max_depth s text mark token → new ≡ Nothing → left ≡ [] → 0 < n → mark + n < length text
     → ((k : ℕ) → k < n → lex token (get_or (rest_of text mark) k 0) ≡ Push token)
     → get_or text (mark + n) 0 ≡ 41 → 0 < depth_of (levels_in s)
     → mid ≡ add_if (atom_of token (take n (rest_of text mark))) (levels_in s) → ended mid ≡ next
-    → Over MAX_DEPTH s text (mark + n + 1) (At new left next)
-atom_close s mid next token new left text mark n begins e f some lt h close deep adds ends =
+    → Over max_depth s text (mark + n + 1) (At new left next)
+atom_close max_depth s mid next token new left text mark n begins e f some lt h close deep adds ends =
     let said = take n (rest_of text mark) in
     let b = get_or text (mark + n) 0 in (
       omega arith,
       omega arith,
-      one_more MAX_DEPTH s (At token said (levels_in s)) (At new left next) text (mark + n) lt
-          (marked_run s text mark n token begins some (omega arith) h)
-          (close_step MAX_DEPTH (levels_in s) next token said b (begins.ended b (ap ends_token close)) close
+      one_more max_depth s (At token said (levels_in s)) (At new left next) text (mark + n) lt
+          (marked_run max_depth s text mark n token begins some (omega arith) h)
+          (close_step max_depth (levels_in s) next token said b (begins.ended b (ap ends_token close)) close
           deep (ap ended (sym adds) ∙ ends) ∙ ap Some (at_nothing new left next e f)),
     )
 
@@ -215,14 +217,14 @@ blame-at place Close = refl
 blame-at place Stuck = refl
 
 -- a byte of a piece that was refused
-pub refused : (s mid new : State) (piece : List ℕ) (place before now : ℕ) (refusal : Refusal)
-    (flaw : TextFlaw) → place < length piece → run MAX_DEPTH s (take place piece) ≡ Some mid → now ≡ before
-    → flaw ≡ flaw_at (now + place) refusal → GoesOver mid (rest_of piece place) (Err (Fault refusal)) new
-    → GoesThrough s before piece (Err (Fault flaw)) new
-refused s mid new piece place before now refusal flaw lt e same is g =
+pub refused : (max_depth : ℕ) (s mid new : State) (piece : List ℕ) (place before now : ℕ) (refusal : Refusal)
+    (flaw : TextFlaw) → place < length piece → run max_depth s (take place piece) ≡ Some mid → now ≡ before
+    → flaw ≡ flaw_at (now + place) refusal → GoesOver max_depth mid (rest_of piece place) (Err (Fault refusal)) new
+    → GoesThrough max_depth s before piece (Err (Fault flaw)) new
+refused max_depth s mid new piece place before now refusal flaw lt e same is g =
     let byte = get_or piece place 0 in
     let stays : mid ≡ new = sym g.2 in
-    let stops : step MAX_DEPTH new byte ≡ None = ap (λ x. step MAX_DEPTH x byte) g.2 ∙ ap (step MAX_DEPTH mid)
+    let stops : step max_depth new byte ≡ None = ap (λ x. step max_depth x byte) g.2 ∙ ap (step max_depth mid)
     (sym (first_of_rest piece place)) ∙ g.0 in
     let what : refusal ≡ refusal_of (lex (token_in new) byte) = g.1 ∙ ap
     (λ b. refusal_of (lex (token_in mid) b)) (first_of_rest piece place) ∙ ap

@@ -14,7 +14,7 @@ use Rattle.smt_trees.specs.Sexp.{Sexps, Atom, Reserved, Items, Nil, Cons, depth_
 use Rattle.smt_text.specs.declared.reader.TheConstants.{MAX_DEPTH}
 use Rattle.smt_trees.specs.declared.reserved.Word.{Word}
 
--- how deep lists may nest, a list at the top being at depth 1
+-- how deep lists may nest in a text that is at hand as a whole, a list at the top being at depth 1
 abbrev pub max_depth : ℕ
 max_depth = MAX_DEPTH
 

@@ -12,7 +12,6 @@ use Rattle.smt_faults.specs.Faults.{flaw_in, text_failure}
 use Rattle.smt_text.specs.declared.reader.Next.{Next}
 use Rattle.smt_text.specs.declared.reader.Next.TheVariants.{Tree, Wait, End, Fault}
 use Rattle.smt_text.specs.declared.reader.Reader.{Reader}
-use Rattle.smt_text.specs.declared.reader.TheConstants.{MAX_DEPTH}
 
 -- the end of the text was told
 abbrev pub is_finished : Reader → Bool
@@ -20,6 +19,10 @@ is_finished reader = reader.finished
 
 abbrev pub bytes_fed : Reader → ℕ
 bytes_fed reader = reader.fed
+
+-- how deep lists may nest, a list at the top being at depth 1
+abbrev pub depth_limit : Reader → ℕ
+depth_limit reader = reader.max_depth
 
 -- what has failed so far, as a caller is told it
 abbrev pub fault_of : Reader → Option TextFault
@@ -40,7 +43,7 @@ trees_waiting reader = length reader.builder.ready.items
 -- on from what they leave
 abbrev pub Keeps : Bool → Reader → List ℕ → Sexps → Type 0
 Keeps ended reader fed taken =
-    Reads MAX_DEPTH ended fed (append taken (trees_ready reader)) (flaw_of reader)
+    Reads (depth_limit reader) ended fed (append taken (trees_ready reader)) (flaw_of reader)
     × GoesOnFrom ended reader fed taken
 
 -- the reader's value fits this history: these bytes were fed, and these trees were handed out
@@ -56,15 +59,16 @@ with_answer taken Wait = taken
 with_answer taken End = taken
 with_answer taken (Fault f) = taken
 
--- the answer is right after these bytes and these trees. Want of memory says nothing of the text
-abbrev pub Answers : Bool → List ℕ → Sexps → Next → Type 0
-Answers ended fed taken (Tree t) =
+-- the answer is right after these bytes and these trees, where lists nest no deeper than this. Want of memory
+-- says nothing of the text
+abbrev pub Answers : ℕ → Bool → List ℕ → Sexps → Next → Type 0
+Answers max_depth ended fed taken (Tree t) =
     (later : Sexps) × (flaw : Option TextFlaw)
-    × Reads MAX_DEPTH ended fed (append taken (Cons (sexp_of t) later)) flaw
-Answers ended fed taken Wait = (ended ≡ false) × Reads MAX_DEPTH false fed taken None
-Answers ended fed taken End = (ended ≡ true) × Reads MAX_DEPTH true fed taken None
-Answers ended fed taken (Fault fault) =
-    (flaw : TextFlaw) → flaw_in fault ≡ Some flaw → Reads MAX_DEPTH ended fed taken (Some flaw)
+    × Reads max_depth ended fed (append taken (Cons (sexp_of t) later)) flaw
+Answers max_depth ended fed taken Wait = (ended ≡ false) × Reads max_depth false fed taken None
+Answers max_depth ended fed taken End = (ended ≡ true) × Reads max_depth true fed taken None
+Answers max_depth ended fed taken (Fault fault) =
+    (flaw : TextFlaw) → flaw_in fault ≡ Some flaw → Reads max_depth ended fed taken (Some flaw)
 
 -- how many trees wait after this answer
 abbrev pub FewerWait : ℕ → ℕ → Next → Type 0

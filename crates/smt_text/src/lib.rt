@@ -14,7 +14,7 @@
 //! A reader of a text in two pieces, cut inside a name:
 //!
 //! ```
-//! let mut reader = Reader::new(alloc);
+//! let mut reader = Reader::new(alloc, MAX_DEPTH);
 //! reader.feed(b"(declare-fun f");
 //! reader.feed(b"oo () Int) ; ends here");
 //! reader.finish();

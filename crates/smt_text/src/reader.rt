@@ -3,8 +3,8 @@
 ghost use Rattle.std.specs.Prelude.{◌≡◌, ◌≢◌, ℕ, ◌+◌, ◌<◌, ◌≤◌, ◌^◌, List, [], ◌∷◌, ◌++◌, length};
 ghost use Rattle.std.specs.Prelude.{slice_index, take, true, false, None, Some, IfOk, MatchBool, MatchResult};
 ghost use Rattle.smt_text.specs.Grammar.{max_depth, OpenParenthesis, CloseParenthesis};
-ghost use Rattle.smt_text.specs.Reader.{is_finished, bytes_fed, fault_of, trees_waiting, StandsFor, Answers};
-ghost use Rattle.smt_text.specs.Reader.{FewerWait, IsFound, with_answer};
+ghost use Rattle.smt_text.specs.Reader.{is_finished, bytes_fed, depth_limit, fault_of, trees_waiting};
+ghost use Rattle.smt_text.specs.Reader.{Answers, FewerWait, IsFound, StandsFor, with_answer};
 ghost use Rattle.smt_text.specs.Internal.LexerStates.{act, add_if, atom_of, finished, flush, lex, refusal_of};
 ghost use Rattle.smt_text.specs.Internal.LexerStates.{settle, step};
 ghost use Rattle.smt_text.specs.Internal.ReaderState.{levels_of, state_of, BeginsAtom, Ends, Goes, GoesOn, GoesOver};
@@ -32,7 +32,7 @@ use smt_trees::OwnedTree;
 use std::alloc::Global;
 use std::mem;
 
-/// The greatest depth of nested lists. A list at the top is at depth 1.
+/// How deep lists may nest in a text that [`read_trees`] reads. A list at the top is at depth 1.
 pub const MAX_DEPTH: usize = 1000;
 
 /// What a reader returns: the next tree, or why there is none.
@@ -48,10 +48,11 @@ pub enum Next {
     Fault(TextFault),
 }
 
-/// A reader of a text that comes in pieces (SMT-LIB 2.6, sections 3.1 and 3.2). Lists nest at most 1,000
-/// deep.
+/// A reader of a text that comes in pieces (SMT-LIB 2.6, sections 3.1 and 3.2).
 #[derive(Drop)]
 pub struct Reader {
+    /// How deep lists may nest.
+    max_depth: usize,
     fed: u64,
     finished: bool,
     /// Where in a token the text is, and the bytes of the token so far.
@@ -62,14 +63,17 @@ pub struct Reader {
 }
 
 impl Reader {
-    /// A reader that has been fed nothing.
-    pub fn new(alloc: Global) -> Self
+    /// A reader that has been fed nothing, of a text whose lists nest no deeper than `max_depth`. A list at the
+    /// top is at depth 1, so that with 0 no list is taken.
+    pub fn new(alloc: Global, max_depth: usize) -> Self
         ensures stands { StandsFor result [] Nil }
         ensures finished { is_finished result ≡ false }
         ensures fault { fault_of result ≡ None }
         ensures fed { bytes_fed result ≡ 0 }
+        ensures limit { depth_limit result ≡ max_depth }
     {
         Reader {
+            max_depth,
             fed: 0,
             finished: false,
             token: AtomState::Nothing,
@@ -88,6 +92,7 @@ impl Reader {
             → StandsFor self.new (fed ++ piece.now) taken }
         ensures finished { is_finished self.new ≡ false }
         ensures counted { bytes_fed self.new ≡ bytes_fed self.old + length piece.now }
+        ensures limit { depth_limit self.new ≡ depth_limit self.old }
         ensures fault { (f : Fault) → fault_of self.old ≡ Some f → fault_of self.new ≡ Some f }
     {
         if self.failure.is_none() {
@@ -111,6 +116,7 @@ impl Reader {
             → StandsFor self.new fed taken }
         ensures finished { is_finished self.new ≡ true }
         ensures counted { bytes_fed self.new ≡ bytes_fed self.old }
+        ensures limit { depth_limit self.new ≡ depth_limit self.old }
         ensures fault { (f : Fault) → fault_of self.old ≡ Some f → fault_of self.new ≡ Some f }
     {
         self.finished = true;
@@ -122,11 +128,12 @@ impl Reader {
     /// Returns the next tree, or why there is none. Once memory was refused, each call returns that fault.
     pub fn next(&mut self) -> Next
         ensures right { (fed : List ℕ) (taken : Sexps) → StandsFor self.old fed taken
-            → Answers (is_finished self.old) fed taken result }
+            → Answers (depth_limit self.old) (is_finished self.old) fed taken result }
         ensures stands { (fed : List ℕ) (taken : Sexps) → StandsFor self.old fed taken
             → StandsFor self.new fed (with_answer taken result) }
         ensures finished { is_finished self.new ≡ is_finished self.old }
         ensures counted { bytes_fed self.new ≡ bytes_fed self.old }
+        ensures limit { depth_limit self.new ≡ depth_limit self.old }
         ensures fault { fault_of self.new ≡ fault_of self.old }
         ensures found { IsFound (fault_of self.old) result }
         ensures refused { fault_of self.old ≡ Some OutOfMemory → result ≡ Next.Fault OutOfMemory }
@@ -157,7 +164,8 @@ impl Reader {
     fn read(&mut self, piece: &[u8]) -> Result<(), Failure<TextFlaw>>
         requires { self.old.fed + length piece.now < 2 ^ 64 }
         ensures beside { IsBeside self.old self.new }
-        ensures goes { GoesThrough (state_of self.old) self.old.fed piece.now result (state_of self.new) }
+        ensures goes { GoesThrough self.old.max_depth (state_of self.old) self.old.fed piece.now result
+            (state_of self.new) }
     {
         let mut place = 0;
         while place < piece.len() {
@@ -176,7 +184,7 @@ impl Reader {
     fn read_some(&mut self, text: &[u8]) -> Result<usize, Failure<Refusal>>
         requires { 0 < length text.now }
         ensures beside { IsBeside self.old self.new }
-        ensures goes { GoesOver (state_of self.old) text.now result (state_of self.new) }
+        ensures goes { GoesOver self.old.max_depth (state_of self.old) text.now result (state_of self.new) }
     {
         match self.token {
             AtomState::Nothing if self.bytes.is_empty() => self.read_between(text),
@@ -191,7 +199,7 @@ impl Reader {
         requires token { self.old.token ≡ Nothing }
         requires bytes { self.old.bytes.items ≡ [] }
         ensures beside { IsBeside self.old self.new }
-        ensures goes { GoesOver (state_of self.old) text.now result (state_of self.new) }
+        ensures goes { GoesOver self.old.max_depth (state_of self.old) text.now result (state_of self.new) }
     {
         let count = self.read_tokens(text)?;
         if count == 0 {
@@ -229,7 +237,7 @@ impl Reader {
         ensures goes { IfOk result (λ count. GoesOn self.old text.now count self.new) }
     {
         match text[0] {
-            b'(' if self.builder.depth() < MAX_DEPTH => {
+            b'(' if self.builder.depth() < self.max_depth => {
                 self.builder.begin_list()?;
                 Ok(1)
             }
@@ -274,7 +282,7 @@ impl Reader {
     ) -> Result<usize, Memory>
         requires within { mark + known ≤ length text.now }
         requires kept { (k : ℕ) → k < known → lex token (slice_index text.now (mark + k)) ≡ Push token }
-        requires begins { BeginsAtom (state_of self.old) text.now mark token }
+        requires begins { BeginsAtom self.old.max_depth (state_of self.old) text.now mark token }
         requires token { self.old.token ≡ Nothing }
         requires bytes { self.old.bytes.items ≡ [] }
         ensures beside { IsBeside self.old self.new }
@@ -315,7 +323,7 @@ impl Reader {
         requires some { 0 < length text.now }
         requires token { self.old.token ≡ InComment }
         ensures beside { IsBeside self.old self.new }
-        ensures goes { GoesOver (state_of self.old) text.now result (state_of self.new) }
+        ensures goes { GoesOver self.old.max_depth (state_of self.old) text.now result (state_of self.new) }
     {
         let count = comment_length(text);
         if count == 0 {
@@ -328,7 +336,7 @@ impl Reader {
     fn read_run(&mut self, text: &[u8]) -> Result<usize, Failure<Refusal>>
         requires { 0 < length text.now }
         ensures beside { IsBeside self.old self.new }
-        ensures goes { GoesOver (state_of self.old) text.now result (state_of self.new) }
+        ensures goes { GoesOver self.old.max_depth (state_of self.old) text.now result (state_of self.new) }
     {
         let count = self.token.run_length(text);
         if count == 0 {
@@ -342,7 +350,7 @@ impl Reader {
     fn read_byte(&mut self, text: &[u8]) -> Result<usize, Failure<Refusal>>
         requires { 0 < length text.now }
         ensures beside { IsBeside self.old self.new }
-        ensures goes { GoesOver (state_of self.old) text.now result (state_of self.new) }
+        ensures goes { GoesOver self.old.max_depth (state_of self.old) text.now result (state_of self.new) }
     {
         self.advance(text[0])?;
         Ok(1)
@@ -351,7 +359,7 @@ impl Reader {
     // Reads one byte, where nothing has failed before.
     fn advance(&mut self, byte: u8) -> Result<(), Failure<Refusal>>
         ensures beside { IsBeside self.old self.new }
-        ensures goes { Goes (step MAX_DEPTH (state_of self.old) byte) (refusal_of (lex self.old.token byte))
+        ensures goes { Goes (step self.old.max_depth (state_of self.old) byte) (refusal_of (lex self.old.token byte))
             (state_of self.old) result (state_of self.new) }
     {
         match self.token.after(byte) {
@@ -377,10 +385,10 @@ impl Reader {
     // Ends the token that has begun, and begins a list.
     fn begin_list(&mut self) -> Result<(), Failure<Refusal>>
         ensures beside { IsBeside self.old self.new }
-        ensures goes { Goes (settle (act MAX_DEPTH OpenParenthesis (flush (state_of self.old)))) TooDeep
+        ensures goes { Goes (settle (act self.old.max_depth OpenParenthesis (flush (state_of self.old)))) TooDeep
             (state_of self.old) result (state_of self.new) }
     {
-        if self.builder.depth() >= MAX_DEPTH {
+        if self.builder.depth() >= self.max_depth {
             return Err(Failure::Fault(Refusal::TooDeep));
         }
         self.finish_token(AtomState::Nothing)?;
@@ -391,7 +399,7 @@ impl Reader {
     // Ends the token that has begun, and the innermost list.
     fn end_list(&mut self) -> Result<(), Failure<Refusal>>
         ensures beside { IsBeside self.old self.new }
-        ensures goes { Goes (settle (act MAX_DEPTH CloseParenthesis (flush (state_of self.old)))) Unfit
+        ensures goes { Goes (settle (act self.old.max_depth CloseParenthesis (flush (state_of self.old)))) Unfit
             (state_of self.old) result (state_of self.new) }
     {
         if self.builder.depth() == 0 {
@@ -432,7 +440,7 @@ pub fn read_trees(alloc: Global, text: &[u8]) -> Result<Vec<OwnedTree>, TextFaul
         (λ fault. (flaw : TextFlaw) → flaw_in fault ≡ Some flaw
         → (trees : Sexps) × Reads max_depth true text.now trees (Some flaw)) }
 {
-    let mut reader = Reader::new(alloc);
+    let mut reader = Reader::new(alloc, MAX_DEPTH);
     reader.feed(text);
     reader.finish();
     let mut trees = Vec::new(alloc);

@@ -1,8 +1,9 @@
 -- Digits are read from the left.
 use Rattle.std.proofs.Common.{◌≡◌, ℕ, ◌+◌, ◌*◌, ◌^◌, ◌<◌, ◌≤◌, Bool, true, false, cond, List, [], ◌∷◌, Some}
-use Rattle.std.proofs.Common.{None, length, drop, get_or, nat_lt, refl, sym, ap, ◌∙◌, add-one, drop-cons}
+use Rattle.std.proofs.Common.{None, length, drop, get_or, nat_lt, refl, suc, sym, ap, ◌∙◌, add-one, drop-cons}
 use Rattle.std.proofs.Common.{arith, rules}
-use Rattle.std.proofs.Math.Nat.{mul-le-mul_left}
+use Rattle.std.proofs.Math.Nat.{mul-le-mul_left, pow-le-pow_right}
+use Rattle.std.proofs.lemmas.Bool.Decides.{nat_tests}
 use Rattle.std.specs.Char.{digit_value}
 use Rattle.std.specs.Str.Parse.{digits_value_after}
 use Rattle.smt_theory.specs.Numbers.{below_word}
@@ -35,3 +36,23 @@ large_below_word n h = by (nat_lt n (2 ^ 128)) (λ e. search rules) h
 -- where a beginning is too large, so is the whole
 pub too_large : (m n : ℕ) → below_word m ≡ None → m ≤ n → below_word n ≡ None
 too_large m n h le = let big = large_below_word m h in below_word-large n (omega arith)
+
+-- ---- a few digits in a base of at most 16
+
+digit_value-le : (c : ℕ) → digit_value c ≤ 36
+digit_value-le c = grind (arith, nat_tests)
+
+-- one more leaves room
+pub small_on : (base value c i : ℕ) → base ≤ 16 → value + 3 ≤ 3 * 16 ^ i
+    → value * base + digit_value c + 3 ≤ 3 * 16 ^ (i + 1)
+small_on base value c i few small =
+    let most : value * base ≤ value * 16 = mul-le-mul_left value few in
+    let digit = digit_value-le c in
+    let power : 16 ^ (i + 1) ≡ 16 ^ suc i = ap (λ n. 16 ^ n) (add-one i) in
+    let step : 16 ^ suc i ≡ 16 ^ i * 16 = omega arith in
+    omega (arith, most, digit, power, step, small)
+
+pub small_fits : (n i : ℕ) → n + 3 ≤ 3 * 16 ^ i → i ≤ 15 → n < 2 ^ 64
+small_fits n i small few =
+    let most : 16 ^ i ≤ 16 ^ 15 = pow-le-pow_right (omega arith) few in
+    omega (arith, most, small)

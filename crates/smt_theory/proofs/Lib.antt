@@ -8,3 +8,4 @@ pub mod RankLemmas
 pub mod BitsRankLemmas
 pub mod RankTableLemmas
 pub mod WideLemmas
+mod DigitTableLemmas

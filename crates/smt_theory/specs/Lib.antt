@@ -9,3 +9,4 @@ pub mod Operators
 pub mod Ranks
 pub mod NamesLike
 pub mod PlainOp
+pub mod Internal

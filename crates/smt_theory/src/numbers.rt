@@ -1,11 +1,13 @@
 //! Numbers from their digits. This file knows no sort, and no atom.
 
-ghost use Rattle.std.specs.Prelude.{◌≡◌, ◌+◌, ◌*◌, ◌^◌, ◌<◌, ◌≤◌, IfNone, IfSome};
+ghost use Rattle.std.specs.Prelude.{◌≡◌, ◌+◌, ◌*◌, ◌^◌, ◌<◌, ◌≤◌, IfNone, IfSome, length};
 ghost use Rattle.std.specs.Char.{digit_value, is_ascii_digit};
 ghost use Rattle.std.specs.List.{list_all};
 ghost use Rattle.std.specs.Str.Parse.{digits_value};
 ghost use Rattle.smt_theory.specs.Numbers.{below_word};
+ghost use Rattle.smt_theory.specs.declared.numbers.TheConstants.{FEW};
 ghost use Rattle.smt_theory.specs.Numbers as numbers;
+ghost use Rattle.smt_theory.specs.Internal.Digits.{digit_table};
 
 /// The number that digits spell in a base; `None` where it is 2^128 or more.
 ///
@@ -15,10 +17,30 @@ pub fn number(base: u8, digits: &[u8]) -> Option<u128>
     requires { 0 < base }
     ensures { result ≡ below_word (digits_value base digits.now) }
 {
+    if base <= 16 && digits.len() <= FEW {
+        return Some(u128::from(few_digits(base, digits)));
+    }
     match short_number(base, digits) {
         Some(value) => Some(u128::from(value)),
         None => long_number(base, digits),
     }
+}
+
+/// As many digits of a base up to 16 spell a number below 2^62.
+const FEW: usize = 15;
+
+// The number that a few digits spell.
+#[inline(always)]
+fn few_digits(base: u8, digits: &[u8]) -> u64
+    requires base { base ≤ 16 }
+    requires few { length digits.now ≤ FEW }
+    ensures { result ≡ digits_value base digits.now }
+{
+    let mut value = 0;
+    for byte in digits {
+        value = value * u64::from(base) + u64::from(digit(*byte));
+    }
+    value
 }
 
 // The number, computed in 64 bits; `None` where it does not fit. Most numbers fit, and a digit takes half the
@@ -64,16 +86,20 @@ fn with_digit(base: u8, value: u128, byte: u8) -> Option<u128>
         .checked_add(u128::from(digit(byte)))
 }
 
+// The value of each byte as a digit: `0` and what follows stand for 0 and what follows.
+#[inline(always)]
+fn digit_values() -> &'static [u8]
+    ensures { result.now ≡ digit_table }
+{
+    b"TTTTTTTTTTTTTTTTTTTTTTTTTTTTTTTTTTTTTTTTTTTTTTTT0123456789TTTTTTT:;<=>?@ABCDEFGHIJKLMNOPQRSTTTTTT:;<=>?@ABCDEFGHIJKLMNOPQRSTTTTTTTTTTTTTTTTTTTTTTTTTTTTTTTTTTTTTTTTTTTTTTTTTTTTTTTTTTTTTTTTTTTTTTTTTTTTTTTTTTTTTTTTTTTTTTTTTTTTTTTTTTTTTTTTTTTTTTTTTTTTTTTTTTTTT"
+}
+
 /// The value of a decimal digit, or of a letter of either case, from 10 on; 36 for other bytes.
+#[inline(always)]
 pub fn digit(byte: u8) -> u8
     ensures { result ≡ digit_value byte }
 {
-    match byte {
-        b'0'..=b'9' => byte - b'0',
-        b'A'..=b'Z' => byte - b'A' + 10,
-        b'a'..=b'z' => byte - b'a' + 10,
-        _ => 36,
-    }
+    digit_values()[byte as usize] - b'0'
 }
 
 /// Whether these bytes are a numeral: `0`, or decimal digits that do not begin with `0` (SMT-LIB 2.6, section

@@ -15,9 +15,9 @@
  *    its size.
  *
  * A call keeps no pointer that it is given, so any number of threads may call at a time; a session stays on the thread
- * that began it. A call uses the machine's stack for lists inside other lists, which may be 1,000 deep, and
- * smtcheck_explain also for definitions inside other definitions, with these at most 1,100 deep: 3 MB of stack are
- * enough. Nothing checks it, and a stack that is too small ends the process by a signal.
+ * that began it. 256 KB of the machine's stack are enough for a call, however deep lists nest. smtcheck_explain uses it
+ * for lists inside other lists, up to 1,000 deep, and for definitions inside other definitions, with these at most
+ * 1,100 deep: it needs 3 MB. Nothing checks it, and a stack that is too small ends the process by a signal.
  */
 #ifndef SMTCHECK_H
 #define SMTCHECK_H
@@ -156,7 +156,7 @@ void smtcheck_session_free(struct smtcheck_session *session);
 
 /*
  * Writes the version of the library, and the toolchain that proved it, as `smtcheck --version` prints them after the
- * program's name: `0.8.1 (rattle-kit-13f ..)`.
+ * program's name: `0.9.0 (rattle-kit-13f ..)`.
  *
  * It returns the length of that text in bytes. The text has no byte 0. If it has at most `room` bytes, the first bytes
  * at `text` are the text, and those after it stay as they were; if it has more, all stay as they were.

@@ -5,7 +5,7 @@ ghost use Rattle.smt_text.specs.Reader.{is_finished, bytes_fed};
 
 use crate::texts::writing;
 use smt_faults::TextFault;
-use smt_text::{Next, Reader, read_trees};
+use smt_text::{MAX_DEPTH, Next, Reader, read_trees};
 use smt_trees::OwnedTree;
 use std::alloc::{AllocError, Global};
 
@@ -28,7 +28,7 @@ pub(crate) fn read_in_pieces(
     requires { length first.now + length second.now + length third.now < 2 ^ 64 }
 {
     let mut trees = Vec::new(alloc);
-    let mut reader = Reader::new(alloc);
+    let mut reader = Reader::new(alloc, MAX_DEPTH);
     reader.feed(first);
     let _first = take(&mut reader, &mut trees)?;
     reader.feed(second);

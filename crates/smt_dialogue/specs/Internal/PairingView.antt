@@ -3,8 +3,7 @@ use Rattle.std.specs.Prelude.{◌≡◌, ◌<◌, ◌≤◌, ◌^◌, ℕ, List,
 use Rattle.std.specs.Prelude.{Ok, is_some, length}
 use Rattle.std.specs.List.{list_any}
 use Rattle.smt_faults.specs.declared.text_flaw.TextFlaw.{TextFlaw}
-use Rattle.smt_text.specs.Grammar.{max_depth}
-use Rattle.smt_text.specs.Reader.{bytes_fed}
+use Rattle.smt_text.specs.Reader.{bytes_fed, depth_limit}
 use Rattle.smt_text.specs.Reading.{Reads}
 use Rattle.smt_trees.specs.Sexp.{Sexps, Nil, Cons, count}
 use Rattle.smt_trees.specs.Owned.{sexp_of}
@@ -83,7 +82,7 @@ pub record IsUnderWay (x : Pairing) (texts : Texts) (pairs : List Pair) (later r
 
 -- the law that a text has no more trees than bytes
 abbrev pub TreesAreFew : Type 0
-TreesAreFew = (told : Bool) (bytes : List ℕ) (trees : Sexps) (fault : Option TextFlaw)
+TreesAreFew = (max_depth : ℕ) (told : Bool) (bytes : List ℕ) (trees : Sexps) (fault : Option TextFlaw)
     → Reads max_depth told bytes trees fault → count trees ≤ length bytes
 
 -- the exchange is under way, and there are fewer commands and answers than 2^64
@@ -94,16 +93,27 @@ pub record HasRoom (x : Pairing) : Type 0 where
   pub way : (texts : Texts) × (pairs : List Pair) × (later : Sexps) × (rest : Sexps)
       × IsUnderWay x texts pairs later rest
 
+-- lists may nest so deep in both texts
+pub record AreLimited (max_depth : ℕ) (x : Pairing) : Type 0 where
+  pub script : depth_limit x.script.reader ≡ max_depth
+  pub answers : depth_limit x.answers.reader ≡ max_depth
+
+-- lists may nest as deep as before
+pub record AreLimitedAlike (old new : Pairing) : Type 0 where
+  pub script : depth_limit new.script.reader ≡ depth_limit old.script.reader
+  pub answers : depth_limit new.answers.reader ≡ depth_limit old.answers.reader
+
 -- no more was fed of either text
 pub record IsFedAlike (old new : Pairing) : Type 0 where
   pub script : bytes_fed new.script.reader ≡ bytes_fed old.script.reader
   pub answers : bytes_fed new.answers.reader ≡ bytes_fed old.answers.reader
+  pub limits : AreLimitedAlike old new
 
 -- it goes on as this comes of a text
 abbrev pub GoesOnWith : Side → (x y : Pairing) → Texts → (told : Bool) → (bytes : List ℕ) → Type 0
 GoesOnWith side x y texts told bytes =
     (pairs : List Pair) (later rest : Sexps) (text : TextSoFar) → IsUnderWay x texts pairs later rest
-    → IsRead told bytes text
+    → IsRead (depth_limit (queue_at side x).reader) told bytes text
     → (left : Sexps) × (after : Sexps) × IsUnderWay y (with_read side bytes text texts) pairs left after
 
 -- the turn of what is left

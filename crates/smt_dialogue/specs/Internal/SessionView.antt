@@ -1,28 +1,29 @@
 -- How a session goes on from what it was told.
-use Rattle.std.specs.Prelude.{◌≡◌, List, [], ◌++◌, true, Option, Some, None}
+use Rattle.std.specs.Prelude.{◌≡◌, ℕ, List, [], ◌++◌, true, Option, Some, None}
 use Rattle.smt_trees.specs.Sexp.{Sexps}
 use Rattle.smt_dialogue.specs.FirstFault.{Ends, TextSoFar}
 use Rattle.smt_dialogue.specs.History.{History, Told}
 use Rattle.smt_dialogue.specs.InForce.{start_by}
 use Rattle.smt_dialogue.specs.Lines.{lines_in}
 use Rattle.smt_dialogue.specs.Pairs.{Pair}
+use Rattle.smt_dialogue.specs.Depth.{max_depth_of}
 use Rattle.smt_dialogue.specs.Report.{IsRead, IsTurn, lines_at_end, lines_of_end}
 use Rattle.smt_dialogue.specs.Internal.AcceptedState.{options_of}
-use Rattle.smt_dialogue.specs.Internal.PairingView.{IsUnderWay, Texts, waiting}
+use Rattle.smt_dialogue.specs.Internal.PairingView.{AreLimited, IsUnderWay, Texts, waiting}
 use Rattle.smt_dialogue.specs.declared.pairing.Pairing.{Pairing}
 use Rattle.smt_dialogue.specs.declared.session.Failed.{Failed}
 use Rattle.smt_report.specs.Verdict.{verdict_of}
 use Rattle.smt_report.specs.declared.line.Line.{Line}
 use Rattle.smt_report.specs.declared.verdict.Verdict.{Verdict}
 
--- this is read of a text
-abbrev pub IsToldText : Told → TextSoFar → Type 0
-IsToldText told text = IsRead told.ended told.bytes text
+-- this is read of a text, in which lists may nest so deep
+abbrev pub IsToldText : ℕ → Told → TextSoFar → Type 0
+IsToldText max_depth told text = IsRead max_depth told.ended told.bytes text
 
 -- this is read of both texts
 pub record AreRead (h : History) (script answers : TextSoFar) : Type 0 where
-  pub script_read : IsToldText h.script script
-  pub answers_read : IsToldText h.answers answers
+  pub script_read : IsToldText (max_depth_of h.options.profile) h.script script
+  pub answers_read : IsToldText (max_depth_of h.options.profile) h.answers answers
 
 abbrev pub texts_of : History → (script answers : TextSoFar) → Texts
 texts_of h script answers = record {
@@ -43,6 +44,7 @@ pub record IsOpen (exchange : Pairing) (h : History) : Type 0 where
   pub rest : Sexps
   pub way : IsUnderWay exchange (texts_of h script answers) pairs later rest
   pub start : options_of exchange.dialogue ≡ h.options
+  pub limits : AreLimited (max_depth_of h.options.profile) exchange
 
 -- it has ended with these lines and this verdict
 pub record HasEnded (verdict : Verdict) (h : History) (ls : List Line) : Type 0 where

@@ -1,8 +1,7 @@
 -- What is left of a text so far, whose trees are taken as its pieces come.
 use Rattle.std.specs.Prelude.{◌≡◌, ℕ, Bool, List, Option, Some, None, false, true}
-use Rattle.smt_text.specs.Grammar.{max_depth}
 use Rattle.smt_text.specs.Reader as readers
-use Rattle.smt_text.specs.Reader.{is_finished}
+use Rattle.smt_text.specs.Reader.{depth_limit, is_finished}
 use Rattle.smt_text.specs.Reading.{Reads}
 use Rattle.smt_trees.specs.Sexp.{Sexps, Nil, Cons, append}
 use Rattle.smt_trees.specs.Owned.{sexp_of}
@@ -24,7 +23,7 @@ pub record HasQueue (front : TreeQueue) (bytes : List ℕ) (text : TextSoFar) (r
   pub taken : Sexps
   pub stands : readers.StandsFor front.reader bytes (append taken (next_trees front.next))
   pub told : text.told ≡ is_finished front.reader
-  pub reads : Reads max_depth text.told bytes text.trees text.fault
+  pub reads : Reads (depth_limit front.reader) text.told bytes text.trees text.fault
   pub trees : text.trees ≡ append taken rest
   pub behind : Sexps
   pub begins : rest ≡ append (next_trees front.next) behind
@@ -32,7 +31,8 @@ pub record HasQueue (front : TreeQueue) (bytes : List ℕ) (text : TextSoFar) (r
 -- it is the same text with more of it
 abbrev pub GoesOnFrom : (f g : TreeQueue) → (bytes : List ℕ) → (told : Bool) → (more : List ℕ) → Type 0
 GoesOnFrom f g bytes told more =
-    (text grown : TextSoFar) (rest : Sexps) → HasQueue f bytes text rest → IsRead told more grown
+    (text grown : TextSoFar) (rest : Sexps) → HasQueue f bytes text rest
+    → IsRead (depth_limit f.reader) told more grown
     → (s : IsGrown text grown) × HasQueue g more grown (append rest s.later)
 
 -- what comes next, where these trees are left: the first of them, which was looked at, or none

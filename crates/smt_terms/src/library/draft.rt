@@ -44,8 +44,8 @@ pub(crate) struct Draft<'a> {
 /// means nothing.
 #[derive(Clone, Copy)]
 pub(crate) struct CheckedTerm {
-    pub(crate) sort: Sort,
     pub(crate) node: TermId,
+    pub(crate) sort: Sort,
     pub(crate) is_open: bool,
 }
 

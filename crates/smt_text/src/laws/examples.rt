@@ -12,7 +12,7 @@ ghost use Rattle.smt_trees.specs.declared.reserved.Word.TheVariants.{Assert};
 
 /// Texts and their trees.
 pub fn forests()
-    ensures empty { Forest max_depth [] Nil }
+    ensures empty { (most : ℕ) → Forest most [] Nil }
     ensures two_symbols { Forest max_depth (codes "a b")
         (Cons (Atom Symbol (codes "a")) (Cons (Atom Symbol (codes "b")) Nil)) }
     ensures one_symbol { Forest max_depth (codes "ab")

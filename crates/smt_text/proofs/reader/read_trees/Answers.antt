@@ -15,4 +15,5 @@ loop-tree-preserved c =
           (c.in-Tree.ensures.stands c.args.text.now
           (sexps_of c.loop-tree.trees.items) c.loop-tree.invariant.0),
       c.in-Tree.ensures.finished ∙ c.loop-tree.invariant.1,
+      c.in-Tree.ensures.limit ∙ c.loop-tree.invariant.2,
     )

@@ -62,6 +62,10 @@ loop-closed-preserved c =
       );
       script_fed = c.take_turn.ensures.fed.script ∙ c.loop-closed.invariant.script_fed;
       answers_fed = c.take_turn.ensures.fed.answers ∙ c.loop-closed.invariant.answers_fed;
+      limits = record {
+        script = c.take_turn.ensures.fed.limits.script ∙ c.loop-closed.invariant.limits.script;
+        answers = c.take_turn.ensures.fed.limits.answers ∙ c.loop-closed.invariant.limits.answers;
+      };
       start = c.in_ok-take_turn.ensures.start ∙ c.loop-closed.invariant.start;
       kept = begins_trans (waiting c.args.self.now) (waiting x) (waiting y) c.loop-closed.invariant.kept
           c.take_turn.ensures.kept;

@@ -40,7 +40,7 @@ returns-clause-fed c = λ h k.
     (end_fed c.text_laws.ensures side s m c.finish.new.self h (none_by m.failure c.if-is_some.ensures)
     c.if-is_some-2.ensures c.close.ensures.fed
     (told_end side s m h c.close.ensures.script_ended c.close.ensures.answers_ended k) c.finish.ensures.dialogue
-    c.finish.ensures.way k)
+    c.finish.ensures.limits c.finish.ensures.way k)
 
 pub returns-then-is_some-clause-smaller : goal.returns-then-is_some-clause-smaller
 returns-then-is_some-clause-smaller c =

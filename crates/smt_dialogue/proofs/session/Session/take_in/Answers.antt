@@ -54,7 +54,7 @@ returns-clause-fed c = λ h k.
     (piece_fed c.text_laws.ensures side s m c.feed.new.self h piece c.bytes.result c.in-Some.bytes
     (c.count.ensures.failure ∙ none) c.if-is_some-2.ensures c.requires.open c.count.ensures.fed
     (told_piece side s m h piece c.count.ensures.script_ended c.count.ensures.answers_ended k) c.bytes.ensures
-    c.in-Some.ensures c.feed.ensures.dialogue c.feed.ensures.way k)
+    c.in-Some.ensures c.feed.ensures.dialogue c.feed.ensures.limits c.feed.ensures.way k)
 
 pub returns-then-is_some-2-clause-smaller : goal.returns-then-is_some-2-clause-smaller
 returns-then-is_some-2-clause-smaller c = λ none some.

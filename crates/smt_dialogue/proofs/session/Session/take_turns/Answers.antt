@@ -1,5 +1,6 @@
 use Rattle.std.proofs.Common.{refl, subst}
-use Rattle.smt_dialogue.proofs.SessionTurnLemmas.{cut_stands, none_added, open_fed, pause_less, paused_going, rests_stands}
+use Rattle.smt_dialogue.proofs.SessionTurnLemmas.{cut_stands, limited_on, none_added, open_fed, pause_less}
+use Rattle.smt_dialogue.proofs.SessionTurnLemmas.{paused_going, rests_stands}
 use Rattle.smt_dialogue.specs.Internal.PairingView.{HasAdvanced, IsCut}
 use Rattle.smt_dialogue.specs.Internal.SessionView.{texts_of}
 use Rattle.smt_dialogue.proofs.session.Session.take_turns.Goals as goal
@@ -11,7 +12,7 @@ returns-in-Ok-Pauses-clause-turned c = λ h k.
     let o = on.open' in
     let texts = texts_of h o.script o.answers in
     paused_going s _ h on on.failure on.verdict (record { script = on.script_ended; answers = on.answers_ended })
-    refl refl
+    refl refl (limited_on s.exchange c.advance.new.self _ c.advance.ensures.limits o.limits)
     (subst (λ a. HasAdvanced a h.options c.advance.new.self texts) c.in-Ok-Pauses.field-0-is
     (subst (λ b. HasAdvanced c.in-Ok-Pauses.field-0 b c.advance.new.self texts) o.start
     (c.in-Ok-Pauses.ensures.advanced texts o.pairs o.later o.rest o.way)))
@@ -28,6 +29,7 @@ returns-in-Ok-Rests-clause-turned c = λ h k.
     let texts = texts_of h o.script o.answers in
     rests_stands s _ h c.in-Ok-Rests.verdict on on.failure refl
     (record { script = on.script_ended; answers = on.answers_ended }) refl refl
+    (limited_on s.exchange c.advance.new.self _ c.advance.ensures.limits o.limits)
     (subst (λ a. HasAdvanced a h.options c.advance.new.self texts) c.in-Ok-Rests.field-0-is
     (subst (λ b. HasAdvanced c.in-Ok-Rests.field-0 b c.advance.new.self texts) o.start
     (c.in-Ok-Rests.ensures.advanced texts o.pairs o.later o.rest o.way)))

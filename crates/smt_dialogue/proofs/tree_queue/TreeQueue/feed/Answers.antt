@@ -1,5 +1,6 @@
 use Rattle.std.proofs.Common.{◌++◌, false, refl}
 use Rattle.smt_dialogue.specs.SoFar.{AreGrown, IsGrown}
+use Rattle.smt_text.specs.Reader.{depth_limit}
 use Rattle.smt_dialogue.proofs.FeedLemmas.{front_more, read_now, read_open}
 use Rattle.smt_dialogue.proofs.ReadSoFarLemmas.{grown_text}
 use Rattle.smt_dialogue.proofs.tree_queue.TreeQueue.feed.Goals as goal
@@ -14,9 +15,9 @@ returns-clause-goes_on c = λ bytes text grown rest h read.
       none_behind = λ told. absurd (cc);
     } in
     let s : IsGrown text grown = grown_text c.one_reading.ensures.one c.read_trees_stay.ensures.stay
-    c.read_faults_stay.ensures.stay false bytes false more text grown g
+    c.read_faults_stay.ensures.stay (depth_limit f.reader) false bytes false more text grown g
     (read_open f bytes text rest c.requires.open h) read in (
       s,
-      front_more f _ bytes more text grown rest s refl (λ taken stands. c.feed.ensures.stands bytes taken stands)
-          (read_now c.feed.new.self false more grown c.feed.ensures.finished read) h,
+      front_more f _ bytes more text grown rest s refl c.feed.ensures.limit (λ taken stands. c.feed.ensures.stands bytes taken stands)
+          (read_now (depth_limit f.reader) c.feed.new.self false more grown c.feed.ensures.finished read) h,
     )

@@ -6,7 +6,7 @@ use Rattle.smt_text.proofs.laws.examples.forests.Goals as goal
 
 pub returns : goal.returns
 returns c = record {
-  empty = reads max_depth true [];
+  empty = λ most. reads most true [];
   two_symbols = reads max_depth true (codes "a b");
   one_symbol = λ h. let e = one_forest max_depth max_depth (codes "ab") _ _ (reads max_depth true (codes "ab")) h in cc;
   reserved = reads max_depth true (codes "(assert)");

@@ -16,7 +16,7 @@ returns-clause-stands c =
             failure = w.err-self.result;
             fed = w.read.new.self.fed + length c.args.piece.now;
           }) c.args.piece.now w.read.result fed taken
-          c.requires.unfinished (w.read.ensures.beside.1 ∙ c.requires.unfinished)
+          c.requires.unfinished (w.read.ensures.beside.1 ∙ c.requires.unfinished) w.read.ensures.beside.3
           (none_if c.args.self.now.failure w.if-is_none.ensures)
           (ap (λ n. n + length c.args.piece.now) w.read.ensures.beside.0) w.err-self.ensures.value
           w.read.ensures.goes h)
@@ -25,6 +25,6 @@ returns-clause-stands c =
           (fed ++ c.args.piece.now) taken) (sym w.self-is)
           (stands_skip c.args.self.now
           (record c.args.self.now { fed = c.args.self.now.fed + length c.args.piece.now })
-          c.args.piece.now fed taken c.requires.unfinished c.requires.unfinished w.if-is_none.ensures refl
-          refl refl h)
+          c.args.piece.now fed taken c.requires.unfinished c.requires.unfinished refl w.if-is_none.ensures
+          refl refl refl h)
     ]

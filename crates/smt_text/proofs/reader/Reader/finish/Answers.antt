@@ -6,11 +6,11 @@ pub returns-then-is_none-clause-stands : goal.returns-then-is_none-clause-stands
 returns-then-is_none-clause-stands c =
     λ fed taken h. stands_finish c.args.self.now
     (record c.close_text.new.self { failure = c.err-self.result }) c.close_text.result fed taken
-    c.requires.unfinished c.close_text.ensures.beside.1
+    c.requires.unfinished c.close_text.ensures.beside.1 c.close_text.ensures.beside.3
     (none_if c.args.self.now.failure c.if-is_none.ensures) c.close_text.ensures.beside.0
     c.err-self.ensures.value c.close_text.ensures.ends h
 
 pub returns-else-is_none-clause-stands : goal.returns-else-is_none-clause-stands
 returns-else-is_none-clause-stands c =
     λ fed taken h. stands_stop c.args.self.now (record c.args.self.now { finished = true }) fed taken
-    c.requires.unfinished refl c.if-is_none.ensures refl refl refl h
+    c.requires.unfinished refl refl c.if-is_none.ensures refl refl refl h

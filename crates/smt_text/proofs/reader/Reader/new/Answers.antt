@@ -8,6 +8,7 @@ use Rattle.smt_text.proofs.reader.Reader.new.Goals as goal
 pub returns-clause-stands : goal.returns-clause-stands
 returns-clause-stands c =
     stands_new (record {
+      max_depth = c.args.max_depth;
       fed = 0;
       finished = false;
       token = Nothing;

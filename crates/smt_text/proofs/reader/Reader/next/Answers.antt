@@ -1,9 +1,8 @@
 use Rattle.std.proofs.Common.{None, subst, sym, refl}
 use Rattle.smt_text.proofs.ReaderLemmas.{answers_none, answers_fault, answers_tree, stands_handed}
-use Rattle.smt_text.specs.Reader.{Answers, is_finished}
+use Rattle.smt_text.specs.Reader.{Answers, depth_limit, is_finished}
 use Rattle.smt_text.specs.Reading.{Reads}
 use Rattle.smt_text.specs.declared.reader.Next.TheVariants.{Fault}
-use Rattle.smt_text.specs.declared.reader.TheConstants.{MAX_DEPTH}
 use Rattle.smt_text.proofs.reader.Reader.next.Goals as goal
 
 pub returns-in-Some-clause-right : goal.returns-in-Some-clause-right
@@ -15,11 +14,11 @@ pub returns-in-Some-clause-stands : goal.returns-in-Some-clause-stands
 returns-in-Some-clause-stands c =
     λ fed taken h. stands_handed c.args.self.now
     (record c.args.self.now { builder = c.hand_out.new.self }) fed taken c.in-Some.tree refl refl refl
-    refl refl c.hand_out.ensures.list c.in-Some.ensures.first h
+    refl refl refl c.hand_out.ensures.list c.in-Some.ensures.first h
 
 pub returns-in-Some-failure-clause-right : goal.returns-in-Some-failure-clause-right
 returns-in-Some-failure-clause-right c =
-    λ fed taken h. subst (λ f. Answers (is_finished c.args.self.now) fed taken (Fault f)) (sym c.from.ensures)
+    λ fed taken h. subst (λ f. Answers (depth_limit c.args.self.now) (is_finished c.args.self.now) fed taken (Fault f)) (sym c.from.ensures)
     (answers_fault c.args.self.now fed taken c.in-Some-failure.failure c.in_default.ensures.first.0
     c.in-Some-failure.is h)
 
@@ -27,7 +26,7 @@ pub returns-in-None-clause-right : goal.returns-in-None-clause-right
 returns-in-None-clause-right c =
     λ fed taken h. (
       c.if-self.true,
-      subst (λ b. Reads MAX_DEPTH b fed taken None) c.if-self.true
+      subst (λ b. Reads (depth_limit c.args.self.now) b fed taken None) c.if-self.true
           (answers_none c.args.self.now fed taken c.in_default.ensures.first.0 c.in-None.is h),
     )
 
@@ -35,6 +34,6 @@ pub returns-in-None-2-clause-right : goal.returns-in-None-2-clause-right
 returns-in-None-2-clause-right c =
     λ fed taken h. (
       c.if-self.false,
-      subst (λ b. Reads MAX_DEPTH b fed taken None) c.if-self.false
+      subst (λ b. Reads (depth_limit c.args.self.now) b fed taken None) c.if-self.false
           (answers_none c.args.self.now fed taken c.in_default.ensures.first.0 c.in-None.is h),
     )

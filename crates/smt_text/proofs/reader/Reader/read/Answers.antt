@@ -1,7 +1,8 @@
-use Rattle.std.proofs.Common.{◌∙◌, arith, subst, Err}
+use Rattle.std.proofs.Common.{◌∙◌, ◌≡◌, arith, subst, take, Err, Some}
 use Rattle.smt_text.proofs.RunLemmas.{further, refused, rest_length, rest_of}
+use Rattle.smt_text.specs.Internal.LexerStates.{run}
 use Rattle.smt_text.specs.Internal.ReaderState.{state_of, GoesOver}
-use Rattle.smt_text.specs.declared.reader.TheConstants.{MAX_DEPTH}
+use Rattle.smt_faults.specs.declared.failure.Failure.TheVariants.{Fault}
 use Rattle.smt_text.proofs.reader.Reader.read.Goals as goal
 
 pub loop-place-preserved : goal.loop-place-preserved
@@ -16,18 +17,25 @@ loop-place-preserved c = record {
     c.in-Ok.ensures.beside.0 ∙ c.loop-place.invariant.beside.0,
     c.in-Ok.ensures.beside.1 ∙ c.loop-place.invariant.beside.1,
     c.in-Ok.ensures.beside.2 ∙ c.loop-place.invariant.beside.2,
+    c.in-Ok.ensures.beside.3 ∙ c.loop-place.invariant.beside.3,
   );
-  runs = further MAX_DEPTH (state_of c.args.self.now) (state_of c.loop-place.self)
+  runs = further c.args.self.now.max_depth (state_of c.args.self.now) (state_of c.loop-place.self)
       (state_of c.read_some.new.self) c.args.piece.now c.loop-place.place c.in-Ok.count
-      c.loop-place.invariant.runs c.in-Ok.ensures.goes.2;
+      c.loop-place.invariant.runs
+      (subst (λ m. run m (state_of c.loop-place.self)
+      (take c.in-Ok.count (rest_of c.args.piece.now c.loop-place.place)) ≡ Some (state_of c.read_some.new.self))
+      c.loop-place.invariant.beside.3 c.in-Ok.ensures.goes.2);
 }
 
 pub returns-in-Err-Fault-clause-goes : goal.returns-in-Err-Fault-clause-goes
 returns-in-Err-Fault-clause-goes c =
-    refused (state_of c.args.self.now) (state_of c.loop-place.self)
+    refused c.args.self.now.max_depth (state_of c.args.self.now) (state_of c.loop-place.self)
     (state_of c.read_some.new.self) c.args.piece.now c.loop-place.place c.args.self.now.fed
     c.read_some.new.self.fed c.in-Err-Fault.refusal c.at.result c.loop-place-test.true
     c.loop-place.invariant.runs
     (c.in-Err-Fault.ensures.beside.0 ∙ c.loop-place.invariant.beside.0) c.at.ensures
-    (subst (λ e. GoesOver (state_of c.loop-place.self) (rest_of c.args.piece.now c.loop-place.place) (Err e)
-    (state_of c.read_some.new.self)) c.in-Err-Fault.field-0-is c.in-Err-Fault.ensures.goes)
+    (subst (λ m. GoesOver m (state_of c.loop-place.self) (rest_of c.args.piece.now c.loop-place.place)
+    (Err (Fault c.in-Err-Fault.refusal)) (state_of c.read_some.new.self)) c.loop-place.invariant.beside.3
+    (subst (λ e. GoesOver c.loop-place.self.max_depth (state_of c.loop-place.self)
+    (rest_of c.args.piece.now c.loop-place.place) (Err e) (state_of c.read_some.new.self))
+    c.in-Err-Fault.field-0-is c.in-Err-Fault.ensures.goes))

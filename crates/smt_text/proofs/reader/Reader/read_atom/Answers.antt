@@ -54,12 +54,12 @@ returns-clause-goes c =
           (λ (s : Reader). GoesOn c.args.self.now text (mark + n + 1) s)
           (sym w.self-is)
           (over_goes c.args.self.now _ text (mark + n + 1)
-          (atom_close (state_of c.args.self.now) (levels_of mid.builder) (levels_of w.end_list.new.self)
-          c.args.token mid.token mid.bytes.items text mark n c.requires.begins token left
+          (atom_close c.args.self.now.max_depth (state_of c.args.self.now) (levels_of mid.builder)
+          (levels_of w.end_list.new.self) c.args.token mid.token mid.bytes.items text mark n c.requires.begins token left
           (omega arith) (omega arith) kept
           (closes w.if-closes.true).0
           (closes w.if-closes.true).1 c.in_ok-add_atom.ensures.added w.in_ok-end_list.ensures)
-          c.in_ok-add_atom.ensures.token c.in_ok-add_atom.ensures.bytes)
+          c.in_ok-add_atom.ensures.beside.3 c.in_ok-add_atom.ensures.token c.in_ok-add_atom.ensures.bytes)
       | else-closes w ↦
           let white : is_white (get_or text (mark + n) 0) ≡ true = elim c.else-not-closes.branch [
             | else-not-closes-via-else-not-closes v ↦ absurd
@@ -69,9 +69,9 @@ returns-clause-goes c =
           subst (λ (s : Reader). GoesOn c.args.self.now text (mark + n + 1) s)
           (sym w.self-is)
           (over_goes c.args.self.now _ text (mark + n + 1)
-          (atom_white (state_of c.args.self.now) (levels_of mid.builder) c.args.token mid.token mid.bytes.items
-          text mark n c.requires.begins token left
+          (atom_white c.args.self.now.max_depth (state_of c.args.self.now) (levels_of mid.builder) c.args.token
+          mid.token mid.bytes.items text mark n c.requires.begins token left
           (omega arith) (omega arith) kept white
           c.in_ok-add_atom.ensures.added)
-          c.in_ok-add_atom.ensures.token c.in_ok-add_atom.ensures.bytes)
+          c.in_ok-add_atom.ensures.beside.3 c.in_ok-add_atom.ensures.token c.in_ok-add_atom.ensures.bytes)
     ]
