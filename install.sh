@@ -68,7 +68,7 @@ fi
 
 program=$top/crates/smtcheck/out/smtcheck
 if [ ! -x "$program" ]; then
-    echo "install.sh: $program is not there. This proves and builds it, in about twenty minutes:" >&2
+    echo "install.sh: $program is not there. This proves and builds it, in about an hour:" >&2
     echo '    (cd crates/smtcheck && rt run -- "$PWD/data/script.smt2" "$PWD/data/answers.txt")' >&2
     exit 1
 fi

@@ -1,3 +1,3 @@
 #!/bin/sh
 # check_one.sh RESULTS SCRIPT: checks one script, and writes its row. --help tells more.
-exec python3 "$(dirname "$0")/collection.py" check_one "$@"
+exec python3 -B "$(dirname "$0")/collection.py" check_one "$@"

@@ -2,7 +2,10 @@
 """Checks the scripts of a collection, and keeps a row of each: check_all.sh, check_one.sh and table.sh are its three commands."""
 import argparse
 import concurrent.futures
+import errno
+import fcntl
 import hashlib
+import html
 import itertools
 import json
 import os
@@ -16,6 +19,8 @@ import tempfile
 import threading
 import time
 from typing import Dict, List, NamedTuple, Optional, Sequence, Tuple
+
+import page
 
 ENVIRONMENT = """
 The environment says the rest:
@@ -40,8 +45,14 @@ NOT_RUN = 5
 UNFINISHED = 4
 COLUMNS = ("script", "solver", "status", "verdict", "confirmed", "refuted", "undecided", "unchecked", "line")
 MEASURED = ("solver_seconds", "solver_mb", "check_seconds", "check_mb")
+OTHERS = ("solver_cpu", "check_cpu", "expected", "logic")
+"""the columns behind those"""
 COUNTS = re.compile(r"verdict: .*confirmed (\d+), refuted (\d+), undecided (\d+), unchecked (\d+)")
-REFUSED = ("script not taken", "solver stopped", "answers not taken")
+REFUSED = ("script not taken", "solver stopped", "answers not taken", "no answer")
+SUFFIXES = (".row", ".again", ".json", ".report", ".answers", ".errors", ".solver_errors", ".new")
+"""the ends of the names of the files of a script"""
+SAID = re.compile(rb'"(?:[^"]|"")*"|\|[^|]*\||;[^\n\r]*|\(\s*set-info\s+:status\s+(sat|unsat|unknown)\s*\)|\(\s*set-logic\s+([\w.+-]+)\s*\)')
+"""a string, a quoted symbol, a comment, a `:status` or a logic"""
 KINDS = {"invalid": 1, "not decided": 2, "not strict": 2, **{verdict: 2 for verdict in REFUSED}}
 STOPPED = (124, 125, 126, 127, 129, 130, 131, 137, 143)
 """statuses of a program that was stopped or killed from outside, or is missing; no crash, as 134 and 139"""
@@ -71,6 +82,8 @@ class Ran(NamedTuple):
     """its exit status, 128 and the signal's number where a signal ended it"""
     seconds: float
     """of the clock"""
+    cpu: float
+    """seconds of the processor, also of what it started and waited for"""
     mb: float
     """the most memory that it had, of 10^6 bytes; no less than what this script has itself"""
     unwritten: Optional[OSError] = None
@@ -150,7 +163,8 @@ class Programs:
             process.returncode = status = 128 + os.WTERMSIG(waited) if os.WIFSIGNALED(waited) else os.WEXITSTATUS(waited)
             with self.lock:
                 self.running.discard(process)
-        return Ran(status, time.monotonic() - begun, usage.ru_maxrss * 1024 / 1e6, unwritten)
+        cpu = usage.ru_utime + usage.ru_stime
+        return Ran(status, time.monotonic() - begun, cpu, usage.ru_maxrss * 1024 / 1e6, unwritten)
 
 
 PROGRAMS = Programs()
@@ -184,6 +198,16 @@ def version_of(given: Settings) -> str:
             words = " ".join([given.program, *given.options, "--version"])
             raise Refused(f"{words} ends with {ran.status}: {version or first_line(errors) or 'it says nothing'}")
     return version
+
+
+def version_of_solver(given: Settings) -> str:
+    """The first line that the solver prints for --version, or none."""
+    if not given.solver:
+        return "-"
+    with tempfile.TemporaryDirectory() as folder:
+        said, errors = os.path.join(folder, "said"), os.path.join(folder, "errors")
+        ran = PROGRAMS.run([given.solver[0], "--version"], said, errors, "10", given.memory)
+        return shown(first_line(said)) or "-" if ran.status == 0 else "-"
 
 
 def checksum_of(program: str) -> str:
@@ -220,7 +244,9 @@ def same_run(results: str, given: Settings, version: str) -> None:
     name = os.path.join(results, "run.txt")
     try:
         wanted = f"program: {version}\nsha256: {checksum_of(given.program)}\nsolver: {shlex.join(given.solver) or '-'}\n"
+        wanted += f"solver version: {version_of_solver(given)}\n"
         wanted += f"print-success: {given.print_success}\noptions: {' '.join(given.options) or '-'}\n"
+        wanted += f"seconds: {given.solver_seconds} for the solver, {given.check_seconds} for the check\nmemory: {given.memory or '-'} kB\n"
         os.makedirs(results, exist_ok=True)
         if not os.path.exists(name):
             if rows_of(results):
@@ -242,9 +268,44 @@ def same_run(results: str, given: Settings, version: str) -> None:
             raise Refused(f"{results} has the rows of another run: there `{old}`, now `{new}`. Name another folder")
 
 
+def escaped(name: str, signs: str = "%") -> str:
+    """A name with these signs, what cannot be printed and what is no UTF-8 written as % and two digits: each name in a way of its own."""
+    told = []
+    for sign in name:
+        plain = sign.isprintable() and sign not in signs
+        told.append(sign if plain else "".join(f"%{byte:02X}" for byte in os.fsencode(sign)))
+    return "".join(told)
+
+
 def name_of(script: str) -> str:
-    """What the script is called in the table, and below RESULTS."""
-    return re.sub(r"^\./", "", re.sub(r"^/*", "", script)).replace("../", "up/")
+    """What the script is called in the table, and below RESULTS: no two have one name, and no folder has that of a file."""
+    *folders, last = [part for part in script.split("/") if part not in ("", ".")]
+    parts = ["%2E%2E" if part == ".." else escaped(part) for part in folders]
+    parts = [part[: part.rindex(".")] + "%2E" + part[part.rindex(".") + 1 :] if part.endswith(SUFFIXES) else part for part in parts]
+    return ("%2F" if script.startswith("/") else "") + "/".join([*parts, escaped(last)])
+
+
+def shown(text: str) -> str:
+    """A line of another program, with a sign for each byte that moves the cursor."""
+    return "".join(sign if sign.isprintable() else "?" for sign in text)
+
+
+class Claim:
+    """The lock of RESULTS: one run has the folder, or several have a script each."""
+
+    def __init__(self, results: str, script: Optional[str] = None) -> None:
+        try:
+            self.file = open(os.path.join(results, "run.lock"), "w")
+            if script is None:
+                fcntl.lockf(self.file, fcntl.LOCK_EX | fcntl.LOCK_NB)
+            else:
+                place = int.from_bytes(hashlib.sha256(os.fsencode(script)).digest()[:7], "big")
+                fcntl.lockf(self.file, fcntl.LOCK_EX | fcntl.LOCK_NB, 1, place)
+        except OSError as error:
+            if error.errno in (errno.EACCES, errno.EAGAIN):
+                raise Refused(f"{results}: another run is at work on {script or 'it'}") from error
+            if error.errno not in (errno.ENOLCK, errno.ENOSYS, errno.EOPNOTSUPP):
+                raise Refused(f"{results}: {error.strerror}") from error
 
 
 def verdict_of(solver: Optional[Ran], check: Ran, report: List[str]) -> str:
@@ -253,6 +314,8 @@ def verdict_of(solver: Optional[Ran], check: Ran, report: List[str]) -> str:
         return "stopped"
     if check.status > 3:
         return "no report"
+    if any(re.fullmatch(r"check .*: refuted by .*", line) for line in report):
+        return "invalid"
     if check.status == 2 and any(line.startswith("verdict: valid") for line in report):
         return "not strict"
     if check.status < 3:
@@ -260,18 +323,48 @@ def verdict_of(solver: Optional[Ran], check: Ran, report: List[str]) -> str:
     fault = next((line for line in report if line.startswith("fault ")), "")
     if fault.startswith("fault C") or " in the script" in fault:
         return "script not taken"
-    if fault.startswith(("fault P1", "fault X3")) or (solver is not None and solver.status >= 124):
+    if fault.startswith("fault X3") or (solver is not None and solver.status >= 124):
         return "solver stopped"
-    return "answers not taken"
+    return "no answer" if fault.startswith("fault P1") else "answers not taken"
 
 
 def line_that_says_most(report: List[str]) -> str:
-    """The fault, or the first check that is refuted, or the first that is not confirmed."""
-    for form in (r"fault.*", r".*refuted by.*", r"check (?!.*: (sat, confirmed|[a-z]*)$).*"):
+    """The first check that is refuted, or the fault, or the first check that is not confirmed."""
+    for form in (r"check .*: refuted by .*", r"fault.*", r"check (?!.*: (sat, confirmed|[a-z]*)$).*"):
         for line in report:
             if re.fullmatch(form, line):
                 return line
     return ""
+
+
+def report_of(name: str) -> Tuple[List[str], List[str]]:
+    """The lines of a report, and those of the explanation behind it."""
+    with open(name, encoding="ascii", errors="replace", newline="\n") as file:
+        lines = file.read().split("\n")[:-1]
+    end = next((place for place, line in enumerate(lines, 1) if line.startswith("verdict: ")), len(lines))
+    return lines[:end], lines[end:]
+
+
+def said_of(script: str) -> Dict[str, object]:
+    """What the script says of its checks by `:status`, in order, with spaces between, and its first logic."""
+    try:
+        with open(script, "rb") as file:
+            found = [match.groups() for match in SAID.finditer(file.read())]
+    except OSError:
+        found = []
+    logics = [logic for _, logic in found if logic]
+    return {"expected": b" ".join(word for word, _ in found if word).decode() or "-", "logic": logics[0].decode() if logics else "-"}
+
+
+def named(path: str, folder: str, name: str) -> str:
+    """The path, or a link of this name in this folder, where the path is no UTF-8: the program takes no such word."""
+    try:
+        path.encode()
+        return path
+    except UnicodeEncodeError:
+        link = os.path.join(folder, name)
+        os.symlink(os.path.abspath(path), link)
+        return link
 
 
 class Folder:
@@ -284,7 +377,7 @@ class Folder:
         """Checks one script, and writes its row: the row, and whether it is kept. None where it is there already."""
         name = name_of(script)
         path = os.path.join(self.results, name)
-        if os.path.exists(path + ".row"):
+        if os.path.isfile(path + ".row"):
             return None
         try:
             os.makedirs(os.path.dirname(path), exist_ok=True)
@@ -294,9 +387,10 @@ class Folder:
             unwritten = (solver and solver.unwritten) or (check and check.unwritten)
             if unwritten:
                 raise unwritten
-            with open(path + ".report", encoding="ascii", errors="replace") as file:
-                report = file.read().splitlines()
+            report, explanation = report_of(path + ".report")
             found = self.found(name, solver, check, report, path)
+            found.update(said_of(script))
+            found["explanation"] = explanation
             kept = self.keeps(solver, check)
             self.write(path, found, kept)
             return row_of(found), kept
@@ -313,8 +407,10 @@ class Folder:
             solver = PROGRAMS.run([*given.solver, script], answers, path + ".solver_errors", given.solver_seconds, given.memory)
             if solver.status in (125, 126, 127) or solver.unwritten:
                 return solver, None
-        words = [given.program, "--print-success", given.print_success, *given.options, script, answers]
-        return solver, PROGRAMS.run(words, path + ".report", path + ".errors", given.check_seconds, given.memory)
+        with tempfile.TemporaryDirectory() as folder:
+            texts = [named(script, folder, "script.smt2"), named(answers, folder, "answers.txt")]
+            words = [given.program, "--print-success", given.print_success, *given.options, *texts]
+            return solver, PROGRAMS.run(words, path + ".report", path + ".errors", given.check_seconds, given.memory)
 
     def keeps(self, solver: Optional[Ran], check: Optional[Ran]) -> bool:
         """Whether the row is kept, so that the same command leaves it: there is a verdict, and nothing but the solver ended the solver."""
@@ -329,15 +425,16 @@ class Folder:
         verdict = "no report" if check is None else verdict_of(solver, check, report)
         if verdict in ("no report", "stopped"):
             at = ".solver_errors" if check is None else ".errors"
-            line = first_line(path + at) or ("the check was stopped" if verdict == "stopped" else "")
+            line = shown(first_line(path + at)) or ("the check was stopped" if verdict == "stopped" else "")
         found: Dict[str, object] = {"script": name, "solver": "-" if solver is None else solver.status}
         found.update({"status": "-" if check is None else check.status, "verdict": verdict})
         for index, column in enumerate(COLUMNS[4:8], 1):
             found[column] = int(counts.group(index)) if counts else "-"
         found["line"] = line
-        for ran, seconds, mb in ((solver, *MEASURED[:2]), (check, *MEASURED[2:])):
+        for ran, seconds, mb, cpu in ((solver, *MEASURED[:2], OTHERS[0]), (check, *MEASURED[2:], OTHERS[1])):
             found[seconds] = "-" if ran is None else round(ran.seconds, 3)
             found[mb] = "-" if ran is None else round(ran.mb)
+            found[cpu] = "-" if ran is None else round(ran.cpu, 3)
         found["report"] = report
         return found
 
@@ -353,14 +450,14 @@ class Folder:
 
 def replace(name: str, text: str) -> None:
     """Writes a file, which stands whole or not at all."""
-    with open(name + ".new", "w", encoding="utf-8", errors="surrogateescape") as file:
+    with open(name + ".new", "w", encoding="utf-8", errors="surrogateescape", newline="\n") as file:
         file.write(text)
     os.replace(name + ".new", name)
 
 
 def row_of(found: Dict[str, object]) -> str:
     """A row of the table, without the end of its line."""
-    return "\t".join(str(found.get(column, "-")).replace("\t", " ").replace("\n", " ") for column in COLUMNS + MEASURED)
+    return "\t".join(str(found.get(column, "-")).replace("\t", " ").replace("\n", " ") for column in COLUMNS + MEASURED + OTHERS)
 
 
 def rows_of(results: str) -> List[Tuple[str, bool]]:
@@ -369,14 +466,65 @@ def rows_of(results: str) -> List[Tuple[str, bool]]:
     for folder, _, names in os.walk(results):
         for name in names:
             if name.endswith((".row", ".again")):
-                with open(os.path.join(folder, name), encoding="utf-8", errors="surrogateescape") as file:
+                with open(os.path.join(folder, name), encoding="utf-8", errors="surrogateescape", newline="\n") as file:
                     rows.append((file.read().rstrip("\n"), name.endswith(".row")))
     return rows
 
 
+def objects_of(results: str) -> List[Dict[str, object]]:
+    """The objects in RESULTS, by the names of their scripts."""
+    found = []
+    for folder, _, names in os.walk(results):
+        for name in names:
+            if name.endswith(".json"):
+                with open(os.path.join(folder, name), encoding="utf-8") as file:
+                    found.append(json.load(file))
+    return sorted(found, key=lambda told: str(told["script"]))
+
+
+def lines_of(told: Dict[str, object]) -> List[str]:
+    """The report and the explanation of an object."""
+    return [str(line) for name in ("report", "explanation") for line in (told.get(name) or [])]  # type: ignore[attr-defined]
+
+
+def page_of(results: str) -> str:
+    """The page of the rows in RESULTS."""
+    names = COLUMNS + MEASURED + OTHERS
+    numbers = COLUMNS[4:8] + MEASURED + OTHERS[:2]
+    columns = [page.Column(name, name in numbers, name in ("verdict", "logic", "expected")) for name in names]
+    rows = []
+    for told in objects_of(results):
+        cells = ["-" if told.get(name) is None else str(told[name]) for name in names]
+        rows.append(page.Line(cells, lines_of(told) if told["verdict"] != "valid" else []))
+    return page.page_of(f"Rows in {results}", columns, rows, ("solver_seconds", "check_seconds"))
+
+
+def junit_of(results: str, fails_on: List[str]) -> str:
+    """The rows in RESULTS as a suite of tests, of those that a server for continuous integration shows."""
+    cases, failures, errors = [], 0, 0
+    for told in objects_of(results):
+        verdict, text = str(told["verdict"]), html.escape("\n".join(lines_of(told)))
+        fails, has_none = verdict in fails_on, verdict in ("stopped", "no report", "no row")
+        failures, errors = failures + fails, errors + has_none
+        inner = f'<{"failure" if fails else "error"} message="{html.escape(verdict)}">{text}</{"failure" if fails else "error"}>' if fails or has_none else ""
+        seconds = float(str(told.get("check_seconds") or 0)) + float(str(told.get("solver_seconds") or 0))
+        cases.append(f'<testcase classname="smtcheck" name="{html.escape(str(told["script"]))}" time="{seconds:.3f}">{inner}</testcase>\n')
+    head = f'<testsuite name="smtcheck" tests="{len(cases)}" failures="{failures}" errors="{errors}">\n'
+    return '<?xml version="1.0" encoding="UTF-8"?>\n' + head + "".join(cases) + "</testsuite>\n"
+
+
+def write_text(name: str, text: str) -> None:
+    """Writes a file that was asked for."""
+    try:
+        with open(name, "w", encoding="utf-8") as file:
+            file.write(text)
+    except OSError as error:
+        raise Refused(f"{name}: {error.strerror}") from error
+
+
 def print_table(rows: List[Tuple[str, bool]], fails_on: List[str]) -> int:
     """Prints the rows below the names of the columns, and how many there are of each verdict. The status that they have."""
-    print("\t".join(COLUMNS + MEASURED))
+    print("\t".join(COLUMNS + MEASURED + OTHERS))
     for row, _ in sorted(rows, key=lambda row: os.fsencode(row[0])):
         print(row)
     sys.stdout.flush()
@@ -431,6 +579,7 @@ def check_all(given: argparse.Namespace) -> int:
     version = version_of(environment)
     try_both(environment)
     same_run(given.results, environment, version)
+    claim = Claim(given.results)
     folder, progress = Folder(given.results, environment, version, given.keep_stopped), Progress(len(scripts))
     made: Dict[str, Tuple[str, bool]] = {}
     with concurrent.futures.ThreadPoolExecutor(given.jobs) as pool:
@@ -441,6 +590,7 @@ def check_all(given: argparse.Namespace) -> int:
                 made[row[0].split("\t")[0]] = row
             if not PROGRAMS.stopped:
                 progress.tell(row)
+    claim.file.close()
     if PROGRAMS.stopped:
         sys.stderr.write("stopped: the same command goes on\n")
         return PROGRAMS.stopped
@@ -454,7 +604,9 @@ def check_one(given: argparse.Namespace) -> int:
     environment = settings()
     version = version_of(environment)
     same_run(given.results, environment, version)
+    claim = Claim(given.results, name_of(given.script))
     row = Folder(given.results, environment, version, given.keep_stopped).check(given.script)
+    claim.file.close()
     if PROGRAMS.stopped:
         return PROGRAMS.stopped
     return 0 if row is None or row[1] else UNFINISHED
@@ -464,6 +616,10 @@ def table(given: argparse.Namespace) -> int:
     """Prints the table."""
     if not os.path.isdir(given.results):
         raise Refused(f"{given.results} is no folder")
+    if given.html:
+        write_text(given.html, page_of(given.results))
+    if given.junit:
+        write_text(given.junit, junit_of(given.results, given.fails_on))
     return print_table(rows_of(given.results), given.fails_on)
 
 
@@ -504,7 +660,10 @@ def parser_of(command: str) -> Parser:
     if command != "table":
         parser.add_argument("--keep-stopped", action="store_true", help="keep the row of a solver that its time stopped")
     if command != "check_one":
-        parser.add_argument("--fails-on", metavar="VERDICTS", type=kinds, default=list(KINDS), help=f"which verdicts count for the status, with commas between them: {', '.join(KINDS)}, refused for the last three (all)")
+        parser.add_argument("--fails-on", metavar="VERDICTS", type=kinds, default=list(KINDS), help=f"which verdicts count for the status, with commas between them: {', '.join(KINDS)}, refused for the last four (all)")
+    if command == "table":
+        parser.add_argument("--html", metavar="FILE", help="write a page besides, which a browser shows without a network")
+        parser.add_argument("--junit", metavar="FILE", help="write the rows besides as tests in the form of JUnit: those fail that count for the status")
     parser.add_argument("results", metavar="RESULTS", help="the folder of the rows")
     if command == "check_all":
         parser.add_argument("folder", metavar="FOLDER", help="the folder of the scripts")

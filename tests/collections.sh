@@ -67,7 +67,7 @@ ends 1 "$top/collections/table.sh" "$work/kept"
 ends 2 "$top/collections/table.sh" --fails-on 'not decided,refused' "$work/kept"
 ends 0 "$top/collections/table.sh" --fails-on 'solver stopped,answers not taken' "$work/kept"
 ends 5 "$top/collections/table.sh" --fails-on wrong "$work/kept"
-for command in check_all check_one table taken; do
+for command in check_all check_one table taken compare; do
     ends 0 "$top/collections/$command.sh" --help
     grep -q "^usage: $command.sh" "$work/table" || fail "$command.sh --help"
     ends 5 "$top/collections/$command.sh"
@@ -196,19 +196,179 @@ printf '#!/bin/sh\ncase $* in --version) echo smtcheck 0; exit 0;; esac\nexec sl
 chmod +x "$work/sleeper"
 SMTCHECK="$work/sleeper" CHECK_SECONDS=1 ends 4 "$one" "$work/stopped" plain/sudoku.smt2
 [ "$(fields "$work/stopped/plain/sudoku.smt2.again" 3-5)" = '124	stopped	-' ] || fail "a check that is stopped: $(cat "$work/stopped/plain/sudoku.smt2.again")"
-# Memory that runs out is no verdict, and the same command with more mends it.
+# Memory that runs out is no verdict. A run with more is another one.
 "$top/tests/chain.sh" 300000 1 >"$work/chain.smt2"
 echo 'sat ()' >"$work/chain.txt"
 cd "$work"
 MEMORY_KB=30000 ends 4 "$one" small chain.smt2
 [ "$(fields small/chain.smt2.again 3,4,9)" = '4	no report	smtcheck: memory' ] || fail "little memory: $(cat small/chain.smt2.again)"
-ends 0 "$one" small chain.smt2
-[ "$(fields small/chain.smt2.row 3,4)" = '0	valid' ] && [ ! -e small/chain.smt2.again ] || fail "memory enough: $(cat small/chain.smt2.row)"
-[ "$(fields small/chain.smt2.row 13)" -ge 50 ] || fail "the memory of a check: $(cat small/chain.smt2.row)"
+ends 5 "$one" small chain.smt2
+says 'there `memory: 30000 kB`, now `memory: - kB`'
+ends 0 "$one" large chain.smt2
+[ "$(fields large/chain.smt2.row 3,4)" = '0	valid' ] || fail "memory enough: $(cat large/chain.smt2.row)"
+[ "$(fields large/chain.smt2.row 13)" -ge 50 ] || fail "the memory of a check: $(cat large/chain.smt2.row)"
+CHECK_SECONDS=59 ends 5 "$one" large chain.smt2
+says 'seconds: 60 for the solver, 59 for the check'
 cd "$top/tests/collection"
 # A missing script is no verdict either.
 ends 4 "$one" "$work/missing" plain/none.smt2
 [ "$(fields "$work/missing/plain/none.smt2.again" 3,4,9)" = '4	no report	smtcheck: script' ] || fail "a missing script: $(cat "$work/missing/plain/none.smt2.again")"
+
+# Rows that can't lie: each script has one of its own, whatever its name is, and no name moves the cursor of a terminal.
+mkdir -p "$work/names/in/up" "$work/names/in/x.smt2.row"
+right='(declare-const p Bool)(assert p)(check-sat)(get-model)'
+for name in 'a b' "$(printf 'a\tb')" "$(printf 'a\rb')" "$(printf 'a\nb')" "$(printf 'a\033[2Jb')" "$(printf 'a\377b')" 'a%09b' x x.smt2.row/y; do
+    echo "$right" >"$work/names/in/$name.smt2"
+    echo 'sat ((define-fun p () Bool true))' >"$work/names/in/$name.txt"
+done
+echo 'sat ((define-fun p () Bool false))' >"$work/names/in/$(printf 'a\tb').txt"
+echo 'sat ((define-fun p () Bool false))' >"$work/names/in/x.txt"
+cp "$work/names/in/x.smt2" "$work/names/a.smt2"
+cp "$work/names/in/x.txt" "$work/names/a.txt"
+cp "$work/names/in/a b.smt2" "$work/names/in/up/a.smt2"
+cp "$work/names/in/a b.txt" "$work/names/in/up/a.txt"
+cd "$work/names/in"
+for _ in first second; do
+    ends 1 "$all" ../told . 4
+    [ "$(tail -n +2 "$work/table" | cut -f 1,4)" = 'a b.smt2	valid
+a%09b.smt2	invalid
+a%0Ab.smt2	valid
+a%0Db.smt2	valid
+a%1B[2Jb.smt2	valid
+a%2509b.smt2	valid
+a%FFb.smt2	valid
+up/a.smt2	valid
+x.smt2	invalid
+x.smt2%2Erow/y.smt2	valid' ] || fail "names: $(cat "$work/table")"
+done
+ends 0 "$one" ../told ../a.smt2
+[ "$(fields '../told/%2E%2E/a.smt2.row' 1,4)" = '%2E%2E/a.smt2	invalid' ] || fail 'a script outside'
+ends 0 "$one" ../told "$work/names/a.smt2"
+[ "$(fields "../told/%2F${work#/}/names/a.smt2.row" 4)" = invalid ] || fail 'a script by its whole name'
+cd "$top/tests/collection"
+
+# One run has a folder of rows, or several have a script each.
+printf '#!/bin/sh\necho sat\ncase $1 in *sudoku*) exec sleep 60;; esac\n' >"$work/sleepy"
+chmod +x "$work/sleepy"
+python3 - "$work/sleepy" "$one" "$all" "$work/locked" <<'END' || fail 'two runs at once'
+import os, subprocess, sys, time
+slow, one, all_of, results = sys.argv[1:]
+def run(words, seconds=None):
+    environment = dict(os.environ, SOLVER=slow, SOLVER_SECONDS="3")
+    return subprocess.Popen(words, env=environment, stdout=subprocess.DEVNULL, stderr=subprocess.PIPE)
+first = run([one, results, "plain/sudoku.smt2"])
+while not os.path.exists(results + "/plain/sudoku.smt2.answers"):
+    time.sleep(0.05)
+same, other, folder = run([one, results, "plain/sudoku.smt2"]), run([one, results, "plain/unsat.smt2"]), run([all_of, results, "."])
+told = same.communicate()[1], folder.communicate()[1]
+assert same.returncode == 5 and b"another run is at work on plain/sudoku.smt2" in told[0], told
+assert folder.returncode == 5 and b"another run is at work" in told[1], told
+assert first.wait() == 4 and other.wait() == 0, (first.returncode, other.returncode)
+END
+
+# A refuted model counts wherever it stands, and the line is of the report alone.
+mkdir "$work/lines"
+printf '%s' "$right(get-info :a)" >"$work/lines/then.smt2"
+echo 'sat ((define-fun p () Bool false))' >"$work/lines/then.txt"
+printf '(set-info :status unsat);(set-info :status sat)\n%s(set-info :source "(set-info :status sat)")' "$right" >"$work/lines/lost.smt2"
+echo unsat >"$work/lines/lost.txt"
+cd "$work/lines"
+SMTCHECK_OPTIONS=--explain ends 1 "$all" ../refuted .
+[ "$(tail -n +2 "$work/table" | cut -f 1,3,4,6,9,16)" = 'lost.smt2	3	no answer	0	fault P1 at command 5	unsat
+then.smt2	3	invalid	1	check 1 at command 3: sat, model of command 4: refuted by the assertion of command 2	-' ] ||
+    fail "lines: $(cat "$work/table")"
+ends 1 "$top/collections/table.sh" --fails-on invalid ../refuted
+ends 2 "$top/collections/table.sh" --fails-on 'no answer' ../refuted
+awk -F '\t' 'NR > 1 && !($14 == "-" && $15 ~ /^[0-9.]+$/) { exit 1 }' "$work/table" || fail "seconds of the processor: $(cat "$work/table")"
+printf '#!/bin/sh\ncase $1 in --version) echo solver 7; exit 0;; esac\necho sat\n' >"$work/seven"
+chmod +x "$work/seven"
+SOLVER="$work/seven" ends 0 "$one" ../by_version lost.smt2
+grep -qx 'solver version: solver 7' ../by_version/run.txt || fail "the solver's version: $(cat ../by_version/run.txt)"
+sed -i s/7/8/ "$work/seven"
+SOLVER="$work/seven" ends 5 "$one" ../by_version then.smt2
+says 'there `solver version: solver 7`, now `solver version: solver 8`'
+cd "$top/tests/collection"
+
+# Three solvers on 300 scripts: one has a wrong `unsat`, one a wrong model, and of one script nobody knows who is right.
+python3 - "$work/three" <<'END'
+import os, sys
+def script(number):
+    if number == 130:
+        return "(set-logic QF_LIA)(declare-const x Int)(assert (= (div x 0) 1))(check-sat)(get-model)"
+    wanted, term = (("sat", "p"), ("unsat", "(and p (not p))"))[number % 3 == 0]
+    return f"(set-logic QF_UF)(set-info :status {wanted})(declare-const p Bool)(assert {term})(check-sat)(get-model)"
+def answer(number, solver):
+    if number == 130:
+        return 'unsat (error "no")' if solver == "good" else "sat ((define-fun x () Int 0))"
+    if number % 3 == 0 or (number, solver) == (70, "hasty"):
+        return 'unsat (error "no")'
+    return "sat ((define-fun p () Bool %s))" % ("false" if (number, solver) == (110, "sloppy") else "true")
+for solver in ("good", "hasty", "sloppy"):
+    folder = os.path.join(sys.argv[1], solver)
+    os.makedirs(folder)
+    for number in range(300):
+        for end, text in (("smt2", script(number)), ("txt", answer(number, solver))):
+            with open(os.path.join(folder, "%03d.%s" % (number, end)), "w") as file:
+                file.write(text)
+END
+for solver in good hasty sloppy; do
+    cd "$work/three/$solver"
+    "$all" "$work/rows/$solver" . 8 >"$work/table" 2>"$work/errors" || [ $? -le 2 ] || fail "a solver of three: $(cat "$work/errors")"
+done
+cd "$work/rows"
+compare=$top/collections/compare.sh
+ends 1 "$compare" --remarks good hasty sloppy
+[ "$(cat "$work/table")" = 'script	check	logic	expected	good	hasty	sloppy	known	remark
+070.smt2	1	QF_UF	sat	sat confirmed	unsat	sat confirmed	sat	hasty is wrong
+110.smt2	1	QF_UF	sat	sat confirmed	sat confirmed	sat refuted	sat	sloppy is wrong
+130.smt2	1	QF_LIA	-	unsat	sat not decided	sat not decided	-	open: the answers differ' ] || fail "three solvers: $(cat "$work/table")"
+[ "$(cut -f 1-5 "$work/errors")" = 'logic	solver	errors	correct	unsat
+all	good	0	199	101
+all	hasty	1	198	100
+all	sloppy	1	198	100
+QF_LIA	good	0	0	1
+QF_LIA	hasty	0	0	0
+QF_LIA	sloppy	0	0	0
+QF_UF	good	0	199	100
+QF_UF	hasty	1	198	100
+QF_UF	sloppy	1	198	100' ] || fail "scores: $(cat "$work/errors")"
+ends 1 "$compare" hasty good
+[ "$(wc -l <"$work/table")" = 301 ] || fail "two solvers: $(head -n 3 "$work/table")"
+ends 1 "$compare" --remarks sloppy good
+cp -r good better
+ends 0 "$compare" --remarks good better
+ends 5 "$compare" good
+ends 5 "$compare" good none
+
+# A page of one file, which needs no network; a browser shows each row, and marks what is wrong or open. And tests for a server.
+ends 1 "$compare" --html page.html good hasty sloppy
+ends 1 "$top/collections/table.sh" --html sloppy.html --junit sloppy.xml sloppy
+! grep -v 'http://www.w3.org/2000/svg' page.html sloppy.html | grep -q 'https\{0,1\}:' || fail 'a page that needs a network'
+python3 - sloppy.xml <<'END' || fail "tests for a server: $(head -c 500 sloppy.xml)"
+import sys, xml.etree.ElementTree
+suite = xml.etree.ElementTree.parse(sys.argv[1]).getroot()
+failed = [case.get("name") for case in suite if case.find("failure") is not None]
+assert suite.get("tests") == "300" and suite.get("failures") == "2" and failed == ["110.smt2", "130.smt2"], failed
+END
+mkdir many
+for number in 1 2 3 4 5 6 7; do
+    for row in good/*.json; do sed "s/\"script\": \"/&$number-/" "$row" >"many/$number-${row#good/}"; done
+done
+ends 4 "$top/collections/table.sh" --html many.html many
+if command -v chromium >"$work/found"; then
+    for page in page:300:2:1 sloppy:300:1:1 many:2100:0:0; do
+        IFS=: read -r name rows bad open <<END
+$page
+END
+        timeout 120 chromium --headless --no-sandbox --disable-gpu --dump-dom "file://$PWD/$name.html" >shown 2>"$work/errors" || fail "a browser: $(cat "$work/errors")"
+        [ "$(grep -o '<span id="count">[^<]*' shown)" = "<span id=\"count\">$rows of $rows" ] &&
+            [ "$(grep -o '<tr class="bad">' shown | wc -l)" = "$bad" ] && [ "$(grep -o '<tr class="open">' shown | wc -l)" = "$open" ] ||
+            fail "the page $name: $(grep -o '<span id="count">[^<]*' shown), $(grep -o '<tr class="[a-z]*">' shown | sort | uniq -c)"
+    done
+else
+    echo 'collections: there is no chromium, so no page is shown'
+fi
+cd "$top/tests/collection"
 
 # A new organiser: forty scripts and two solvers. One is killed half-way through the folder, and the disk is full for a script of the other.
 # The table says so, and the same command again mends it.

@@ -151,6 +151,25 @@ class Reports(unittest.TestCase):
         self.assertEqual(str(report), report.text)
         self.assertTrue(str(report).endswith("verdict: invalid, confirmed 0, refuted 1, undecided 0, unchecked 0\n"))
 
+    def test_truth(self) -> None:
+        """A report is true where it is valid, and raises where it is not."""
+        right, wrong = (smtcheck.check(SCRIPT, answers, print_success=False) for answers in (RIGHT, WRONG))
+        self.assertTrue(right)
+        self.assertFalse(wrong)
+        self.assertIs(right.raise_for_verdict(), right)
+        with self.assertRaises(smtcheck.VerdictError) as raised:
+            wrong.raise_for_verdict()
+        self.assertIs(raised.exception.report, wrong)
+        self.assertIn("refuted by the assertion of command 2", str(raised.exception))
+
+    def test_json_of_an_explanation(self) -> None:
+        """Each part has its name."""
+        told = json.loads(smtcheck.explain(SCRIPT, WRONG, print_success=False).to_json())
+        self.assertEqual(told["verdict"], "invalid")
+        part = told["told"][0]["parts"][0]
+        self.assertEqual((part["known"], part["term"], part["values"]), ("false", "(< 5 x)", [{"term": "x", "given": [], "value": "3"}]))
+        self.assertEqual(part["items"], [{"name": "x", "spot": {"text": "answers", "line": 1, "column": 6}}])
+
     def test_json(self) -> None:
         report = smtcheck.check(SCRIPT + "(check-sat)(frob)", WRONG + "unsat", print_success=False)
         told = json.loads(report.to_json())
@@ -314,7 +333,32 @@ class Wheel(unittest.TestCase):
             environment["PYTHONPATH"] = target
             code = "import smtcheck, importlib.metadata as m; print(smtcheck.version().split()[0] == m.version('smtcheck'), smtcheck.__file__)"
             told = subprocess.run([sys.executable, "-c", code], stdout=subprocess.PIPE, cwd=folder, env=environment).stdout.decode()
-            self.assertEqual(told, f"True {target}/smtcheck.py\n")
+            self.assertEqual(told, f"True {target}/smtcheck/__init__.py\n")
+
+    def test_a_fresh_environment(self) -> None:
+        """The wheel of scripts/wheel.sh, which has the library: the module, its types, and both ways to run it."""
+        with tempfile.TemporaryDirectory() as folder:
+            environment = {name: value for name, value in os.environ.items() if name not in ("SMTCHECK_LIBRARY", "PYTHONPATH")}
+
+            def run_in(*words: str) -> str:
+                done = subprocess.run(words, stdout=subprocess.PIPE, stderr=subprocess.STDOUT, stdin=subprocess.DEVNULL, cwd=folder, env=environment)
+                self.assertIn(done.returncode, (0, 1), done.stdout.decode())
+                return done.stdout.decode()
+
+            wheel = run_in(str(TOP / "scripts" / "wheel.sh"), folder).split("\n")[-2]
+            self.assertRegex(wheel, r"/smtcheck-[0-9.]+-py3-none-manylinux_2_\d+_x86_64\.whl$")
+            if subprocess.run([sys.executable, "-m", "venv", os.path.join(folder, "env")], stdout=subprocess.DEVNULL, stderr=subprocess.DEVNULL).returncode != 0:
+                sys.stdout.write("python module: there is no venv, so the wheel is not tried\n")
+                return
+            programs = pathlib.Path(folder, "env", "bin")
+            run_in(str(programs / "python"), "-m", "pip", "install", "-q", "--no-index", "--disable-pip-version-check", wheel)
+            for name, text in (("s", SCRIPT), ("a", WRONG)):
+                pathlib.Path(folder, name).write_text(text)
+            for words in ([str(programs / "smtcheck")], [str(programs / "python"), "-m", "smtcheck"]):
+                told = run_in(*words, "--print-success", "off", "s", "a")
+                self.assertEqual(told.split("\n")[1], "verdict: invalid, confirmed 0, refuted 1, undecided 0, unchecked 0")
+            code = "import smtcheck, pathlib; print((pathlib.Path(smtcheck.__file__).parent / 'py.typed').exists())"
+            self.assertEqual(run_in(str(programs / "python"), "-c", code), "True\n")
 
 
 if __name__ == "__main__":

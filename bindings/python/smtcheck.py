@@ -50,7 +50,7 @@ from typing import Callable, Iterator, List, NamedTuple, NoReturn, Optional, Seq
 
 __all__ = [
     "Detail", "Explained", "Explanation", "Item", "LibraryError", "Line", "PROFILES", "Part", "Place", "Report", "STEPS", "Session", "Spot",
-    "VERDICTS", "Value", "check", "check_files", "explain", "explanation_of", "line_of", "main", "version",
+    "VERDICTS", "Value", "VerdictError", "check", "check_files", "explain", "explanation_of", "line_of", "main", "version",
 ]
 __version__ = "0.9.0"
 
@@ -65,6 +65,14 @@ Path = Union[str, bytes, "os.PathLike[str]", "os.PathLike[bytes]"]
 
 class LibraryError(ImportError):
     """The shared library is not there, or is none of smtcheck."""
+
+
+class VerdictError(Exception):
+    """A dialogue that is not valid; `report` has its report."""
+
+    def __init__(self, report: "Report") -> None:
+        super().__init__(report.text.rstrip("\n"))
+        self.report = report
 
 
 class Place(NamedTuple):
@@ -133,6 +141,26 @@ class Report(NamedTuple):
 
     def __str__(self) -> str:
         return self.text
+
+    def __bool__(self) -> bool:
+        """Whether the verdict is `valid`."""
+        return self.verdict == "valid"
+
+    def raise_for_verdict(self) -> "Report":
+        """The report itself where it is valid; else it raises VerdictError.
+
+        >>> script = "(declare-const x Int)(assert (< 5 x))(check-sat)(get-model)"
+        >>> check(script, "sat ((define-fun x () Int 7))", print_success=False).raise_for_verdict().confirmed
+        1
+        >>> check(script, "sat ((define-fun x () Int 3))", print_success=False).raise_for_verdict()
+        Traceback (most recent call last):
+            ...
+        smtcheck.VerdictError: check 1 at command 3: sat, model of command 4: refuted by the assertion of command 2
+        verdict: invalid, confirmed 0, refuted 1, undecided 0, unchecked 0
+        """
+        if not self:
+            raise VerdictError(self)
+        return self
 
     def to_json(self, **options: object) -> str:
         """The report as an object of JSON. `lines` has an object for each check, and one for the fault, in order; in its `place` stands
@@ -246,6 +274,25 @@ class Explanation(NamedTuple):
 
     def __str__(self) -> str:
         return self.text
+
+    def to_json(self, **options: object) -> str:
+        """The explanation as an object of JSON: `verdict`, and `told` with the parts of each Explained by their names. The options are those
+        of `json.dumps`.
+
+        >>> script = "(declare-const x Int)(assert (< 5 x))(check-sat)(get-model)"
+        >>> told = json.loads(explain(script, "sat ((define-fun x () Int 3))", print_success=False).to_json())
+        >>> told["told"][0]["parts"][0]["values"]
+        [{'term': 'x', 'given': [], 'value': '3'}]
+        """
+        return json.dumps({"verdict": self.verdict, "told": _object_of(self.told)}, **options)  # type: ignore[arg-type]
+
+
+def _object_of(value: object) -> object:
+    """A value with names in place of places, for JSON."""
+    if isinstance(value, tuple):
+        names = getattr(value, "_fields", None)
+        return [_object_of(part) for part in value] if names is None else {name: _object_of(part) for name, part in zip(names, value)}
+    return value
 
 
 class _Options(ctypes.Structure):
