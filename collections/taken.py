@@ -77,7 +77,7 @@ def tell(program: str, options: List[str], name: str) -> int:
         with open(name, "rb") as file:
             script = file.read()
         commands = list(commands_of(script))
-        words = [program, "--print-success", "off", *options, os.path.join(".", name), "/dev/stdin"]
+        words = [program, "--print-success", "off", *options, os.path.join(".", name), "-"]
         done = subprocess.run(words, input=b"".join(map(answer_to, commands)), stdout=subprocess.PIPE, stderr=subprocess.PIPE)
     except OSError as error:
         sys.stderr.write(f"taken.sh: {error.filename}: {error.strerror}\n")
@@ -91,7 +91,7 @@ def tell(program: str, options: List[str], name: str) -> int:
         line, text = place_of(fault, script, commands)
         print(f"{name}:{line}: not taken, {fault}" + (f": {text}" if text else ""))
         return 1
-    told = fault or done.stderr.decode("utf-8", "replace").strip() or f"{program} ended with {done.returncode}"
+    told = fault or done.stderr.decode("utf-8", "replace").strip().replace("\n", ": ") or f"{program} ended with {done.returncode}"
     sys.stderr.write(f"taken.sh: {name}: {told}\n")
     return 5 if done.returncode == 5 else 4
 

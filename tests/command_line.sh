@@ -35,7 +35,7 @@ named() {
 }
 
 named 'in.smt2 out.txt' in.smt2 out.txt on
-named 'in.smt2 -' in.smt2 - on
+named 'in.smt2 ./-' in.smt2 - on
 named '-- -a --help' -a --help on
 named 'a -- -b' a -b on
 named '--print-success on a b' a b on
@@ -139,6 +139,18 @@ hinted 'on --profile wide' - '(declare-sort U 0)(declare-const U!val!0 U)(check-
 hinted on - '(declare-const a Bool)(check-sat)(get-model)' 'success sat ((define-fun a () Int 1))'
 hinted on 'unsat' '(assert false)(check-sat)(get-model)' 'success unsat'
 hinted on - '(assert false)(check-sat)(get-model)' 'success sat'
+hinted on 'profile wide takes' '(push)(pop)' 'success success'
+hinted on 'profile wide takes' '(declare-sort U 0)(declare-const a U)(check-sat)' 'success success unsat'
+hinted on 'profile wide takes' '(define-const c Int 1)(check-sat)(get-model)(minimize c)' 'success sat ()'
+hinted on 'profile wide takes' '(set-logic QF_UFLIRA)(check-sat)' 'success unsat'
+hinted off 'profile wide takes' '(set-logic QF_NEW)(check-sat)' 'unsupported unsat'
+hinted on - '(declare-sort U 1)(check-sat)' 'success unsat'
+hinted on - '(define-const c Real 1.5)(check-sat)' 'success unsat'
+hinted on - '(push 1)(minimize c)' 'success'
+hinted 'on --profile wide' - '(push)(minimize c)' 'success'
+deep=$(printf '%01100d' 0)
+hinted on 'profile wide takes' "(assert $(echo "$deep" | sed 's/0/(not /g') true $(echo "$deep" | sed 's/0/)/g'))(check-sat)" 'success unsat'
+hinted on - "(assert $(echo "$deep" | sed 's/0/(not /g') true)" 'success unsat'
 rm -f ./*
 
 # refused LINE: the line is refused by the text on standard input, whole, with no report.
@@ -289,7 +301,7 @@ twice --profile 'base|wide' wide wide
 cat >wanted <<'END'
 Checks the models that an SMT solver printed.
 
-SCRIPT is the SMT-LIB 2.6 script that the solver read, and ANSWERS the text that it printed for it. Each answer is paired with its command, and every `sat` is checked by evaluating the printed model in each assertion that was in force.
+SCRIPT is the SMT-LIB 2.6 script that the solver read, and ANSWERS the text that it printed for it. Each answer is paired with its command, and every `sat` is checked by evaluating the printed model in each assertion that was in force. One of the two may be `-`, which is standard input.
 
 Usage: smtcheck [OPTIONS] <SCRIPT> <ANSWERS>
 

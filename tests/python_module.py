@@ -17,10 +17,10 @@ SCRIPT = "(declare-const x Int)(assert (< 5 x))(check-sat)(get-model)"
 RIGHT, WRONG = "sat ((define-fun x () Int 7))", "sat ((define-fun x () Int 3))"
 
 
-def run(*words: str, output: object = subprocess.PIPE, **variables: str) -> "subprocess.CompletedProcess[bytes]":
+def run(*words: str, output: object = subprocess.PIPE, given: str = "", **variables: str) -> "subprocess.CompletedProcess[bytes]":
     """A run of `python -m smtcheck`."""
     environment = {**os.environ, **variables}
-    return subprocess.run([sys.executable, "-m", "smtcheck", *words], stdout=output, stderr=subprocess.PIPE, cwd=BINDING, env=environment, stdin=subprocess.DEVNULL)  # type: ignore[call-overload, no-any-return]
+    return subprocess.run([sys.executable, "-m", "smtcheck", *words], stdout=output, stderr=subprocess.PIPE, cwd=BINDING, env=environment, input=given.encode())  # type: ignore[call-overload, no-any-return]
 
 
 class Files(unittest.TestCase):
@@ -67,6 +67,15 @@ class Main(Files):
     def test_files_that_are_missing(self) -> None:
         self.told(4, "smtcheck: script", str(self.folder), self.files[1])
         self.told(4, "smtcheck: answers", self.files[0], "none")
+        self.assertEqual(run(self.files[0], "none").stderr, b"smtcheck: answers\nnone: No such file or directory\n")
+
+    def test_standard_input(self) -> None:
+        for words, text in (((self.files[0], "-"), RIGHT), (("-", self.files[1]), SCRIPT)):
+            pathlib.Path(self.files[1]).write_text(RIGHT)
+            done = run("--print-success=off", *words, given=text)
+            self.assertEqual((done.returncode, done.stdout), (0, run("--print-success=off", *self.files).stdout), words)
+        done = run("-", "-", given=SCRIPT)
+        self.assertEqual((done.returncode, done.stderr), (4, b"smtcheck: answers\nstandard input: standard input is the script\n"))
 
     def test_words_that_are_refused(self) -> None:
         for line in ([], ["--help"], ["--steps", "5", "--steps", "5", *self.files], ["--steps=x", *self.files], ["--print-succ", "off", *self.files]):

@@ -70,14 +70,14 @@ abcdefghijklmnopqrstuvw => s:abcdefghijklmnopqrstuvw .'
 ) &
 reader=$!
 
-# The program has status 4, the first lines of the report or none and a line that says why, or the status and the report that it has
+# The program has status 4, the first lines of the report or none and a line that says why (a second one which file), or the status and the report that it has
 # without a refusal.
 judge_program() {
     if [ "$status" = "$right" ]; then
         cmp -s "$work/output" "$work/right" || fail "$what" 'another report'
     elif [ "$status" = 4 ] && [ "$met" = yes ]; then
         head -n "$(wc -l <"$work/output")" "$work/right" | cmp -s - "$work/output" || fail "$what" 'another report, with status 4'
-        case $(cat "$work/errors") in
+        case $(head -n 1 "$work/errors") in
         'smtcheck: memory' | 'smtcheck: script' | 'smtcheck: answers') ;;
         *) fail "$what" "$(cat "$work/errors")" ;;
         esac
@@ -117,6 +117,8 @@ copies() {
                 print "status 4, output: " text ", errors: smtcheck: script|"
                 print "status 4, output: " text ", errors: smtcheck: answers|" }
             print "status " right ", output: " text ", errors: " } }' "$work/right" >"$work/rightly"
+    # (where a file can't be opened, a second line says which)
+    sed -i 's/\(errors: smtcheck: [a-z]*|\)[^|]*|$/\1/' "$work/outcomes"
     if grep -vxF -f "$work/rightly" "$work/outcomes" >"$work/wrong"; then fail "$what" "$(head -n 1 "$work/wrong")"; fi
     refused=$(grep -c 'smtcheck: memory' "$work/outcomes")
     [ "$refused" -ge "$least" ] || fail "$what" "only $refused were met"

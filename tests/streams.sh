@@ -48,6 +48,40 @@ expect 4 'smtcheck: answers' "$work" "$work/none"
 expect 4 'smtcheck: script' "$work" "$work/there"
 expect 4 'smtcheck: answers' "$work/there" "$work"
 
+# told NAME WHY: the second and last line says this of this name.
+told() {
+    [ "$(sed 1d "$work/errors")" = "$1: $2" ] || fail "told $(cat "$work/errors")"
+}
+missing='No such file or directory (os error 2)'
+folder='Is a directory (os error 21)'
+expect 4 'smtcheck: script' "$work/none" "$work/there"
+told "$work/none" "$missing"
+expect 4 'smtcheck: answers' "$work/there" "$work/none"
+told "$work/none" "$missing"
+expect 4 'smtcheck: script' "$work" "$work/there"
+told "$work" "$folder"
+expect 4 'smtcheck: answers' "$work/there" "$work"
+told "$work" "$folder"
+
+# Standard input as a text: of a file, of a pipe, a folder and closed. It is one of the two.
+for words in "- $data/answers.txt" "$data/script.smt2 -"; do
+    case $words in
+    -*) text=$data/script.smt2 ;;
+    *) text=$data/answers.txt ;;
+    esac
+    expect 0 '' $words <"$text"
+    cmp -s "$output" "$data/../stdout" || fail "$words: another report"
+    cat "$text" | { expect 0 '' $words; }
+    cmp -s "$output" "$data/../stdout" || fail "$words, by a pipe: another report"
+done
+expect 4 'smtcheck: answers' "$data/script.smt2" - <"$work"
+told 'standard input' "$folder"
+expect 4 'smtcheck: script' - "$data/answers.txt" <&-
+told 'standard input' 'Bad file descriptor (os error 9)'
+expect 4 'smtcheck: answers' - - <"$data/script.smt2"
+told 'standard input' 'standard input is the script'
+(cd "$work" && : >./- && expect 0 '' ./- "$work/there" && rm ./-)
+
 # status STATUS SCRIPT ANSWERS: the status for files that hold these texts.
 status() {
     printf "$2" >"$work/script"
@@ -82,7 +116,8 @@ fi
 output=$work/output
 status=0
 "$program" "$data/script.smt2" "$data/answers.txt" >&- 2>"$work/errors" || status=$?
-[ "$status" = 4 ] && [ "$(cat "$work/errors")" = 'smtcheck: output' ] || fail "a closed output: status $status, $(cat "$work/errors")"
+printf '%s\n' 'smtcheck: output' 'standard output: Bad file descriptor (os error 9)' | cmp -s - "$work/errors" && [ "$status" = 4 ] ||
+    fail "a closed output: status $status, $(cat "$work/errors")"
 mkfifo "$work/pipe"
 {
     exec 5<"$work/pipe"
@@ -95,7 +130,7 @@ mkfifo "$work/pipe"
     "$program" "$data/script.smt2" "$data/answers.txt" 2>"$work/errors" || status=$?
     echo "$status" >"$work/status"
 } >"$work/pipe"
-[ "$(cat "$work/status")" = 4 ] && [ "$(cat "$work/errors")" = 'smtcheck: output' ] ||
+printf '%s\n' 'smtcheck: output' 'standard output: Broken pipe (os error 32)' | cmp -s - "$work/errors" && [ "$(cat "$work/status")" = 4 ] ||
     fail "a pipe without a reader: status $(cat "$work/status"), $(cat "$work/errors")"
 "$program" "$data/script.smt2" "$data/answers.txt" <&- >"$output" 2>"$work/errors" || fail 'no input: no report'
 cmp -s "$output" "$data/../stdout" || fail 'no input: another report'

@@ -752,10 +752,22 @@ def _steps(word: str) -> int:
     return int(word)
 
 
-def _said(word: str) -> int:
-    """Says on standard error why there is no report."""
+def _said(word: str, reason: str = "") -> int:
+    """Says on standard error why there is no report, and in a second line which file it was and what the system says of it."""
     sys.stderr.write(f"smtcheck: {word}\n")
+    if reason:
+        sys.stderr.write(f"{reason}\n")
     return 4
+
+
+def _text_of(name: str, is_taken: bool) -> bytes:
+    """The bytes of a file, or of standard input where its name is `-`."""
+    if name != "-":
+        with open(name, "rb") as file:
+            return file.read()
+    if is_taken or sys.stdin is None:
+        raise OSError("standard input is the script" if is_taken else "there is no standard input")
+    return sys.stdin.buffer.read()
 
 
 def _print(text: str) -> bool:
@@ -790,11 +802,12 @@ def main(words: Optional[Sequence[str]] = None) -> int:
             parser.error("--version stands alone")
         texts = []
         for name in ("script", "answers"):
+            path = getattr(given, name)
             try:
-                with open(getattr(given, name), "rb") as file:
-                    texts.append(file.read())
-            except (OSError, ValueError):
-                return _said(name)
+                texts.append(_text_of(path, name == "answers" and given.script == "-"))
+            except (OSError, ValueError) as error:
+                told = getattr(error, "strerror", None) or error
+                return _said(name, f"{'standard input' if path == '-' else path}: {told}")
         options = given.print_success == "on", given.steps, given.profile
         report = check(texts[0], texts[1], *options)
         explanation = explain(texts[0], texts[1], *options).text if given.explain else ""

@@ -2,14 +2,15 @@
 
 ghost use Rattle.std.specs.Prelude.{◌<◌, ◌-◌, ◌^◌};
 
-use crate::hints::{Hint, confirmed};
+use crate::hints::{Hint, confirmed, takes};
+use crate::inputs::{Noted, STANDARD_INPUT, open};
 use crate::recorded::Recorded;
 use crate::watched::Watched;
-use smt_dialogue::{Limit, Line, Options, Profile, RunFault, Verdict};
+use smt_dialogue::{Limit, Line, Options, Profile, RunFault, Verdict, validate};
 use smt_explain::{Texts, explain};
 use smt_streams::{Device, Source, put_all};
 use smtcheck_command_line::Settings;
-use std::io::Read;
+use std::io::{Input, Read, Write};
 use std::rt::Files;
 use std::{fs, io};
 
@@ -24,36 +25,87 @@ pub(crate) struct Ran {
     pub(crate) all_confirmed: bool,
     /// The usual mistake that a line of the report looks like.
     pub(crate) hint: Option<Hint>,
+    /// The first line that refuses something which another profile may take.
+    refused: Option<Line>,
     /// Whether the user asked for an explanation that could not be made or written.
     pub(crate) unexplained: bool,
 }
 
-/// Checks the dialogue in two files. It prints the lines of the report as `smt_dialogue::run` puts them, and then
+/// Why there is no verdict.
+#[derive(Clone, Copy)]
+pub(crate) struct Failure {
+    pub(crate) fault: RunFault,
+    /// Why a text could not be opened or read, or a line not be written, where the system told.
+    pub(crate) reason: Option<io::Error>,
+}
+
+/// Checks the dialogue in two texts. It prints the lines of the report as `smt_dialogue::run` puts them, and then
 /// the explanation, if `settings` ask for one. It reads both files again for a hint only where `hints` says so. A file
-/// that can't be opened is `RunFault::Script` or `RunFault::Answers`.
-pub(crate) fn run<R: Files + AllocGlobal + Print>(
+/// that can't be opened is `RunFault::Script` or `RunFault::Answers`; so are answers on standard input where the
+/// script is there.
+pub(crate) fn run<R: Files + Input + AllocGlobal + Print>(
     rt: &R,
     settings: Settings,
     hints: bool,
-) -> Result<Ran, RunFault>
+) -> Result<Ran, Failure>
     requires { settings.steps < 2 ^ 64 - 1 }
 {
-    let Ok(script) = fs::open(rt, settings.script) else {
-        return Err(RunFault::Script);
+    let mut script = match open(rt, settings.script) {
+        Ok(script) => Noted::new(script),
+        Err(error) => return Err(failed(RunFault::Script, error)),
     };
-    let Ok(answers) = fs::open(rt, settings.answers) else {
-        return Err(RunFault::Answers);
+    if settings.script == STANDARD_INPUT && settings.answers == STANDARD_INPUT {
+        return Err(failed(
+            RunFault::Answers,
+            io::Error::other("standard input is the script"),
+        ));
+    }
+    let mut answers = match open(rt, settings.answers) {
+        Ok(answers) => Noted::new(answers),
+        Err(error) => return Err(failed(RunFault::Answers, error)),
     };
-    let mut ran = run_open(rt, script, answers, settings)?;
-    ran.hint = match ran.hint {
-        Some(hint) if hints => hint_for(rt, hint, settings),
-        _ => None,
-    };
-    Ok(ran)
+    let mut out = Noted::new(io::writer(rt));
+    match run_open(rt, &mut script, &mut answers, &mut out, settings) {
+        Ok(mut ran) => {
+            ran.hint = if hints {
+                hint_for(rt, ran, settings)
+            } else {
+                None
+            };
+            Ok(ran)
+        }
+        Err(fault) => Err(Failure {
+            fault,
+            reason: match fault {
+                RunFault::Script => script.failure(),
+                RunFault::Answers => answers.failure(),
+                RunFault::Output => out.failure(),
+                RunFault::Memory | RunFault::Long => None,
+            },
+        }),
+    }
+}
+
+fn failed(fault: RunFault, error: io::Error) -> Failure {
+    Failure {
+        fault,
+        reason: Some(error),
+    }
+}
+
+// The hint to the usual mistake that a line looks like, if the files agree with it, or else to the other profile.
+fn hint_for<R: Files + AllocGlobal>(rt: &R, ran: Ran, settings: Settings) -> Option<Hint> {
+    if let Some(hint) = ran.hint {
+        let found = usual_hint(rt, hint, settings);
+        if found.is_some() {
+            return found;
+        }
+    }
+    wide_hint(rt, &ran.refused?, settings)
 }
 
 // The hint, if the profile and the beginnings of both files agree with it.
-fn hint_for<R: Files + AllocGlobal>(rt: &R, hint: Hint, settings: Settings) -> Option<Hint> {
+fn usual_hint<R: Files + AllocGlobal>(rt: &R, hint: Hint, settings: Settings) -> Option<Hint> {
     if hint == Hint::Labels && matches!(settings.profile, Profile::Wide) {
         return None;
     }
@@ -67,11 +119,42 @@ fn hint_for<R: Files + AllocGlobal>(rt: &R, hint: Hint, settings: Settings) -> O
     )
 }
 
-// The beginning of a regular file; `None` for a pipe, whose bytes are gone once they are read.
-fn beginning<R: Files + AllocGlobal>(rt: &R, name: &str) -> Option<Vec<u8>> {
+// The hint to the other profile, if it takes what a line of the report refuses.
+fn wide_hint<R: Files + AllocGlobal>(rt: &R, refused: &Line, settings: Settings) -> Option<Hint> {
+    if matches!(settings.profile, Profile::Wide)
+        || !is_file(rt, settings.script)
+        || !is_file(rt, settings.answers)
+    {
+        return None;
+    }
+    let script = fs::read(rt, settings.script).ok()?;
+    let answers = fs::read(rt, settings.answers).ok()?;
+    let options = Options {
+        print_success: settings.print_success,
+        profile: Profile::Wide,
+        // No model is evaluated.
+        limit: Limit { steps: 0 },
+    };
+    let report = validate(rt.alloc(), script.as_slice(), answers.as_slice(), options).ok()?;
+    if takes(report.lines.as_slice(), refused) {
+        Some(Hint::Wide)
+    } else {
+        None
+    }
+}
+
+// Whether a text is a regular file: the bytes of a pipe and of standard input are gone once they are read.
+fn is_file<R: Files>(rt: &R, name: &str) -> bool {
     match fs::metadata(rt, name) {
-        Ok(found) if found.is_file() => {}
-        _ => return None,
+        Ok(found) => name != STANDARD_INPUT && found.is_file(),
+        Err(_) => false,
+    }
+}
+
+// The beginning of a regular file.
+fn beginning<R: Files + AllocGlobal>(rt: &R, name: &str) -> Option<Vec<u8>> {
+    if !is_file(rt, name) {
+        return None;
     }
     let file = fs::open(rt, name).ok()?;
     let mut block = [0u8; BEGINNING];
@@ -79,11 +162,12 @@ fn beginning<R: Files + AllocGlobal>(rt: &R, name: &str) -> Option<Vec<u8>> {
     Vec::from_slice(rt.alloc(), &block[..count.min(BEGINNING)]).ok()
 }
 
-// Checks the dialogue in two open files.
-fn run_open<R: AllocGlobal + Print, F: Read + Drop>(
+// Checks the dialogue in two open texts.
+fn run_open<R: AllocGlobal + Print, S: Read, A: Read, W: Write>(
     rt: &R,
-    script: F,
-    answers: F,
+    script: &mut S,
+    answers: &mut A,
+    out: &mut W,
     settings: Settings,
 ) -> Result<Ran, RunFault>
     requires { settings.steps < 2 ^ 64 - 1 }
@@ -97,7 +181,7 @@ fn run_open<R: AllocGlobal + Print, F: Read + Drop>(
     };
     let mut script = Recorded::new(rt.alloc(), Device::new(script), settings.explain);
     let mut answers = Recorded::new(rt.alloc(), Device::new(answers), settings.explain);
-    let mut out = Watched::new(rt.alloc(), Device::new(io::writer(rt)), settings.explain);
+    let mut out = Watched::new(rt.alloc(), Device::new(out), settings.explain);
     let verdict = smt_dialogue::run(rt.alloc(), &mut script, &mut answers, &mut out, options)?;
     let unexplained = settings.explain
         && tell(rt, script.bytes(), answers.bytes(), out.lines(), settings).is_err();
@@ -105,6 +189,7 @@ fn run_open<R: AllocGlobal + Print, F: Read + Drop>(
         verdict,
         all_confirmed: out.confirms_all(),
         hint: out.hint(),
+        refused: out.refused(),
         unexplained,
     })
 }

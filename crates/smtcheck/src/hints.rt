@@ -18,6 +18,8 @@ pub(crate) enum Hint {
     Labels,
     /// The script asks for a model after `unsat`.
     ModelBehindUnsat,
+    /// The other profile takes what is refused.
+    Wide,
 }
 
 impl Hint {
@@ -39,6 +41,7 @@ impl Hint {
             Hint::ModelBehindUnsat => {
                 "hint: some solvers print nothing for a (get-model) behind `unsat`: leave it out there"
             }
+            Hint::Wide => "hint: --profile wide takes what is refused here",
         }
     }
 }
@@ -88,6 +91,71 @@ pub(crate) fn confirmed(
         _ => true,
     };
     if holds { Some(hint) } else { None }
+}
+
+/// Whether a line refuses something which another profile may take: a command, an answer, an item, or a deep list.
+pub(crate) fn refuses(line: &Line) -> bool {
+    match line {
+        Line::CommandFault { .. } | Line::UnexpectedAnswer { .. } | Line::ItemFault { .. } => true,
+        Line::TextFault {
+            flaw: TextFlaw::Deep { .. },
+            ..
+        } => true,
+        _ => false,
+    }
+}
+
+/// Whether the report with these lines takes what a line of another report on the same texts refuses. It may refuse
+/// something after it.
+pub(crate) fn takes(lines: &[Line], refused: &Line) -> bool {
+    match refused {
+        Line::ItemFault { check, item, .. } => takes_item(lines, *check, *item),
+        Line::TextFault { .. } => !has_fault(lines, None),
+        _ => !has_fault(lines, command_of(refused)),
+    }
+}
+
+// Whether a line reports this check, and refuses no item of its model up to this one.
+fn takes_item(lines: &[Line], wanted: u64, last: u64) -> bool {
+    for line in lines {
+        match line {
+            Line::ItemFault { check, item, .. } if *check == wanted => return *item > last,
+            Line::Confirmed { check, .. }
+            | Line::Lacks { check, .. }
+            | Line::TooLong { check, .. }
+            | Line::Refuted { check, .. }
+            | Line::NotDecided { check, .. }
+                if *check == wanted => {
+                return true;
+            }
+            _ => {}
+        }
+    }
+    false
+}
+
+// Whether a line reports a fault that is not at a later command than this one.
+fn has_fault(lines: &[Line], last: Option<u64>) -> bool {
+    for line in lines {
+        if line.is_fault() {
+            return match (command_of(line), last) {
+                (Some(command), Some(last)) => command <= last,
+                _ => true,
+            };
+        }
+    }
+    false
+}
+
+// The command that a fault stands at.
+fn command_of(line: &Line) -> Option<u64> {
+    match line {
+        Line::CommandFault { command, .. } | Line::UnexpectedAnswer { command, .. } => {
+            Some(*command)
+        }
+        Line::MissingAnswer { command } => Some(*command),
+        _ => None,
+    }
 }
 
 // Whether a text begins with a byte that can begin no text, or its beginning is not known.

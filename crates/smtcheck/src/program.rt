@@ -3,11 +3,13 @@
 
 ghost use Rattle.std.specs.Prelude.{◌≡◌, ◌<◌, ◌-◌, ◌^◌};
 
-use crate::files::{Ran, run};
+use crate::files::{Failure, Ran, run};
+use crate::inputs::STANDARD_INPUT;
 use crate::room::has_room;
 use smt_dialogue::RunFault;
 use smtcheck_command_line::{LineFault, Settings, settings};
 use std::alloc::{AllocError, Global};
+use std::io::Input;
 use std::rt::{Env, Files};
 use std::{env, io};
 
@@ -20,7 +22,7 @@ const REFUSED: u8 = 5;
 /// Runs the program, and returns its exit status: 0 to 3 by the verdict, and 4 where there is no report. It is 5
 /// where the command line was refused or asked for help, and 0 where it asked for the version. The program hints at
 /// a usual mistake on standard error if that is a terminal, or if the command line asks for an explanation.
-pub(crate) fn run_program<R: Files + Env + AllocGlobal + Print + Eprint>(
+pub(crate) fn run_program<R: Files + Env + Input + AllocGlobal + Print + Eprint>(
     rt: &R,
     on_terminal: bool,
 ) -> u8 {
@@ -39,7 +41,7 @@ pub(crate) fn run_program<R: Files + Env + AllocGlobal + Print + Eprint>(
 }
 
 /// Runs the program on these words, the program's name first, and returns its exit status.
-pub(crate) fn run_words<R: Files + AllocGlobal + Print + Eprint>(
+pub(crate) fn run_words<R: Files + Input + AllocGlobal + Print + Eprint>(
     rt: &R,
     words: &[&str],
     on_terminal: bool,
@@ -52,7 +54,7 @@ pub(crate) fn run_words<R: Files + AllocGlobal + Print + Eprint>(
 }
 
 // Runs the program as the command line asks.
-fn run_settings<R: Files + AllocGlobal + Print + Eprint>(
+fn run_settings<R: Files + Input + AllocGlobal + Print + Eprint>(
     rt: &R,
     settings: Settings,
     on_terminal: bool,
@@ -68,7 +70,31 @@ fn run_settings<R: Files + AllocGlobal + Print + Eprint>(
                 ran.verdict.status()
             }
         }
-        Err(fault) => tell_fault(rt, fault),
+        Err(failure) => tell_failure(rt, failure, settings),
+    }
+}
+
+// Writes on standard error why there is no report, and then which text it was and what the system says of it. Returns
+// the status for that.
+fn tell_failure<R: Eprint>(rt: &R, failure: Failure, settings: Settings) -> u8 {
+    let status = tell_fault(rt, failure.fault);
+    if let Some(reason) = failure.reason {
+        let name = match failure.fault {
+            RunFault::Script => named(settings.script),
+            RunFault::Answers => named(settings.answers),
+            _ => "standard output",
+        };
+        let _ = eprintln!(rt; "{name}: {reason}");
+    }
+    status
+}
+
+// What a text is called.
+fn named(name: &str) -> &str {
+    if name == STANDARD_INPUT {
+        "standard input"
+    } else {
+        name
     }
 }
 

@@ -1,7 +1,7 @@
-//! A sink that reads the lines of a report as it passes them on. It notes whether each check is confirmed, and
-//! whether a line looks like a usual mistake. On request it also keeps the lines. This file knows no file.
+//! A sink that reads the lines of a report as it passes them on. It notes whether each check is confirmed, what is
+//! refused, and whether a line looks like a usual mistake. On request it also keeps the lines. This file knows no file.
 
-use crate::hints::{Hint, hint_of, is_unsat};
+use crate::hints::{Hint, hint_of, is_unsat, refuses};
 use crate::lines::{line_of, read_line};
 use smt_dialogue::{Line, Verdict};
 use smt_streams::{Broken, Sink};
@@ -19,6 +19,7 @@ struct Seen {
     after_unsat: bool,
     all_confirmed: bool,
     hint: Option<Hint>,
+    refused: Option<Line>,
     keeps: bool,
     /// The lines, if they are kept. `whole` says whether all are here: it is false once a line can't be read or
     /// memory is refused.
@@ -59,6 +60,9 @@ impl Seen {
         if self.hint.is_none() {
             self.hint = hint_of(line, self.after_unsat);
         }
+        if self.refused.is_none() && refuses(line) {
+            self.refused = Some(*line);
+        }
         self.after_unsat = is_unsat(line);
     }
 
@@ -94,6 +98,7 @@ impl<S> Watched<S> {
                 after_unsat: false,
                 all_confirmed: false,
                 hint: None,
+                refused: None,
                 keeps,
                 lines: Vec::new(alloc),
                 whole: true,
@@ -109,6 +114,11 @@ impl<S> Watched<S> {
     /// The usual mistake that a line looks like; the first one found.
     pub(crate) fn hint(&self) -> Option<Hint> {
         self.seen.hint
+    }
+
+    /// The first line that refuses something which another profile may take.
+    pub(crate) fn refused(&self) -> Option<Line> {
+        self.seen.refused
     }
 
     /// The lines; `None` where memory was refused for one, one could not be read, or the sink keeps none.

@@ -24,7 +24,7 @@ const ABOUT: &str = "Checks the models that an SMT solver printed.
 
 SCRIPT is the SMT-LIB 2.6 script that the solver read, and ANSWERS the text that it printed for it. Each \
 answer is paired with its command, and every `sat` is checked by evaluating the printed model in each \
-assertion that was in force.";
+assertion that was in force. One of the two may be `-`, which is standard input.";
 
 const PRINT_SUCCESS: &str =
     "Whether the solver prints `success`, from the start, for each command that has no answer of its own.
