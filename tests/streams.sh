@@ -78,6 +78,10 @@ expect 4 'smtcheck: answers' "$data/script.smt2" - <"$work"
 told 'standard input' "$folder"
 expect 4 'smtcheck: script' - "$data/answers.txt" <&-
 told 'standard input' 'Bad file descriptor (os error 9)'
+expect 4 'smtcheck: answers' "$data/script.smt2" - <&-
+told 'standard input' 'Bad file descriptor (os error 9)'
+expect 4 'smtcheck: script' "$work/none" - <&-
+told "$work/none" "$missing"
 expect 4 'smtcheck: answers' - - <"$data/script.smt2"
 told 'standard input' 'standard input is the script'
 (cd "$work" && : >./- && expect 0 '' ./- "$work/there" && rm ./-)

@@ -3,7 +3,7 @@
 ghost use Rattle.std.specs.Prelude.{◌<◌, ◌-◌, ◌^◌};
 
 use crate::hints::{Hint, confirmed, takes};
-use crate::inputs::{Noted, STANDARD_INPUT, open};
+use crate::inputs::{Noted, STANDARD_INPUT, closed_input, open};
 use crate::recorded::Recorded;
 use crate::watched::Watched;
 use smt_dialogue::{Limit, Line, Options, Profile, RunFault, Verdict, validate};
@@ -50,7 +50,12 @@ pub(crate) fn run<R: Files + Input + AllocGlobal + Print>(
 ) -> Result<Ran, Failure>
     requires { settings.steps < 2 ^ 64 - 1 }
 {
-    let mut script = match open(rt, settings.script) {
+    let closed = if settings.script == STANDARD_INPUT || settings.answers == STANDARD_INPUT {
+        closed_input(rt)
+    } else {
+        None
+    };
+    let script = match open(rt, settings.script, closed) {
         Ok(script) => Noted::new(script),
         Err(error) => return Err(failed(RunFault::Script, error)),
     };
@@ -60,20 +65,33 @@ pub(crate) fn run<R: Files + Input + AllocGlobal + Print>(
             io::Error::other("standard input is the script"),
         ));
     }
-    let mut answers = match open(rt, settings.answers) {
+    let answers = match open(rt, settings.answers, closed) {
         Ok(answers) => Noted::new(answers),
         Err(error) => return Err(failed(RunFault::Answers, error)),
     };
+    let mut ran = run_noted(rt, script, answers, settings)?;
+    ran.hint = if hints {
+        hint_for(rt, ran, settings)
+    } else {
+        None
+    };
+    Ok(ran)
+}
+
+// Checks the dialogue in two open texts, and says why where it can't.
+fn run_noted<R: AllocGlobal + Print, S: Read + Drop, A: Read + Drop>(
+    rt: &R,
+    script: Noted<S>,
+    answers: Noted<A>,
+    settings: Settings,
+) -> Result<Ran, Failure>
+    requires { settings.steps < 2 ^ 64 - 1 }
+{
+    let mut script = script;
+    let mut answers = answers;
     let mut out = Noted::new(io::writer(rt));
     match run_open(rt, &mut script, &mut answers, &mut out, settings) {
-        Ok(mut ran) => {
-            ran.hint = if hints {
-                hint_for(rt, ran, settings)
-            } else {
-                None
-            };
-            Ok(ran)
-        }
+        Ok(ran) => Ok(ran),
         Err(fault) => Err(Failure {
             fault,
             reason: match fault {

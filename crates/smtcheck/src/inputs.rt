@@ -23,12 +23,26 @@ impl<F: Read, S: Read> Read for Text<F, S> {
     }
 }
 
-/// Opens the text of this name: a file, or standard input where the name is `-`.
-pub(crate) fn open<R: Files + Input>(rt: &R, name: &str) -> io::Result<Text<R::File, R::Reader>> {
-    if name == STANDARD_INPUT {
-        Ok(Text::StandardInput(rt.reader()))
-    } else {
-        Ok(Text::File(fs::open(rt, name)?))
+/// Why standard input can't be read; `None` where it can. It is asked before any file is opened: a file would take the
+/// place of a closed input, and be read for it.
+pub(crate) fn closed_input<R: Input>(rt: &R) -> Option<io::Error> {
+    let mut input = rt.reader();
+    let mut nothing = [0u8; 0];
+    input.read(&mut nothing).err()
+}
+
+/// Opens the text of this name: a file, or standard input where the name is `-`, unless that is closed.
+pub(crate) fn open<R: Files + Input>(
+    rt: &R,
+    name: &str,
+    closed: Option<io::Error>,
+) -> io::Result<Text<R::File, R::Reader>> {
+    if name != STANDARD_INPUT {
+        return Ok(Text::File(fs::open(rt, name)?));
+    }
+    match closed {
+        Some(error) => Err(error),
+        None => Ok(Text::StandardInput(rt.reader())),
     }
 }
 
