@@ -553,7 +553,8 @@ class Fuzzer:
             side = rng.randrange(2) if choice == 2 else choice
             paths[side] = self.work if choice == 2 else paths[side] + ".none"
             arguments, status = paths, 4
-            complaint = b"smtcheck: %s\n" % (b"script", b"answers")[side]
+            why = b"Is a directory (os error 21)" if choice == 2 else b"No such file or directory (os error 2)"
+            complaint = b"smtcheck: %s\n%s: %s\n" % ((b"script", b"answers")[side], os.fsencode(paths[side]), why)
             kind = ("no script", "no answers", "a folder")[choice] + ": status 4"
         else:
             wrong = (["--print-success", "maybe"] + paths, paths[:1], [], paths + paths, ["--nothing"] + paths, ["--help"], ["--version"])
