@@ -265,7 +265,8 @@ wait "$reader"
 [ "$(cat "$work/output")" = 'check 1 at' ] || fail "a reader of ten bytes: $(cat "$work/output")"
 echo "$second" >&3 || true
 echo unsat >&4 || true
-ends 'a reader that has closed' 4 'smtcheck: output'
+ends 'a reader that has closed' 4 'smtcheck: output
+standard output: Broken pipe (os error 32)'
 
 # A device that is full, where texts go on: the run ends at the first line.
 rm -f "$work/script" "$work/answers"
@@ -275,7 +276,8 @@ running=$!
 exec 3>"$work/script" 4>"$work/answers"
 echo "$first" >&3
 echo "$model" >&4
-ended 'a full device' 4 'smtcheck: output'
+ended 'a full device' 4 'smtcheck: output
+standard output: No space left on device (os error 28)'
 exec 3>&- 4>&-
 
 # Each line comes once it is decided, though its answer was pulled with many others: each of 500 models takes long to judge, by functions that
