@@ -16,7 +16,7 @@ use Rattle.smt_terms.specs.Internal.Calls.{HasTheSame, SeesTheSame}
 use Rattle.smt_terms.specs.Internal.DraftView.{IsPlaced, are_open, argument_sorts, argument_terms, is_open, seen_by}
 use Rattle.smt_terms.specs.Internal.DraftView.{sorts_from, sorts_seen, terms_from}
 use Rattle.smt_terms.specs.Internal.Frames.{ArgumentWaits, ArgumentsSoFar, Begun, HasFault, IsCalled}
-use Rattle.smt_terms.specs.Internal.Frames.{IsDone, Link, begun}
+use Rattle.smt_terms.specs.Internal.Frames.{HasLeft, IsDone, Link, begun}
 use Rattle.smt_terms.specs.Internal.LabelsView.{AreGiven, labels_view}
 use Rattle.smt_terms.specs.Internal.LibraryView.{names_for, names_of_library}
 use Rattle.smt_terms.specs.Internal.NodesView.{AddsApplied, GrowsTo, Stands, TermsStand}
@@ -28,6 +28,7 @@ use Rattle.smt_terms.specs.declared.library.arguments.Arguments.{Arguments}
 use Rattle.smt_terms.specs.declared.library.draft.CheckedTerm.{CheckedTerm}
 use Rattle.smt_terms.specs.declared.library.draft.Draft.{Draft}
 use Rattle.smt_terms.specs.declared.library.frames.Application.{Application}
+use Rattle.smt_terms.specs.declared.library.frames.Frame.{Frame}
 use Rattle.smt_terms.specs.declared.library.frames.Frame.TheVariants as frame
 use Rattle.smt_terms.proofs.ArgumentLemmas.{called_from, sees_with, since_more, since_none, so_far_with, stands_with}
 use Rattle.smt_terms.proofs.ArgumentLemmas.{start_counted, taken_away, terms_start}
@@ -90,8 +91,8 @@ argument_next library old inner args left open_so_far last arguments c so none d
     }
 
 -- the first argument that is left waits, behind those that are checked
-abbrev pub waits_first : (library : Library) (whole : Trees) (a : Application) (left rest : Trees) (term : Sexp) (place : ℕ)
-    (b : Bool) (outer : Begun) (d : Draft) → IsCalled library whole a left b outer d
+abbrev pub waits_first : (library : Library) (whole : Trees) (a : Application) (left rest : Trees) (term : Sexp)
+    (place : ℕ) (b : Bool) (outer : Begun) (d : Draft) → IsCalled library whole a left b outer d
     → sexps_of left ≡ Cons term (sexps_of rest) → LiesIn whole rest a.end → place ≡ size_of rest + a.end
     → ArgumentWaits library whole a place b outer (begun term 0 d)
 waits_first library whole a left rest term place b outer d called split lies from = record {
@@ -121,6 +122,23 @@ called_next library whole a place b outer inner left last arguments c w are lies
           (argument_next library outer.draft inner w.args w.rest b last arguments c w.so_far w.none_around done sorts
           terms);
     }
+
+-- the arguments that are left are those between two places
+pub called_between : (library : Library) (whole : Trees) (a : Application) (result : Trees) (b : Bool) (draft : Draft)
+    (fs : List Frame) (first : Begun) (left : ℕ) → (known : HasLeft library whole fs first draft a left b)
+    → ((p : Trees) → LiesIn whole p a.end → left ≡ size_of p + a.end
+    → (sexps_of result ≡ sexps_of p) × LiesIn whole result a.end × (size_of result ≡ size_of p))
+    → IsCalled library whole a result b known.outer draft × (size_of result + a.end ≡ left)
+called_between library whole a result b draft fs first left known found =
+    let same = found known.trees known.called.lies known.from_is in
+    let called : IsCalled library whole a result b known.outer draft = record {
+      args = known.called.args;
+      application = known.called.application;
+      lies = same.1;
+      so_far = subst (λ ts. ArgumentsSoFar library known.outer.draft draft known.called.args ts b) (sym same.0)
+          known.called.so_far;
+    } in
+    (called, ap (λ n. n + a.end) same.2 ∙ sym known.from_is)
 
 -- an argument that waits is linked to its application
 pub argument_link : (library : Library) (whole : Trees) (a : Application) (place : ℕ) (b : Bool) (outer inner : Begun)

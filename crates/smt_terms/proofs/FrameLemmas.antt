@@ -263,14 +263,14 @@ done_next (Err e) library whole fs first p d fault placed chain =
 -- a list in the part comes next, and a frame waits for it
 pub push_less : (fs new : List Frame) (f : Frame) (part : Part) (size : ℕ) → new ≡ f ∷ fs
     → place_behind (f ∷ fs) ≤ part.to → AreNested (f ∷ fs) → part.from < size
-    → IsLess new (2 * size + 2 + length fs) (Enter part)
+    → IsLess new (3 * size + 2 + 2 * length fs) (Enter part)
 push_less fs new f part size is behind nested less =
-    subst (λ (xs : List Frame). IsLess xs (2 * size + 2 + length fs) (Enter part)) (sym is)
+    subst (λ (xs : List Frame). IsLess xs (3 * size + 2 + 2 * length fs) (Enter part)) (sym is)
     (record { nested = (behind, nested); less = omega arith })
 
 -- and what waited for a part that was checked is less
 pub checked_less : (r : Result Next TermFault) (fs : List Frame) (m : ℕ) → IfOk r IsCheckedNext → AreNested fs
-    → 2 * place_behind fs + 1 + length fs < m → IfOk r (IsLess fs m)
+    → 3 * place_behind fs + 1 + 2 * length fs < m → IfOk r (IsLess fs m)
 checked_less (Ok (Enter part)) fs m checked nested less = absurd checked
 checked_less (Ok (Checked c)) fs m checked nested less = record { nested = nested; less = less }
 checked_less (Err e) fs m checked nested less = tt

@@ -38,6 +38,8 @@ use Rattle.smt_terms.specs.declared.library.frames.Frame.TheVariants as frame
 use Rattle.smt_terms.specs.declared.library.frames.Next.{Next}
 use Rattle.smt_terms.specs.declared.library.frames.Next.TheVariants.{Enter, Checked}
 use Rattle.smt_terms.specs.declared.library.frames.Part.{Part}
+use Rattle.smt_terms.specs.declared.library.frames.Step.{Step}
+use Rattle.smt_terms.specs.declared.library.frames.Step.TheVariants as step
 
 -- a part of the term, with how many annotations are around it, and the draft when its check began
 pub record Begun : Type 0 where
@@ -274,6 +276,22 @@ abbrev pub IsNext : Library → Trees → List Frame → (first : Begun) → Dra
 IsNext library whole fs first draft (Enter part) = Enters library whole fs first draft part
 IsNext library whole fs first draft (Checked c) = HasChecked library whole fs first draft c
 
+-- the arguments of an application from this place on come next
+pub record HasLeft (library : Library) (whole : Trees) (fs : List Frame) (first : Begun) (draft : Draft)
+    (a : Application) (left : ℕ) (open_so_far : Bool) : Type 0 where
+  pub outer : Begun
+  pub trees : Trees
+  pub placed : IsPlaced (seen_by outer.draft) outer.draft.base
+  pub called : IsCalled library whole a trees open_so_far outer draft
+  pub from_is : left ≡ size_of trees + a.end
+  pub chain : Chain library whole fs first outer
+
+-- what a step in the check of the first leads to
+abbrev pub IsStep : Library → Trees → List Frame → (first : Begun) → Draft → Step → Type 0
+IsStep library whole fs first draft (step.Next next) = IsNext library whole fs first draft next
+IsStep library whole fs first draft (step.Arguments a left open_so_far) =
+    HasLeft library whole fs first draft a left open_so_far
+
 -- what comes next is that this part was checked
 abbrev pub IsDoneNext : Library → Begun → Draft → Next → Type 0
 IsDoneNext library p draft (Enter part) = ⊥
@@ -325,10 +343,23 @@ IsNested fs (Enter part) = (place_behind fs ≤ part.to) × AreNested fs
 IsNested fs (Checked c) = AreNested fs
 
 abbrev pub work : List Frame → Next → ℕ
-work fs (Enter part) = 2 * part.from + 2 + length fs
-work fs (Checked c) = 2 * place_behind fs + 1 + length fs
+work fs (Enter part) = 3 * part.from + 2 + 2 * length fs
+work fs (Checked c) = 3 * place_behind fs + 1 + 2 * length fs
 
 -- what comes next is nested, and less work than this
 pub record IsLess (fs : List Frame) (before : ℕ) (next : Next) : Type 0 where
   pub nested : IsNested fs next
   pub less : work fs next < before
+
+abbrev pub IsNestedStep : List Frame → Step → Type 0
+IsNestedStep fs (step.Next next) = IsNested fs next
+IsNestedStep fs (step.Arguments a left open_so_far) = (place_behind fs ≤ a.end) × (a.end ≤ left) × AreNested fs
+
+abbrev pub step_work : List Frame → Step → ℕ
+step_work fs (step.Next next) = work fs next
+step_work fs (step.Arguments a left open_so_far) = 3 * left + 2 + 2 * length fs
+
+-- what a step leads to is nested, and less work than this
+pub record IsLessStep (fs : List Frame) (before : ℕ) (s : Step) : Type 0 where
+  pub nested : IsNestedStep fs s
+  pub less : step_work fs s < before

@@ -102,7 +102,7 @@ impl Library<'_> {
         ensures less { AreNested (reverse frames.old.items)
             → place_behind (reverse frames.old.items) ≤ binder.end → binder.end ≤ binder.body
             → IfOk result (IsLess (reverse frames.new.items)
-            (2 * (size_of left.entry + binder.body) + 2 + length (reverse frames.old.items))) }
+            (3 * (size_of left.entry + binder.body) + 2 + 2 * length (reverse frames.old.items))) }
         ensures longer { GrowsTo draft.old draft.new }
     {
         let mut is_open = is_open;
@@ -154,7 +154,7 @@ impl Library<'_> {
         ensures less { AreNested (reverse frames.old.items)
             → place_behind (reverse frames.old.items) ≤ binder.end → binder.end ≤ binder.body
             → IfOk result (IsLess (reverse frames.new.items)
-            (2 * binder.body + 2 + length (reverse frames.old.items))) }
+            (3 * binder.body + 2 + 2 * length (reverse frames.old.items))) }
         ensures longer { GrowsTo draft.old draft.new }
     {
         let body = Body {

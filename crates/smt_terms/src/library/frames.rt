@@ -92,6 +92,19 @@ pub(crate) enum Next {
     Checked(CheckedTerm),
 }
 
+/// What a list, or a part that waited, leads to.
+#[derive(Clone, Copy)]
+pub(crate) enum Step {
+    Next(Next),
+    /// The arguments of an application from `left` on are still to be checked. `is_open` says whether one of those
+    /// before them uses a variable from outside.
+    Arguments {
+        application: Application,
+        left: u32,
+        is_open: bool,
+    },
+}
+
 /// The place of so many cells before another place, or `Memory` if it is no 32-bit number.
 #[inline(always)]
 pub(crate) fn place_before(size: usize, place: u32) -> Result<u32, Memory>

@@ -8,14 +8,15 @@ ghost use Rattle.smt_trees.specs.View.{sexp_of, sexps_of};
 ghost use Rattle.smt_terms.specs.Internal.Calls.{GivesLabels, HasSort, HasTheSame, SeesTheSame};
 ghost use Rattle.smt_terms.specs.Internal.DraftView.{IsPlaced, argument_sorts, is_open, seen_by};
 ghost use Rattle.smt_terms.specs.Internal.Frames.{AreNested, Begins, Begun, Chain, Enters, HasFault, IsCalled, IsDone};
-ghost use Rattle.smt_terms.specs.Internal.Frames.{IsLess, IsNested, IsNext, Lie, MayGoOn, begun, place_behind, work};
+ghost use Rattle.smt_terms.specs.Internal.Frames.{IsLess, IsLessStep, IsNested, IsNext, IsStep, Lie};
+ghost use Rattle.smt_terms.specs.Internal.Frames.{MayGoOn, begun, place_behind, work};
 ghost use Rattle.smt_terms.specs.Internal.SoFar.{IsPlainHead};
 ghost use Rattle.smt_terms.specs.Internal.NodesView.{GrowsTo, Stands};
 ghost use Rattle.smt_terms.specs.declared.library.frames.Next.TheVariants.{Checked, Enter};
 
 use crate::library::Library;
 use crate::library::draft::{CheckedTerm, Draft};
-use crate::library::frames::{Application, Frame, Next, Part, narrow, place_before};
+use crate::library::frames::{Application, Frame, Next, Part, Step, narrow, place_before};
 use smt_faults::TermFault;
 use smt_forms::{applied_flaw, is_as, is_bang, is_let, is_underscore};
 use smt_trees::{Tree, Trees, Word};
@@ -84,18 +85,34 @@ impl Library<'_> {
         ensures longer { GrowsTo draft.old draft.new }
     {
         let from = narrow(whole.size())?;
-        let mut next = Next::Enter(Part {
+        let mut step = Step::Next(Next::Enter(Part {
             from,
             to: 0,
             around,
-        });
+        }));
         loop {
-            next = match next {
-                Next::Enter(part) => self.enter(draft, frames, whole, part)?,
-                Next::Checked(checked) => match frames.pop() {
+            step = match step {
+                Step::Next(Next::Enter(part)) => self.enter(draft, frames, whole, part)?,
+                Step::Next(Next::Checked(checked)) => match frames.pop() {
                     Some(frame) => self.go_on(draft, frames, whole, frame, checked)?,
                     None => return Ok(checked),
                 },
+                Step::Arguments {
+                    application,
+                    left,
+                    is_open,
+                } => {
+                    let left = whole.between(left as usize, application.end as usize);
+                    let next = self.check_arguments(
+                        draft,
+                        frames,
+                        whole,
+                        application,
+                        left,
+                        is_open,
+                    )?;
+                    Step::Next(next)
+                }
             };
         }
     }
@@ -108,14 +125,14 @@ impl Library<'_> {
         frames: &mut Vec<Frame>,
         whole: Trees<'a>,
         part: Part,
-    ) -> Result<Next, TermFault>
+    ) -> Result<Step, TermFault>
         requires { IsPlaced (seen_by draft.old) draft.old.base }
         ensures next { (first : Begun)
             → Enters self.now whole.entry (reverse frames.old.items) first draft.old part
-            → MatchResult result (IsNext self.now whole.entry (reverse frames.new.items) first draft.new)
+            → MatchResult result (IsStep self.now whole.entry (reverse frames.new.items) first draft.new)
             (HasFault self.now first) }
         ensures less { IsNested (reverse frames.old.items) (Enter part) → IfOk result
-            (IsLess (reverse frames.new.items) (work (reverse frames.old.items) (Enter part))) }
+            (IsLessStep (reverse frames.new.items) (work (reverse frames.old.items) (Enter part))) }
         ensures longer { GrowsTo draft.old draft.new }
     {
         let parts = whole.between(part.from as usize, part.to as usize);
@@ -124,17 +141,19 @@ impl Library<'_> {
         };
         if is_underscore(head) {
             let checked = self.sort_of_indexed_alone(draft, args, part.around)?;
-            return Ok(Next::Checked(checked));
+            return Ok(Step::Next(Next::Checked(checked)));
         }
         if is_let(head) {
-            return self.enter_let(draft, frames, whole, args, part);
+            let next = self.enter_let(draft, frames, whole, args, part)?;
+            return Ok(Step::Next(next));
         }
         if is_bang(head) {
-            return self.enter_annotated(draft, frames, args, part);
+            let next = self.enter_annotated(draft, frames, args, part)?;
+            return Ok(Step::Next(next));
         }
         if is_as(head) {
             let checked = self.sort_of_qualified(draft, args, part.around)?;
-            return Ok(Next::Checked(checked));
+            return Ok(Step::Next(Next::Checked(checked)));
         }
         self.enter_application(draft, frames, whole, head, args, part)
     }
@@ -149,17 +168,17 @@ impl Library<'_> {
         head: Tree<'a>,
         args: Trees<'a>,
         part: Part,
-    ) -> Result<Next, TermFault>
+    ) -> Result<Step, TermFault>
         requires { IsPlaced (seen_by draft.old) draft.old.base }
         ensures next { (first : Begun) → IsPlainHead (sexp_of head.entry)
             → Lie whole.entry part.from part.to (Cons (sexp_of head.entry) (sexps_of args.entry))
             → LiesIn whole.entry args.entry part.to
             → Chain self.now whole.entry (reverse frames.old.items) first
             (begun (Items (Cons (sexp_of head.entry) (sexps_of args.entry))) part.around draft.old)
-            → MatchResult result (IsNext self.now whole.entry (reverse frames.new.items) first draft.new)
+            → MatchResult result (IsStep self.now whole.entry (reverse frames.new.items) first draft.new)
             (HasFault self.now first) }
         ensures less { IsNested (reverse frames.old.items) (Enter part) → size_of args.entry + part.to < part.from
-            → IfOk result (IsLess (reverse frames.new.items) (work (reverse frames.old.items) (Enter part))) }
+            → IfOk result (IsLessStep (reverse frames.new.items) (work (reverse frames.old.items) (Enter part))) }
         ensures longer { GrowsTo draft.old draft.new }
     {
         if let Some(flaw) = applied_flaw(head, args) {
@@ -172,7 +191,11 @@ impl Library<'_> {
             start,
             around: part.around,
         };
-        self.check_arguments(draft, frames, whole, application, args, false)
+        Ok(Step::Arguments {
+            application,
+            left: place_before(args.size(), part.to)?,
+            is_open: false,
+        })
     }
 
     // Checks the arguments that are left of an application up to one that is a list, or the application where there is
@@ -197,7 +220,7 @@ impl Library<'_> {
         ensures less { AreNested (reverse frames.old.items)
             → place_behind (reverse frames.old.items) ≤ application.end
             → IfOk result (IsLess (reverse frames.new.items)
-            (2 * (size_of left.entry + application.end) + 2 + length (reverse frames.old.items))) }
+            (3 * (size_of left.entry + application.end) + 2 + 2 * length (reverse frames.old.items))) }
         ensures longer { GrowsTo draft.old draft.new }
     {
         let mut is_open = is_open;
@@ -265,15 +288,15 @@ impl Library<'_> {
         whole: Trees<'a>,
         frame: Frame,
         checked: CheckedTerm,
-    ) -> Result<Next, TermFault>
+    ) -> Result<Step, TermFault>
         requires placed { IsPlaced (seen_by draft.old) draft.old.base }
         requires ready { MayGoOn self.now whole frame draft.old checked }
         ensures next { (first inner : Begun) → IsDone self.now inner draft.old checked
             → Chain self.now whole.entry (frame ∷ reverse frames.old.items) first inner
-            → MatchResult result (IsNext self.now whole.entry (reverse frames.new.items) first draft.new)
+            → MatchResult result (IsStep self.now whole.entry (reverse frames.new.items) first draft.new)
             (HasFault self.now first) }
         ensures less { AreNested (frame ∷ reverse frames.old.items) → IfOk result
-            (IsLess (reverse frames.new.items) (work (frame ∷ reverse frames.old.items) (Checked checked))) }
+            (IsLessStep (reverse frames.new.items) (work (frame ∷ reverse frames.old.items) (Checked checked))) }
         ensures longer { GrowsTo draft.old draft.new }
     {
         match frame {
@@ -283,9 +306,11 @@ impl Library<'_> {
                 is_open,
             } => {
                 draft.arguments.push(checked.sort, checked.node)?;
-                let is_open = is_open | checked.is_open;
-                let left = whole.between(left as usize, application.end as usize);
-                self.check_arguments(draft, frames, whole, application, left, is_open)
+                Ok(Step::Arguments {
+                    application,
+                    left,
+                    is_open: is_open | checked.is_open,
+                })
             }
             Frame::Binding {
                 binder,
@@ -296,10 +321,19 @@ impl Library<'_> {
                 draft.arguments.push(checked.sort, checked.node)?;
                 let is_open = is_open | checked.is_open;
                 let left = whole.between(left as usize, binder.body as usize);
-                self.check_bindings(draft, frames, whole, binder, left, distinct, is_open)
+                let next = self.check_bindings(
+                    draft, frames, whole, binder, left, distinct, is_open,
+                )?;
+                Ok(Step::Next(next))
             }
-            Frame::Body { body, is_open } => self.end_let(draft, body, is_open, checked),
-            Frame::Labelled(labelled) => self.end_labelled(draft, whole, labelled, checked),
+            Frame::Body { body, is_open } => {
+                let next = self.end_let(draft, body, is_open, checked)?;
+                Ok(Step::Next(next))
+            }
+            Frame::Labelled(labelled) => {
+                let next = self.end_labelled(draft, whole, labelled, checked)?;
+                Ok(Step::Next(next))
+            }
         }
     }
 }

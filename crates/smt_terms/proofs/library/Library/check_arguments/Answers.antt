@@ -78,8 +78,8 @@ loop-term-preserved c =
           let now = so.called outer called in
           let lies = (c.in-Some.ensures.places whole a.end now.lies).0 in
           called_next library whole a place is_open outer inner rest last arguments checked
-          (waits_first library whole a c.loop-term.left rest term place is_open outer mid now c.in-Some.ensures.trees lies
-          refl) refl lies done added.sorts added.terms;
+          (waits_first library whole a c.loop-term.left rest term place is_open outer mid now
+          c.in-Some.ensures.trees lies refl) refl lies done added.sorts added.terms;
     }
 
 pub returns-in-Enter-clause-next : goal.returns-in-Enter-clause-next
@@ -119,7 +119,8 @@ returns-in-Enter-clause-less c nested within =
     let mid = c.loop-term.draft in
     let inner = begun (sexp_of c.in-Some.term) 0 mid in
     let so = c.loop-term.invariant in
-    let is = subst (λ (n : Next). Begins c.args.self.now inner c.begin.new.draft c.in-Some.term (c.size.result + a.end) n)
+    let is =
+    subst (λ (n : Next). Begins c.args.self.now inner c.begin.new.draft c.in-Some.term (c.size.result + a.end) n)
     c.in-Enter.is c.in_ok-checked.ensures.begun in
     let f : Frame = frame.Argument a part.to c.loop-term.is_open in
     let fs : reverse c.push-in-Enter.new.self.items ≡ f ∷ reverse c.args.frames.now.items =
@@ -178,7 +179,7 @@ returns-clause-next c first outer placed called chain =
 pub returns-clause-less : goal.returns-clause-less
 returns-clause-less c nested within =
     let a = c.args.application in
-    let m = 2 * (size_of c.args.left + a.end) + 2 + length (reverse c.args.frames.now.items) in
+    let m = 3 * (size_of c.args.left + a.end) + 2 + 2 * length (reverse c.args.frames.now.items) in
     let next : Next = Checked c.in_ok-checked-2.checked in
     let less : IsLess (reverse c.args.frames.now.items) m next = record { nested = nested; less = omega arith } in
     subst (λ (xs : List Frame). IsLess (reverse xs) m next) (sym c.loop-term.invariant.frames) less

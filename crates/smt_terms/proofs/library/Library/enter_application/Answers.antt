@@ -1,4 +1,4 @@
-use Rattle.std.proofs.Common.{refl, reverse, ◌∙◌}
+use Rattle.std.proofs.Common.{ap, refl, reverse, ◌+◌, ◌∙◌}
 use Rattle.smt_trees.specs.Sexp.{Cons, Items}
 use Rattle.smt_trees.specs.View.{sexp_of, sexps_of}
 use Rattle.smt_faults.specs.Faults.{flaw_of_term_fault}
@@ -50,4 +50,11 @@ returns-clause-next c first plain lie lies chain =
     } in
     let called : IsCalled library c.args.whole a c.args.args false outer d =
     record { args = args; application = application; lies = lies; so_far = arguments_start library d args } in
-    c.check_arguments.ensures.next first outer c.requires called chain
+    record {
+      outer = outer;
+      trees = c.args.args;
+      placed = c.requires;
+      called = called;
+      from_is = c.in_ok-place_before.ensures ∙ ap (λ n. n + c.args.part.to) c.size.ensures;
+      chain = chain;
+    }
