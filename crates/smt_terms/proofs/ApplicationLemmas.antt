@@ -1,6 +1,6 @@
 -- Applications, one argument at a time.
 use Rattle.std.proofs.Common.{◌≡◌, ◌+◌, ℕ, [], ◌∷◌, ◌++◌, ◌||◌, false, Ok, Err, Result, Bool, refl, ap, sym, List}
-use Rattle.std.proofs.Common.{subst, ◌∙◌, take, IfErr, IfOk, OnOk}
+use Rattle.std.proofs.Common.{subst, ◌∙◌, take, IfOk, OnOk}
 use Rattle.smt_trees.specs.Places.{LiesIn, size_of}
 use Rattle.smt_trees.specs.Sexp.{Atom, Cons, Items, Nil, Sexp, Sexps, Symbol}
 use Rattle.smt_trees.specs.View.{sexps_of}
@@ -245,13 +245,6 @@ done_by (Ok c) library p new sort labels kept waiting used node longer = record 
   longer = longer;
 }
 done_by (Err e) library p new sort labels kept waiting used node longer = tt
-
-pub fault_by : (r : Result CheckedTerm TermFault) (library : Library) (p : Begun)
-    → IsOutcome (λ (c : CheckedTerm). c.sort)
-    (sort_in (names_for library (labels_view p.draft.labels)) (sorts_seen p.draft) p.term) r
-    → IfErr r (HasFault library p)
-fault_by (Ok c) library p sort = tt
-fault_by (Err e) library p sort = sort
 
 -- a draft that has gained nodes alone sees the same variables, and has the same arguments
 pub same_seen : (old new : Draft) → new.scope ≡ old.scope → new.base ≡ old.base → SeesTheSame old new

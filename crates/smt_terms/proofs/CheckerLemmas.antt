@@ -78,11 +78,6 @@ pub as_head : (head : Sexp) → begins_qualified head ≡ true → head ≡ Rese
 as_head (Reserved As) h = refl
 as_head _ h = cc
 
-pub plain_head : (head : Sexp) → false ≡ begins_indexed head → false ≡ begins_let head → false ≡ begins_annotated head
-    → false ≡ begins_qualified head → IsPlainHead head
-plain_head head index is_let bang is_as =
-    record { no_index = sym index; no_let = sym is_let; no_bang = sym bang; no_as = sym is_as }
-
 -- a list with another head applies an identifier, or is out of form
 pub other_head : (names : Names) (scope : Scope) (head : Sexp) (args : Sexps)
     → begins_indexed head ≡ false → begins_let head ≡ false → begins_annotated head ≡ false
@@ -160,15 +155,6 @@ pub indexed_ok : (names : Names) (scope : Scope) (head : Sexp) (args parts : Sex
 indexed_ok names scope head args parts f split is_head is =
     ap (λ ps. sort_in names scope (Items ps)) (split ∙ ap (λ h. Cons h args) (underscore_head head is_head)) ∙
     ap (λ r. result_and_then r (λ g. sort_applied names g [])) is
-
-pub fault_of_indexed : (names : Names) (scope : Scope) (head : Sexp) (args parts : Sexps) (e : TermFault)
-    → parts ≡ Cons head args → begins_indexed head ≡ true → Tells (indexed args) e
-    → Tells (sort_in names scope (Items parts)) e
-fault_of_indexed names scope head args parts e split is_head (inl m) = inl m
-fault_of_indexed names scope head args parts e split is_head (inr is) =
-    inr (ap (λ ps. sort_in names scope (Items ps))
-    (split ∙ ap (λ h. Cons h args) (underscore_head head is_head)) ∙ ap
-    (λ r. result_and_then r (λ g. sort_applied names g [])) is)
 
 -- a flaw that is expected is told by the fault that it is made to
 pub told : {A : Type 0} (expected : Result A TermFlaw) (flaw : TermFlaw) (fault : TermFault)

@@ -1,7 +1,7 @@
 -- The variables that a term sees while it is checked, those inside and those outside.
 use Rattle.std.proofs.Common.{◌≡◌, ◌≤◌, ◌<◌, ◌-◌, ℕ, zero, suc, ◌+◌, Bool, true, false, cond, not, ◌&&◌, ◌||◌}
 use Rattle.std.proofs.Common.{List, [], ◌∷◌, ◌++◌, map, length, take, drop, Option, Some, None, is_some}
-use Rattle.std.proofs.Common.{append-nil, option_map, refl, ap, sym, ◌∙◌, arith, subst, nat_lt, Result, Ok, Err, IfOk, inl, inr}
+use Rattle.std.proofs.Common.{option_map, refl, ap, sym, ◌∙◌, arith, subst, nat_lt, Result, Ok, Err, IfOk, inl, inr}
 use Rattle.std.specs.Str.{bytes_eq}
 use Rattle.std.proofs.lemmas.Bool.{le-ltb, lt-ltb}
 use Rattle.std.proofs.lemmas.List.{length-append, map-append, take-append-drop}
@@ -483,13 +483,6 @@ open_kept old new same t =
     ∙ ap (λ (b : ℕ). uses_outer (names_of (inside b (seen_by old))) (sorts_of (outside b (seen_by old))) t)
     same.base
 
-pub all_open_kept : (old new : Draft) → SeesTheSame old new → (ts : Sexps) → are_open new ts ≡ are_open old ts
-all_open_kept old new same ts =
-    ap (λ (vs : Variables). any_uses_outer (names_of (inside new.base vs)) (sorts_of (outside new.base vs)) ts)
-    same.variables
-    ∙ ap (λ (b : ℕ). any_uses_outer (names_of (inside b (seen_by old))) (sorts_of (outside b (seen_by old))) ts)
-    same.base
-
 -- ## Terms with labels, and without
 
 -- where all stand outside, a term is open where it uses a variable
@@ -666,16 +659,3 @@ open_args d head args parts split other =
     by (Reserved Let) i j k l = cc
     by (Reserved Bang) i j k l = cc
     by _ i j k l = refl
-
--- a body is checked over its parameters, and has no labels
-pub sort_over_parameters : (library : Library) (labels : Labels) (old new : Draft) (ps : Scope) (body : Sexp)
-    → labels_view labels ≡ spec.Refused → old.labels ≡ labels → seen_by old ≡ [] → new.labels ≡ old.labels
-    → seen_by new ≡ placed_from (length (seen_by old)) ps ++ seen_by old
-    → sort_in (names_of_library library) ps body
-    ≡ sort_in (names_for library (labels_view new.labels)) (sorts_seen new) body
-sort_over_parameters library labels old new ps body refused same none kept more =
-    ap (λ (l : spec.Labels). sort_in (names_for library l) ps body)
-    (sym (ap labels_view (kept ∙ same) ∙ refused))
-    ∙ ap (λ (vs : Scope). sort_in (names_for library (labels_view new.labels)) vs body)
-    (sym (bound_sorts (length (seen_by old)) ps [] (seen_by old) (seen_by new) more (ap sorts_of none)
-    ∙ append-nil ps))

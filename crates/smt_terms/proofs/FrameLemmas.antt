@@ -42,7 +42,7 @@ use Rattle.std.proofs.Common.{append-nil, length, map, ◌<◌, ◌*◌, IfErr, 
 use Rattle.smt_trees.specs.Places.{IsListIn, LiesIn, size_of}
 use Rattle.smt_trees.specs.View.{sexp_of, sexps_of}
 use Rattle.smt_trees.specs.declared.view.Tree.{Tree}
-use Rattle.smt_terms.specs.Internal.Frames.{AreNested, Begins, IsCheckedNext, IsDoneNext, IsNext, Lie, place_behind}
+use Rattle.smt_terms.specs.Internal.Frames.{AreNested, Begins, IsDoneNext, IsNext, Lie, place_behind}
 use Rattle.smt_terms.specs.declared.library.frames.Next.TheVariants.{Checked, Enter}
 
 -- ---- parts that lead to others
@@ -205,16 +205,6 @@ pub goes_on : (library : Library) (whole : Trees) (f : Frame) (outer inner : Beg
 goes_on library whole f outer inner last c l done =
     goes_at f library whole outer l.part last c l.waits (l.leads.done last c done)
 
--- ---- the work that is left
-
-pub less_in : (fs : List Frame) (m n : ℕ) (next : Next) → m ≤ n → IsLess fs m next → IsLess fs n next
-less_in fs m n next h less = record { nested = less.nested; less = omega (arith, less.less) }
-
-pub all_less : (fs : List Frame) (m n : ℕ) (r : Result Next TermFault) → m ≤ n → IfOk r (IsLess fs m)
-    → IfOk r (IsLess fs n)
-all_less fs m n (Ok next) h less = less_in fs m n next h less
-all_less fs m n (Err e) h less = less
-
 -- ---- a part that has begun
 
 part_same : (library : Library) (whole : Trees) (fs : List Frame) (first p : Begun) (term : Sexp) (around : ℕ)
@@ -267,13 +257,6 @@ pub push_less : (fs new : List Frame) (f : Frame) (part : Part) (size : ℕ) →
 push_less fs new f part size is behind nested less =
     subst (λ (xs : List Frame). IsLess xs (3 * size + 2 + 2 * length fs) (Enter part)) (sym is)
     (record { nested = (behind, nested); less = omega arith })
-
--- and what waited for a part that was checked is less
-pub checked_less : (r : Result Next TermFault) (fs : List Frame) (m : ℕ) → IfOk r IsCheckedNext → AreNested fs
-    → 3 * place_behind fs + 1 + 2 * length fs < m → IfOk r (IsLess fs m)
-checked_less (Ok (Enter part)) fs m checked nested less = absurd checked
-checked_less (Ok (Checked c)) fs m checked nested less = record { nested = nested; less = less }
-checked_less (Err e) fs m checked nested less = tt
 
 -- ---- trees between two places
 

@@ -2,9 +2,8 @@
 use Rattle.std.proofs.Common.{◌≡◌, ℕ, suc, Bool, true, false, cond, ◌&&◌, List, [], ◌∷◌, length, Option, Some, None}
 use Rattle.std.proofs.Common.{option_map, ok_or, is_some, refl, ap, sym, ◌∙◌}
 use Rattle.std.proofs.lemmas.Bool.{eq-eqb}
-use Rattle.smt_forms.specs.Identifier.{Indexed, Plain}
+use Rattle.smt_forms.specs.Identifier.{Plain}
 use Rattle.smt_nodes.specs.Node as node
-use Rattle.smt_theory.specs.Index.{IndexView}
 use Rattle.smt_theory.specs.Operators.{op_by, plain_op}
 use Rattle.smt_theory.specs.Ranks.{are_exactly}
 use Rattle.smt_theory.specs.Sort.{is_same_sort}
@@ -16,7 +15,7 @@ use Rattle.smt_names.specs.Entries.{entries_of}
 use Rattle.smt_terms.proofs.LibraryLemmas.{found}
 use Rattle.smt_terms.specs.Denotes.{Head, applied_node, named_node, node_at}
 use Rattle.smt_terms.specs.Internal.LibraryView.{names_of_library, places_of_library, rank_of}
-use Rattle.smt_terms.specs.Internal.NodesView.{AddsApplied, AddsNode, AddsOperator}
+use Rattle.smt_terms.specs.Internal.NodesView.{AddsApplied, AddsNode}
 use Rattle.smt_terms.specs.Internal.TableView.{head_of, heads_of_library}
 use Rattle.smt_terms.specs.declared.library.Entry.{Entry}
 use Rattle.smt_terms.specs.declared.library.Found.{Found}
@@ -83,24 +82,4 @@ some_head library old new around x sorts args e c ranked placed same adds = reco
       ap (λ o. applied_node (op_by library.sorts.theories x []) o args) found
       ∙ named_alone (plain_op library.sorts.theories x) (Some (head_of e)) args (node_at e.place args)
       (free x (head_of e) found) (named_with e.place args (length e.parameters.items) arity);
-}
-
--- and that of an operator
-pub no_head : (library : Library) (old new : Draft) (around : ℕ) (x : List ℕ) (sorts : List Sort)
-    (args : List ℕ) (c : CheckedTerm) → AddsOperator library old new around (op_by library.sorts.theories x []) args c
-    → AddsApplied library old new around (Plain x) sorts args c
-no_head library old new around x sorts args c adds = record {
-  node = adds.0;
-  added = adds.1;
-  is = λ free counted. adds.2 (look_up (heads_of_library library) x);
-}
-
-pub indexed_head : (library : Library) (old new : Draft) (around : ℕ) (x : List ℕ) (indexes : List IndexView)
-    (sorts : List Sort) (args : List ℕ) (c : CheckedTerm)
-    → AddsOperator library old new around (op_by library.sorts.theories x indexes) args c
-    → AddsApplied library old new around (Indexed x indexes) sorts args c
-indexed_head library old new around x indexes sorts args c adds = record {
-  node = adds.0;
-  added = adds.1;
-  is = λ free counted. adds.2 None;
 }

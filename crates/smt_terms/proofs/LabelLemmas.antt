@@ -20,14 +20,12 @@ use Rattle.smt_terms.specs.Internal.LabelsView.{AreGiven, AreSorted, given_names
 use Rattle.smt_terms.specs.Internal.LibraryView.{names_for, names_of_library}
 use Rattle.smt_forms.specs.Identifier.{applied}
 use Rattle.smt_terms.specs.Labels as spec
-use Rattle.smt_forms.specs.Variables.{uses_variable}
 use Rattle.smt_forms.specs.Labels.{labels_among, labels_in, labels_in_all}
 use Rattle.smt_terms.specs.Labels.{with_labels}
-use Rattle.smt_terms.specs.Freshness.{is_label_taken}
 use Rattle.smt_terms.specs.Signature.{Names, Rank, behind, unlabelled}
 use Rattle.smt_faults.specs.declared.term_flaw.TermFlaw.{TermFlaw}
-use Rattle.smt_faults.specs.declared.term_flaw.TermFlaw.TheVariants.{Label as IsLabel, NotFresh}
-use Rattle.smt_terms.proofs.CheckerLemmas.{Scope, applied_ok, as_head, underscore_head}
+use Rattle.smt_faults.specs.declared.term_flaw.TermFlaw.TheVariants.{Label as IsLabel}
+use Rattle.smt_terms.proofs.CheckerLemmas.{Scope, applied_ok}
 use Rattle.smt_terms.specs.declared.labels.Label.{Label}
 use Rattle.smt_terms.specs.declared.labels.Labels.{Labels}
 use Rattle.smt_terms.specs.declared.library.Library.{Library}
@@ -216,30 +214,11 @@ faults-fault names scope term all xs ys e split (inl m) = inl m
 faults-fault names scope term all xs ys e split (inr h) =
     inr (ap (λ ls. flaw_of_labels names scope term ls) split ∙ faults-first names scope term xs ys (flaw_told e) h)
 
--- one label
-pub one_fault : (names : Names) (scope : Scope) (term : Sexp) (x : List ℕ) (o : Option TermFlaw)
-    → flaw_of_label names names.labels scope term x ≡ o → flaw_of_labels names scope term (x ∷ []) ≡ o
-one_fault names scope term x o h = ap (λ p. option_or p None) h ∙ same o
-  where
-    same : (p : Option TermFlaw) → option_or p None ≡ p
-    same None = refl
-    same (Some f) = refl
-
 -- a label where none may stand, and one by its tests
 pub label_refused : (names : Names) (labels : Labels) (scope : Scope) (term : Sexp) (x : List ℕ)
     → labels.refused ≡ true → flaw_of_label names (labels_view labels) scope term x ≡ Some IsLabel
 label_refused names labels scope term x h =
     ap (λ b. flaw_of_label names (cond b spec.Refused (spec.Given (given_names labels))) scope term x) h
-
-pub label_tested : (names : Names) (labels : Labels) (scope : Scope) (term : Sexp) (x : List ℕ)
-    (used taken : Bool) → labels.refused ≡ false → uses_variable scope term ≡ used
-    → is_label_taken names (given_names labels) x ≡ taken
-    → flaw_of_label names (labels_view labels) scope term x
-    ≡ cond used (Some IsLabel) (cond taken (Some NotFresh) None)
-label_tested names labels scope term x used taken h u t =
-    ap (λ b. flaw_of_label names (cond b spec.Refused (spec.Given (given_names labels))) scope term x) h ∙ ap
-    (λ b. cond b (Some IsLabel) (cond (is_label_taken names (given_names labels) x) (Some NotFresh) None)) u
-    ∙ ap (λ b. cond used (Some IsLabel) (cond b (Some NotFresh) None)) t
 
 -- what follows where there is an answer
 pub on_ok : {A E : Type 0} (r : Result A E) (P Q : Type 0) → (P → Q) → OnOk r P → OnOk r Q
@@ -301,23 +280,3 @@ given_by_args (Ok v) names old new head args parts split other given =
     subst (AreGiven names old new)
     (sym (ap (λ ps. labels_in (Items ps)) split
     ∙ other_labels head args other.no_index other.no_let other.no_bang other.no_as)) given
-
--- an identifier alone gives none
-pub given_by_indexed : {T E : Type 0} (r : Result T E) (names : Names) (old new : Labels) (head : Sexp)
-    (args parts : Sexps) → parts ≡ Cons head args → begins_indexed head ≡ true → new ≡ old
-    → OnOk r (AreGiven names old new (labels_in (Items parts)))
-given_by_indexed (Err e) names old new head args parts split is same = tt
-given_by_indexed (Ok v) names old new head args parts split is same =
-    subst (AreGiven names old new)
-    (sym (ap (λ ps. labels_in (Items ps)) (split ∙ ap (λ h. Cons h args) (underscore_head head is))))
-    (subst (λ ls. AreGiven names old ls []) (sym same) (AreGiven-none names old))
-
--- nor does an element with its sort
-pub given_by_qualified : {T E : Type 0} (r : Result T E) (names : Names) (old new : Labels) (head : Sexp)
-    (args parts : Sexps) → parts ≡ Cons head args → begins_qualified head ≡ true → new ≡ old
-    → OnOk r (AreGiven names old new (labels_in (Items parts)))
-given_by_qualified (Err e) names old new head args parts split is same = tt
-given_by_qualified (Ok v) names old new head args parts split is same =
-    subst (AreGiven names old new)
-    (sym (ap (λ ps. labels_in (Items ps)) (split ∙ ap (λ h. Cons h args) (as_head head is))))
-    (subst (λ ls. AreGiven names old ls []) (sym same) (AreGiven-none names old))

@@ -4,19 +4,11 @@ use Rattle.std.proofs.lemmas.List.{map-append}
 use Rattle.smt_trees.specs.Sexp.{Sexp}
 use Rattle.smt_trees.specs.View.{sexp_of}
 use Rattle.smt_terms.specs.Denotes.{Denotes, Table}
-use Rattle.smt_terms.specs.Internal.NodesView.{nodes_given}
 use Rattle.smt_terms.specs.Internal.TableView.{AreNamed}
 use Rattle.smt_terms.specs.declared.labels.Label.{Label}
 use Rattle.smt_terms.specs.declared.labels.Labels.{Labels}
 
 -- ## One label more
-
-pub nodes_pushed : (old new : Labels) (l : Label) (n : ℕ) → new.given.items ≡ old.given.items ++ l ∷ []
-    → l.node ≡ n → nodes_given new ≡ nodes_given old ++ n ∷ []
-nodes_pushed old new l n more is =
-    ap (λ (ls : List Label). map (λ k. k.node) ls) more
-    ∙ map-append (λ (k : Label). k.node) old.given.items (l ∷ [])
-    ∙ ap (λ (m : ℕ). nodes_given old ++ m ∷ []) is
 
 named-push : (t : Table) (ls : List Label) (l : Label) → AreNamed t ls
     → Denotes t [] 0 0 l.node (sexp_of l.body) → AreNamed t (ls ++ l ∷ [])

@@ -108,10 +108,6 @@ pub not_named : (first : Sexp) (rest : Sexps) → first_named (Cons first rest) 
 not_named (Items (Cons (Atom Symbol x) (Cons term Nil))) rest h = cc
 not_named _ rest h = refl
 
-pub count_of_none : (n : ℕ) (b : Bool) → n + cond b 0 0 ≡ n
-count_of_none n true = omega arith
-count_of_none n false = omega arith
-
 pub no_variables : (bindings : Sexps) → variables_of bindings [] ≡ []
 no_variables (Cons (Items (Cons (Atom Symbol x) tail)) rest) = refl
 no_variables _ = refl

@@ -1,8 +1,7 @@
 -- What the map of a library says of its names.
-use Rattle.std.proofs.Common.{◌≡◌, ◌≤◌, ◌+◌, ℕ, zero, suc, Bool, true, false, cond, List, [], ◌∷◌, ◌++◌}
+use Rattle.std.proofs.Common.{◌≡◌, ◌≤◌, ◌+◌, ℕ, zero, suc, Bool, true, false, cond, List, [], ◌∷◌}
 use Rattle.std.proofs.Common.{length, drop, map, slice_get, Option, Some, None, option_map, option_copied}
 use Rattle.std.proofs.Common.{is_some, refl, ap, ◌∙◌, arith, add-one, Bor}
-use Rattle.std.proofs.lemmas.List.{map-append}
 use Rattle.std.specs.Prelude.{bytes_eq}
 use Rattle.smt_theory.specs.Words.{look_up}
 use Rattle.smt_terms.proofs.NameLemmas.{none_step}
@@ -45,11 +44,6 @@ absent_itself f [] x h = refl
 absent_itself f (p ∷ es) x h =
     let n = none_step (bytes_eq x p.0) (f p.1) (look_up (viewed f es) x) h in
     ap (λ b. cond b (Some p.1) (look_up es x)) n.0 ∙ absent_itself f es x n.1
-
--- a new name goes last
-pub goes_last : {V A : Type 0} (view : V → A) (es new : Pairs V) (x : List ℕ) (v : V)
-    → new ≡ es ++ (x, v) ∷ [] → viewed view new ≡ viewed view es ++ (x, view v) ∷ []
-goes_last view es new x v is = ap (viewed view) is ∙ map-append (λ p. (p.0, view p.1)) es ((x, v) ∷ [])
 
 -- among the entries from a place on, a name is that of the one there, or stands behind it
 look_from : {V : Type 0} (es : Pairs V) (x : List ℕ) (n : ℕ) (p : List ℕ × V) → slice_get es n ≡ Some p

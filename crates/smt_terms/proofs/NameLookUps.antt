@@ -1,16 +1,11 @@
 -- Whether a name is known.
 use Rattle.std.proofs.Common.{◌≡◌, Bool, true, false, ◌&&◌, ◌||◌, Option, Some, None, is_some, option_map}
-use Rattle.std.proofs.Common.{ok_or, refl, ap, sym, ◌∙◌}
-use Rattle.std.specs.Result.{is_ok}
+use Rattle.std.proofs.Common.{refl, ap, sym, ◌∙◌}
 
 -- whether something is found does not hang on what is seen of it
 pub some_map : {A B : Type 0} (f : A → B) (o : Option A) → is_some (option_map f o) ≡ is_some o
 some_map f None = refl
 some_map f (Some a) = refl
-
-pub is_ok_or : {A E : Type 0} (o : Option A) (e : E) → is_ok (ok_or o e) ≡ is_some o
-is_ok_or None e = refl
-is_ok_or (Some a) e = refl
 
 -- a name that is not taken is no element's, and stands for nothing
 pub free_name : {B : Type 0} (e : Bool) (p : Option B) (b : Bool) → (e || is_some p) || b ≡ false

@@ -1,5 +1,5 @@
-use Rattle.std.proofs.Common.{◌≡◌, ap, is_some, rules, subst, sym, ◌∙◌, inr, true, false, IfOk, Ok}
-use Rattle.smt_trees.specs.Sexp.{Atom, Cons, Sexp, Sexps, Symbol}
+use Rattle.std.proofs.Common.{◌≡◌, ap, is_some, rules, subst, sym, ◌∙◌, inr, true, false, IfOk}
+use Rattle.smt_trees.specs.Sexp.{Cons}
 use Rattle.smt_trees.specs.View.{sexp_of, sexps_of}
 use Rattle.smt_theory.specs.Words.{look_up}
 use Rattle.smt_forms.specs.Identifier.{Identifier, Plain, applied}

@@ -1,12 +1,10 @@
-use Rattle.std.proofs.Common.{◌≡◌, ◌+◌, ◌∷◌, [], ap, cond, length, refl, sym, ◌∙◌}
-use Rattle.smt_trees.specs.Sexp.{Cons, Nil}
-use Rattle.smt_trees.specs.View.{sexp_of, sexps_of}
-use Rattle.smt_forms.specs.Bindings.{are_bindings, are_named_trees}
+use Rattle.std.proofs.Common.{◌+◌, [], ap, cond, length, sym, ◌∙◌}
+use Rattle.smt_trees.specs.View.{sexps_of}
+use Rattle.smt_forms.specs.Bindings.{are_named_trees}
 use Rattle.smt_forms.specs.NamesIn.{names_in}
 use Rattle.smt_forms.specs.Variables.{is_among}
 use Rattle.smt_terms.specs.Internal.Frames.{distinct_from}
-use Rattle.smt_terms.specs.Internal.SoFar.{binding}
-use Rattle.smt_terms.proofs.LetFrameLemmas.{count_of_none, name_counted, not_named}
+use Rattle.smt_terms.proofs.LetFrameLemmas.{name_counted}
 use Rattle.smt_terms.proofs.library.binders.distinct_bindings.Goals as goal
 
 pub loop-name-preserved : goal.loop-name-preserved
