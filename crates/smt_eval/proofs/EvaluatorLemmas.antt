@@ -4,7 +4,7 @@ use Rattle.std.proofs.Common.{length, take, slice_get, Option, Some, None, Resul
 use Rattle.std.proofs.Common.{sym, ◌∙◌, subst, arith}
 use Rattle.std.proofs.Math.Seq.{take-length}
 use Rattle.std.proofs.lemmas.List.{map-append}
-use Rattle.std.specs.Prelude.{bytes_eq, ok_or, option_map, unwrap_or}
+use Rattle.std.specs.Prelude.{bytes_eq, option_map, unwrap_or}
 use Rattle.smt_trees.specs.Sexp.{Sexp, Sexps, Atom, Reserved, Items, Nil, Cons, Symbol}
 use Rattle.smt_trees.specs.View.{sexp_of}
 use Rattle.smt_trees.specs.declared.reserved.Word.{Word}
@@ -16,11 +16,9 @@ use Rattle.smt_theory.specs.Operators.{op_by}
 use Rattle.smt_theory.specs.Words.{look_up}
 use Rattle.smt_values.specs.Element.{Element, known_element}
 use Rattle.smt_values.specs.declared.value.Value.{Value}
-use Rattle.smt_forms.specs.Bindings.{let_form}
-use Rattle.smt_forms.specs.Identifier.{Identifier, Plain, Indexed, all_indexes, applied, indexed, operator_of}
+use Rattle.smt_forms.specs.Identifier.{Plain, Indexed, all_indexes, applied, indexed}
 use Rattle.smt_forms.specs.ScopeView.{scope_view}
 use Rattle.smt_terms.specs.Signature.{AreDistinct, Entry, Signature, entry_named}
-use Rattle.smt_faults.specs.declared.term_flaw.TermFlaw.TheVariants.{Form}
 use Rattle.smt_forms.specs.declared.variable.Variable.{Variable}
 use Rattle.smt_eval.proofs.EntryLemmas.{entry_named-take}
 use Rattle.smt_eval.proofs.NameLemmas.{none_step, same_self}
@@ -96,16 +94,6 @@ list_called k r (Atom kind bytes) args parts split other = ap (λ ps. known_of k
 list_called k r (Items ts) args parts split other = ap (λ ps. known_of k r (Items ps)) split
 list_called k r (Reserved word) args parts split other = cc
 
--- what is known of a `let` that is out of form
-pub let_without : (k : KnownMeaning) (r : List (List ℕ × Option Element)) (args : Sexps)
-    → let_form args ≡ None → known_of k r (Items (Cons (Reserved Let) args)) ≡ None
-let_without k r Nil h = refl
-let_without k r (Cons (Atom kind bytes) rest) h = refl
-let_without k r (Cons (Reserved word) rest) h = refl
-let_without k r (Cons (Items bindings) Nil) h = refl
-let_without k r (Cons (Items bindings) (Cons body Nil)) h = cc
-let_without k r (Cons (Items bindings) (Cons body (Cons x xs))) h = refl
-
 -- what is known of a `let` by its bindings, which stand in front of the variables
 pub let_known : (k : KnownMeaning) (r : List (List ℕ × Option Element)) (args bindings : Sexps) (body : Sexp)
     (all vs ws : List (Variable (Option Value))) → args ≡ Cons (Items bindings) (Cons body Nil)
@@ -128,18 +116,6 @@ pub not_defined : (d : Signature) (n : ℕ) (x : List ℕ) (args : List (Option 
     → entry_named (take n d.entries) x ≡ None
     → known_in (first n d) (Plain x) args ≡ known_of_op (op_by d.theories x []) (Plain x) args
 not_defined d n x args none = known_absent (known_operators d.theories) (take n d.entries) x args none
-
--- an identifier with indexes is an operator
-pub indexed_means : (d : Signature) (f : Identifier) (parts : Sexps) (n : ℕ) → indexed parts ≡ Ok f
-    → known_in (first n d) f [] ≡ known_of_op (operator_of d.theories f) f []
-indexed_means d (Indexed x indexes) parts n is =
-    known_with_indexes (known_operators d.theories) (take n d.entries) x indexes []
-indexed_means d (Plain x) parts n is = absurd (never parts is)
-  where
-    by : (x y : List ℕ) (o : Option (List IndexView))
-        → ok_or (option_map (λ is. Indexed y is) o) Form ≡ Ok (Plain x) → ⊥
-    by x y None h = cc
-    by x y (Some is) h = cc
 
     never : (ps : Sexps) → indexed ps ≡ Ok (Plain x) → ⊥
     never (Cons (Atom Symbol y) (Cons t ts)) h = by x y (all_indexes (Cons t ts)) h

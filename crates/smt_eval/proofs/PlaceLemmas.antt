@@ -1,12 +1,12 @@
 -- Where the definitions of a structure stand, and in which library.
-use Rattle.std.proofs.Common.{◌≡◌, ◌≤◌, ◌<◌, ℕ, zero, suc, ◌+◌, true, false, cond, not, Bool, List, [], ◌∷◌, ◌++◌}
-use Rattle.std.proofs.Common.{length, take, slice_get, Some, None, refl, ap, sym, ◌∙◌, subst, arith}
+use Rattle.std.proofs.Common.{◌≡◌, ◌<◌, ℕ, zero, suc, ◌+◌, true, false, cond, not, Bool, List, [], ◌∷◌, ◌++◌}
+use Rattle.std.proofs.Common.{length, slice_get, Some, None, refl, ap, sym, ◌∙◌, subst, arith}
 use Rattle.std.specs.Prelude.{bytes_eq}
 use Rattle.smt_terms.specs.Library.{declared_among, defined_among}
 use Rattle.smt_terms.specs.Library.{is_declared}
 use Rattle.smt_terms.specs.Signature.{AreDistinct, Entry, Origin, Declared, Defined, IsDeclared}
 use Rattle.smt_terms.specs.Signature.{entry_named}
-use Rattle.smt_eval.proofs.EntryLemmas.{entry_named-skip, none_before}
+use Rattle.smt_eval.proofs.EntryLemmas.{entry_named-skip}
 use Rattle.smt_eval.proofs.NameLemmas.{none_step, same_name}
 use Rattle.smt_eval.specs.Internal.DefinitionValues.{AllDefined, IsDefined}
 
@@ -32,11 +32,6 @@ name_of_found (d ∷ es) x e h = by (bytes_eq x d.name) refl h (name_of_found es
     by true same h next =
         let here : d ≡ e = cc in sym (same_name x d.name same ∙ ap (λ (f : Entry). f.name) here)
     by false same h next = next h
-
--- a name does not stand before its place
-pub not_before : (es : List Entry) (p n : ℕ) (e : Entry) (x : List ℕ) → AreDistinct es
-    → slice_get es p ≡ Some e → e.name ≡ x → n ≤ p → entry_named (take n es) x ≡ None
-not_before es p n e x d at is h = ap (λ y. entry_named (take n es) y) (sym is) ∙ none_before es p e n d at h
 
 -- a name without an entry is not defined
 pub none_among : (es : List Entry) (x : List ℕ) → entry_named es x ≡ None

@@ -12,7 +12,6 @@ use Rattle.smt_faults.specs.declared.term_fault.TermFault.TheVariants as terms
 use Rattle.smt_eval.specs.Internal.ItemFault.{model_fault_of_item}
 use Rattle.smt_eval.specs.Model.{complete_or, first_lacking, items_from, items_of, model_in, or_item}
 use Rattle.smt_eval.specs.ModelFaults.{TellsModel}
-use Rattle.smt_eval.specs.declared.model_fault.ModelFault.{ModelFault}
 use Rattle.smt_eval.specs.declared.model_fault.ModelFlaw.{ModelFlaw}
 use Rattle.smt_eval.specs.declared.model_fault.ModelFlaw.TheVariants.{Item}
 
@@ -53,14 +52,3 @@ model_whole s parts items es same is =
     ap (λ (r : Result (List Entry) ModelFlaw). result_and_then r
     (λ found. complete_or (first_lacking s.entries found) (items_before s found)))
     (ap (items_from s [] 1) (sym same) ∙ is)
-
-pub model_faulty : (s : Signature) (parts items : Sexps) (f : ModelFault) → items ≡ items_of parts
-    → TellsModel (items_from s [] 1 items) f → TellsModel (model_in s parts) f
-model_faulty s parts items f same (inl m) = inl m
-model_faulty s parts items f same (inr (tells, is)) =
-    inr (
-      tells,
-      ap (λ (r : Result (List Entry) ModelFlaw). result_and_then r
-          (λ found. complete_or (first_lacking s.entries found) (items_before s found)))
-          (ap (items_from s [] 1) (sym same) ∙ is),
-    )

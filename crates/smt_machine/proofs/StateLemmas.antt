@@ -3,7 +3,7 @@ use Rattle.std.proofs.Common.{◌≡◌, ℕ, zero, suc, ◌+◌, ◌-◌, ◌<�
 use Rattle.std.proofs.Common.{get_or, slice_get, Option, None, refl, ap, sym, ◌∙◌, append_assoc, arith}
 use Rattle.std.proofs.Common.{length-take-le, take-take, take_at, zero-add}
 use Rattle.std.proofs.lemmas.List.{length-map, drop-map, map-append, take-map}
-use Rattle.std.proofs.lemmas.Option.{slice_get-map, slice_get_past, slice_get_read}
+use Rattle.std.proofs.lemmas.Option.{slice_get-map, slice_get_read}
 use Rattle.std.specs.Prelude.{option_map, unwrap_or}
 use Rattle.smt_theory.specs.declared.op.Op.{Op}
 use Rattle.smt_values.specs.Element.{Element, known_element, known_elements}
@@ -39,11 +39,6 @@ pub place_within : (xs : List (Option Value)) (base place : ℕ) (v : Option Val
 place_within xs base place v within is = sym (frame_place xs base place
     ∙ ap (λ o. unwrap_or (option_map known_element o) None)
     (slice_get_read xs (length xs) (base + place) v refl within is))
-
-pub place_past : (xs : List (Option Value)) (base place : ℕ) → length xs ≤ base + place
-    → None ≡ at_place (drop base (known_elements xs)) place
-place_past xs base place past = sym (frame_place xs base place
-    ∙ ap (λ o. unwrap_or (option_map known_element o) None) (slice_get_past xs (base + place) past))
 
 -- ---- the last values
 

@@ -11,7 +11,7 @@ use Rattle.smt_theory.specs.declared.op.CoreOp.TheVariants.{Ite}
 use Rattle.smt_theory.specs.declared.op.Op.{Op}
 use Rattle.smt_theory.specs.declared.op.Op.TheVariants.{Core}
 use Rattle.smt_values.specs.Element.{Element}
-use Rattle.smt_values.specs.KnownOperations.{known_choice, known_step, known_truth}
+use Rattle.smt_values.specs.KnownOperations.{known_choice, known_truth}
 use Rattle.smt_machine.proofs.GivenLemmas.{given_law, cost_law}
 use Rattle.smt_machine.proofs.LeastLemmas.{Owes, least-append, least_law, least_part, least_visits}
 use Rattle.smt_machine.proofs.RunLemmas.{due_before, due_later, due_part, due_visits, grown, last_of_more}
@@ -24,9 +24,9 @@ use Rattle.smt_machine.specs.Least.{inner_least, least}
 use Rattle.smt_machine.specs.Internal.States.{State, before_last, first_of, frame_of, last_of, state_of}
 use Rattle.smt_machine.specs.Internal.KeptView.{kept_at}
 use Rattle.smt_machine.specs.Internal.States.{with_base, with_last, with_moved, with_value, without_last}
-use Rattle.smt_machine.specs.Internal.Tasks.{AreDue, IsAt, IsBased, IsBegun, IsChoice, IsDone, IsDue}
+use Rattle.smt_machine.specs.Internal.Tasks.{AreDue, IsAt, IsBased, IsChoice, IsDone, IsDue}
 use Rattle.smt_machine.specs.Internal.Tasks.{IsKeeping, IsPaid, IsPlanned, IsRunning, IsStep}
-use Rattle.smt_machine.specs.Internal.Tasks.{branches_cost, branches_of, empty_state, chosen, chosen_between}
+use Rattle.smt_machine.specs.Internal.Tasks.{branches_cost, branches_of, chosen, chosen_between}
 use Rattle.smt_machine.specs.Internal.Tasks.{body_least, charge, chosen_cost, finished, part_task, run, run_all, task_cost}
 use Rattle.smt_machine.specs.Internal.Tasks.{task_work, tasks_cost, tasks_least}
 use Rattle.smt_machine.specs.Internal.Tasks.{visits, work}
@@ -197,34 +197,7 @@ chosen_none nodes i a b op args t before middle after at branches is none taken 
     (let here : IsBased (with_last 1 None s) = based in subst B leads here)
     (omega arith) (λ arounds. omega arith) (λ arounds. omega arith)
 
--- no choice
-pub chosen_idle : (nodes : List Node) (i : ℕ) (op : Op) (args : List ℕ) (m : Machine)
-    → Some (Apply op args) ≡ slice_get nodes i → None ≡ branches_of args
-    → IsBased (state_of m) → IsStep nodes (Choose i) m m
-chosen_idle nodes i op args m at branches based =
-    idle nodes (Choose i) m
-    (ap (λ n. chosen nodes i n (state_of m)) (sym at)
-    ∙ ap (λ p. chosen_between nodes i p (state_of m)) (sym branches)) based (omega arith)
-    (λ arounds. omega arith) (λ arounds. omega arith)
-
 -- ---- what a node does with the last values
-
-pub operated_step : (nodes : List Node) (i n : ℕ) (op : Op) (args : List ℕ) (before after : Machine)
-    → Some (Apply op args) ≡ slice_get nodes i → length args ≡ n
-    → IsAt (with_last n (known_step op (last_of n (state_of before).values)) (state_of before)) before after
-    → IsBased (state_of before)
-    → IsStep nodes (Finish i) before after
-operated_step nodes i n op args before after at count is based =
-    let s : State = state_of before in
-    let leads : with_last n (known_step op (last_of n s.values)) s ≡ run nodes (Finish i) s =
-    ap (λ k. with_last k (known_step op (last_of k s.values)) s) (sym count)
-    ∙ ap (λ m. finished nodes i m s) at in
-    let A : State → Type 0 = λ z. IsAt z before after in
-    let B : State → Type 0 = λ z. IsBased z in
-    settled nodes (Finish i) before after (subst A leads is)
-    (let here : IsBased (with_last n (known_step op (last_of n s.values)) s) = based in subst B leads here)
-    (omega arith) (λ arounds. omega arith)
-    (λ arounds. let none = ap (body_least i (least nodes arounds)) (sym at) in omega (arith, none))
 
 lesser_is : (m n : ℕ) → m ≤ n → min m n ≡ m
 lesser_is m n h = omega arith
@@ -409,25 +382,6 @@ keeping_step nodes k before after is based = λ remembers due.
 
 -- ---- the loop
 
-pub started : (nodes : List Node) (i : ℕ) (before m : Machine) → IsBegun (Visit i) before m
-    → Remembers before nodes → IsRunning nodes (given nodes i []) m
-started nodes i before m begun remembers =
-    let B : State → Type 0 = λ z. IsBased z in
-    record {
-      answer = ap (λ ts. run_all nodes ts (state_of m)) begun.tasks ∙ ap (run nodes (Visit i)) begun.state;
-      based = let here : IsBased empty_state = omega arith in subst B (sym begun.state) here;
-      remembers = remembered nodes before m begun.kept remembers;
-      due = let D : List Task → Type 0 = λ ts. AreDue nodes ts (state_of m) in
-          let here : AreDue nodes (Visit i ∷ []) (state_of m) = (tt, tt) in
-          subst D (sym begun.tasks) here;
-    }
-
--- with a task that is taken off
-pub taken_based : (nodes : List Node) (v : Option Element) (before middle : Machine)
-    → IsRunning nodes v before → state_of middle ≡ state_of before → IsBased (state_of middle)
-taken_based nodes v before middle running state =
-    let B : State → Type 0 = λ z. IsBased z in subst B (sym state) running.based
-
 dues_of : (nodes : List Node) (v : Option Element) (task : Task) (before middle : Machine)
     → IsRunning nodes v before → before.tasks.items ≡ middle.tasks.items ++ task ∷ []
     → AreDue nodes (middle.tasks.items ++ task ∷ []) (state_of before)
@@ -486,20 +440,6 @@ charge_cost : (nodes : List Node) (arounds : List ℕ) (task : Task)
 charge_cost nodes arounds (Visit i) = omega (arith, cost_law nodes arounds i)
 charge_cost nodes arounds _ = omega arith
 
--- at first all is left
-pub started_paid : (nodes : List Node) (arounds : List ℕ) (root first : ℕ) (before m : Machine)
-    → IsBegun (Visit root) before m → cost nodes arounds root ≤ first → IsPaid nodes arounds root first first m
-started_paid nodes arounds root first before m begun enough =
-    let e = ap (tasks_cost nodes (cost nodes arounds)) begun.tasks in
-    let f = ap (tasks_least nodes (least nodes arounds)) begun.tasks in
-    record {
-      enough = omega (arith, e, enough);
-      paid = omega (arith, e);
-      counted = omega (arith, f);
-      within = omega arith;
-      fewer = inl begun.tasks;
-    }
-
 -- there is enough for the next task
 pub task_paid : (nodes : List Node) (arounds : List ℕ) (root first left : ℕ) (task : Task)
     (before middle : Machine) → IsPaid nodes arounds root first left before
@@ -547,25 +487,6 @@ turned_paid nodes arounds root first left rest v task before middle after runnin
         let visits = ap (charge arounds) (last middle.tasks.items (sym tasks ∙ only)) in
         inr (let h = paid.within in omega (arith, visits, counted, h))
     by (inr less) = inr (omega (arith, counted, less))
-
--- at the end
-pub ended_paid : (nodes : List Node) (arounds : List ℕ) (root first left : ℕ) (m : Machine)
-    → IsPaid nodes arounds root first left m → m.tasks.items ≡ [] → left < first
-ended_paid nodes arounds root first left m paid none = by paid.fewer
-  where
-    by : (m.tasks.items ≡ Visit root ∷ []) ⊎ (left < first) → left < first
-    by (inl only) = let both : [] ≡ Visit root ∷ [] = sym none ∙ only in cc
-    by (inr less) = less
-
-pub ended_cost : (nodes : List Node) (arounds : List ℕ) (root first left : ℕ) (m : Machine)
-    → IsPaid nodes arounds root first left m → first ≤ left + cost nodes arounds root
-ended_cost nodes arounds root first left m paid = let h = paid.paid in omega (arith, h)
-
-pub ended_least : (nodes : List Node) (arounds : List ℕ) (root first left : ℕ) (m : Machine)
-    → IsPaid nodes arounds root first left m → m.tasks.items ≡ [] → left + least nodes arounds root ≤ first
-ended_least nodes arounds root first left m paid none =
-    let e = ap (tasks_least nodes (least nodes arounds)) none in
-    let h = paid.counted in omega (arith, e, h)
 
 pub ended : (nodes : List Node) (v w : Option Element) (before middle : Machine)
     → IsRunning nodes v before

@@ -75,17 +75,6 @@ part_waits n c j k before after left is more = by (nat_lt j n) refl is
         omega (arith, cost, sum)
     by false e here = absurd (cc)
 
--- one that is open is counted
-pub part_counts : (n : ℕ) (c : ℕ → ℕ) (j : ℕ) (before : List ℕ) (left fewer : ℕ)
-    → None ≡ cond (nat_lt j n) (Some j) None → fewer + 1 ≡ left
-    → fewer + (sum_of c before + part_cost n c j) ≡ left + sum_of c before
-part_counts n c j before left fewer is less = by (nat_lt j n) refl is
-  where
-    by : (b : Bool) → nat_lt j n ≡ b → None ≡ cond b (Some j) None
-        → fewer + (sum_of c before + cond b (c j) 1) ≡ left + sum_of c before
-    by true e here = absurd (cc)
-    by false e here = omega (arith, less)
-
 -- a node costs as much as what is counted of it and its parts
 pub node_parts : (nodes : List Node) (arounds : List ℕ) (i around : ℕ) (node : Option Node)
     → around ≡ around_at arounds i → node ≡ slice_get nodes i

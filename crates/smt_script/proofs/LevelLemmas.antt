@@ -16,25 +16,24 @@ use Rattle.smt_script.specs.Command.{Command, Push, Pop, Reset, ResetAssertions}
 use Rattle.smt_script.specs.Stack as spec
 use Rattle.smt_script.specs.Stack.{Brought, Numbered, abbreviations_by, abbreviations_of}
 use Rattle.smt_script.specs.Stack.{assertions_by, assertions_in_force, assertions_of, brought_by, depth_after}
-use Rattle.smt_script.specs.Stack.{assertions_stand, depth_in_force, entries_by, entries_of, flaw_of_effect}
+use Rattle.smt_script.specs.Stack.{assertions_stand, depth_in_force, entries_by, entries_of}
 use Rattle.smt_script.specs.Stack.{global_after, history, in_force, is_everything, is_exit, is_reset, max_levels}
 use Rattle.smt_script.specs.Stack.{name_stands_after, names_stand, print_success_after}
 use Rattle.smt_script.specs.Stack.{resets, signature_in_force, signature_of, stands_after, theories_after}
 use Rattle.smt_script.specs.Stack.{theories_in_force}
 use Rattle.smt_script.specs.StackView.{AreAs, AreAssertions, HasInForce, IsAs, IsLevel, IsOuter, assertions_to_level}
 use Rattle.smt_script.specs.StackView.{contents_left, names_level, names_to_level, signature_to_level, to_level}
-use Rattle.smt_script.specs.Internal.Effect.{HasEffect, HasMore, HasNoAssertions, HasNotesOf, IsCut, IsEmpty}
+use Rattle.smt_script.specs.Internal.Effect.{HasEffect, HasNoAssertions, HasNotesOf, IsCut, IsEmpty}
 use Rattle.smt_script.specs.Internal.Effect.{TermsHaveNodes}
 use Rattle.smt_script.specs.Internal.Runs.{copies}
 use Rattle.smt_script.specs.Internal.Effect.{NotesAll, logic_after, with_notes}
-use Rattle.smt_faults.specs.declared.command_flaw.CommandFlaw.TheVariants.{TooDeep, NoLevel}
 use Rattle.smt_script.specs.declared.stack.Assertion.{Assertion}
 use Rattle.smt_script.specs.declared.stack.LogicState.{LogicState}
 use Rattle.smt_script.specs.declared.stack.Start.{Start}
 use Rattle.smt_script.specs.declared.stack.levels.Level.{Level}
 use Rattle.smt_script.specs.declared.stack.Stack.{Stack}
 use Rattle.smt_script.specs.StackView.{profile_of}
-use Rattle.smt_script.proofs.EffectLemmas.{Keeps, assertions-add, assertions_left, extends_itself, no_names_left}
+use Rattle.smt_script.proofs.EffectLemmas.{Keeps, assertions-add, assertions_left, no_names_left}
 use Rattle.smt_script.proofs.EffectLemmas.{none_more}
 use Rattle.smt_script.proofs.EffectLemmas.{nothing_brought, same_signature, signature-add, within}
 use Rattle.smt_script.proofs.HistoryLemmas.{all_to_level, assertion_stands_after, assertions-push, assertions_rule}
@@ -225,14 +224,6 @@ push_effect law old v l m notes pushed fits n = record {
       };
   start = refl;
 }
-
-pub push_refused : (s : Stack) (m : ℕ) → (length s.levels + m ≤ max_levels → ⊥) → (cs : List Numbered)
-    → HasInForce s cs → (n : ℕ) → flaw_of_effect (profile_of s) cs n (Push m) ≡ Some TooDeep
-push_refused s m over cs h n =
-    rw (too_many (depth_in_force cs + m) (λ le. over (let e = h.depth in omega arith))) refl
-  where
-    too_many : (d : ℕ) → (d ≤ max_levels → ⊥) → nat_lt max_levels d ≡ true
-    too_many d no_room = grind (arith)
 
 -- ---- pop
 
@@ -437,14 +428,6 @@ pop_none s n = record {
     none_over : (d : ℕ) → nat_lt d 0 ≡ false
     none_over d = grind (arith)
 
-pub pop_refused : (s : Stack) (m : ℕ) → (m ≤ length s.levels → ⊥) → (cs : List Numbered)
-    → HasInForce s cs → (n : ℕ) → flaw_of_effect (profile_of s) cs n (Pop m) ≡ Some NoLevel
-pop_refused s m over cs h n =
-    rw (too_many (depth_in_force cs) (λ le. over (let e = h.depth in omega arith))) refl
-  where
-    too_many : (d : ℕ) → (m ≤ d → ⊥) → nat_lt d m ≡ true
-    too_many d short = grind (arith)
-
 -- ---- reset
 
 nothing_at : (k : ℕ) (x : Level) → slice_get {X = Level} [] k ≡ Some x → ⊥
@@ -632,17 +615,3 @@ copies_push (suc n) l = ap (λ (xs : List Level). l ∷ xs) (copies_push n l)
 pub take_old : (xs : List Level) (n : ℕ) (l : Level) → take (length xs) (xs ++ copies n l) ≡ xs
 take_old [] n l = refl
 take_old (x ∷ xs) n l = ap (λ (ys : List Level). x ∷ ys) (take_old xs n l)
-
--- as many levels as before change nothing
-pub levels_unchanged : (old : Stack) (v : List Level) → v ≡ old.levels → HasMore old (record old { levels = v })
-levels_unchanged old v same = record {
-  library = extends_itself (contents_of old.library);
-  transient = refl;
-  assertions = refl;
-  assumptions = refl;
-  levels = same;
-  notes = record { logic = refl; global = refl; print_success = refl; start = refl; exited = refl; last = refl };
-}
-
-pub same_unchanged : (s : Stack) → HasMore s s
-same_unchanged s = levels_unchanged s s.levels refl
