@@ -130,6 +130,18 @@ echo '(set-logic QF_BV)(push)(check-sat)(pop)' >"$work/push.smt2"
 (cd "$work" && ends 0 "$top/collections/taken.sh" push.smt2)
 SMTCHECK_OPTIONS='--profile base' ends 5 "$one" "$work/wide" plain/unsat.smt2
 says 'has the rows of another run: there `options: --profile wide`, now `options: --profile base`'
+# With `--solver` the program knows whether it prints `success`, unless PRINT_SUCCESS says it.
+export SMTCHECK_OPTIONS='--solver z3'
+ends 0 "$one" "$work/named" plain/labels.smt2
+[ "$(fields "$work/named/plain/labels.smt2.row" 3-5)" = '0	valid	1' ] || fail "--solver z3: $(cat "$work/named/plain/labels.smt2.row")"
+grep -qx 'print-success: as --solver' "$work/named/run.txt" || fail "the options of a run: $(cat "$work/named/run.txt")"
+PRINT_SUCCESS=off ends 5 "$one" "$work/named" plain/labels.smt2
+says 'has the rows of another run'
+PRINT_SUCCESS=on ends 0 "$one" "$work/named_on" plain/labels.smt2
+[ "$(fields "$work/named_on/plain/labels.smt2.row" 9)" = 'fault P2 at command 1, answer 1' ] || fail "success on: $(cat "$work/named_on/plain/labels.smt2.row")"
+SMTCHECK_OPTIONS=--solver=smtinterpol ends 0 "$one" "$work/other" plain/labels.smt2
+[ "$(fields "$work/other/plain/labels.smt2.row" 9)" = 'fault P2 at command 1, answer 1' ] || fail "--solver=smtinterpol: $(cat "$work/other/plain/labels.smt2.row")"
+(cd "$work" && ends 0 "$top/collections/taken.sh" push.smt2)
 export SMTCHECK_OPTIONS='--steps 0'
 ends 0 "$one" "$work/steps" plain/sudoku.smt2
 [ "$(fields "$work/steps/plain/sudoku.smt2.row" 4,9 | sed 's/ at command.*: /: /')" = 'not decided	check 1: too long' ] ||

@@ -83,6 +83,18 @@ class Main(Files):
         self.told(5, "given twice", "--print-success", "on", "--print-success", "on", *self.files)
         self.assertEqual(run("--profile", "Wide", *self.files).returncode, 5)
 
+    def test_the_solver(self) -> None:
+        for file, text in zip(self.files, ("(push)", "")):
+            pathlib.Path(file).write_text(text)
+        for solver in smtcheck.SOLVERS:
+            is_on = solver == "smtinterpol"
+            for words, status in (((), 3 if is_on else 0), (("--print-success=off",), 0), (("--print-success=on",), 3), (("--profile=base",), 3)):
+                for line in ((*words, "--solver", solver), (f"--solver={solver}", *words, "--hints", "on")):
+                    self.assertEqual(run(*line, *self.files).returncode, status, line)
+        self.told(5, "given twice", "--solver", "z3", "--solver", "z3", *self.files)
+        self.assertEqual(run("--solver", "yices", *self.files).returncode, 5)
+        self.assertIn(b"`-`", run("--help").stdout)
+
     def test_the_profile(self) -> None:
         for file, text in zip(self.files, ("(push)", "")):
             pathlib.Path(file).write_text(text)

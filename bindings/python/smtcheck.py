@@ -49,13 +49,14 @@ import sys
 from typing import Callable, Iterator, List, NamedTuple, NoReturn, Optional, Sequence, Tuple, Union
 
 __all__ = [
-    "Detail", "Explained", "Explanation", "Item", "LibraryError", "Line", "PROFILES", "Part", "Place", "Report", "STEPS", "Session", "Spot",
-    "VERDICTS", "Value", "VerdictError", "check", "check_files", "explain", "explanation_of", "line_of", "main", "version",
+    "Detail", "Explained", "Explanation", "Item", "LibraryError", "Line", "PROFILES", "Part", "Place", "Report", "SOLVERS", "STEPS", "Session",
+    "Spot", "VERDICTS", "Value", "VerdictError", "check", "check_files", "explain", "explanation_of", "line_of", "main", "version",
 ]
 __version__ = "0.9.0"
 
 VERDICTS = ("valid", "invalid", "not decided", "refused")
 PROFILES = ("base", "wide")
+SOLVERS = ("z3", "cvc5", "cvc4", "bitwuzla", "boolector", "smtinterpol")
 MEMORY, OPTIONS, OPEN, LONG = 4, 5, 6, 7
 STEPS = 10_000_000
 
@@ -785,12 +786,14 @@ def _print(text: str) -> bool:
 def main(words: Optional[Sequence[str]] = None) -> int:
     """The program: prints the report on two files, and answers its exit status. It answers 0 to 3 only behind a whole report."""
     parser = _Parser("smtcheck", description="Checks the models that an SMT solver printed.", allow_abbrev=False)
-    parser.add_argument("script", metavar="SCRIPT", help="the script that the solver read")
+    parser.add_argument("script", metavar="SCRIPT", help="the script that the solver read; one of the two files may be `-`, standard input")
     parser.add_argument("answers", metavar="ANSWERS", help="what the solver printed")
-    parser.add_argument("--print-success", action=_Once, choices=("on", "off"), default="on", help="whether it prints `success`, from the start")
-    parser.add_argument("--profile", action=_Once, choices=PROFILES, default="base", help="which language is taken")
+    parser.add_argument("--solver", action=_Once, choices=SOLVERS, help="which solver printed it: sets the next two, where they are not given")
+    parser.add_argument("--print-success", action=_Once, choices=("on", "off"), help="whether it prints `success`, from the start (on)")
+    parser.add_argument("--profile", action=_Once, choices=PROFILES, help="which language is taken (base)")
     parser.add_argument("--steps", action=_Once, metavar="N", type=_steps, default=STEPS, help="how many steps the evaluation of a model may take")
     parser.add_argument("--explain", action="store_true", help="tells behind the report where and why, and calls the files `script` and `answers`")
+    parser.add_argument("--hints", action=_Once, choices=("on", "off"), help="changes nothing: only the program has hints")
     parser.add_argument("--strict", action="store_true", help="ends with 2 in place of 0 unless each check is confirmed, and there is one")
     parser.add_argument("-V", "--version", action="store_true", help="prints the version")
     try:
@@ -808,7 +811,8 @@ def main(words: Optional[Sequence[str]] = None) -> int:
             except (OSError, ValueError) as error:
                 told = getattr(error, "strerror", None) or error
                 return _said(name, f"{'standard input' if path == '-' else path}: {told}")
-        options = given.print_success == "on", given.steps, given.profile
+        prints_success = given.print_success or ("on" if given.solver in (None, "smtinterpol") else "off")
+        options = prints_success == "on", given.steps, given.profile or ("wide" if given.solver else "base")
         report = check(texts[0], texts[1], *options)
         explanation = explain(texts[0], texts[1], *options).text if given.explain else ""
         if not _print(report.text + explanation):
