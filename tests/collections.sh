@@ -439,6 +439,27 @@ wait "$running" || status=$?
 touch awake
 SOLVER="$work/waiting" ends 0 "$all" waited wait
 
+# The commands of a CI file, as EMBEDDING has it: a refuted model fails, and refused answers do not.
+mkdir -p "$work/ci/bin" "$work/ci/scripts"
+ln -s "$top/collections" "$work/ci/collections"
+ln -s "$SMTCHECK" "$work/ci/bin/smtcheck"
+printf '#!/bin/sh\ncat "${1%%.smt2}.txt"\n' >"$work/ci/bin/z3"
+chmod +x "$work/ci/bin/z3"
+cp "$top"/tests/collection/plain/labels.* "$top"/tests/collection/plain/unsat.* "$work/ci/scripts"
+sed -n '/^```yaml$/,/^```$/s/^    - \([Sc].*\)$/\1/p' "$top/docs/EMBEDDING.md" >"$work/ci/commands"
+[ "$(wc -l <"$work/ci/commands")" = 2 ] || fail "the CI file: $(cat "$work/ci/commands")"
+ci() {
+    (cd "$work/ci" && unset SMTCHECK && PATH=$work/ci/bin:$PATH ends "$1" sh -e commands)
+}
+ci 0
+grep -q 'tests="2" failures="0"' "$work/ci/models.xml" || fail "the tests of a CI file: $(cat "$work/ci/models.xml")"
+sed '$d' "$work/ci/scripts/labels.txt" >"$work/ci/scripts/cut.txt"
+cp "$top/tests/collection/plain/labels.smt2" "$work/ci/scripts/cut.smt2"
+ci 0
+cp "$top/tests/collection/plain/colours, one changed.smt2" "$work/ci/scripts/wrong.smt2"
+cp "$top/tests/collection/plain/colours, one changed.txt" "$work/ci/scripts/wrong.txt"
+ci 1
+
 # A line of progress, on a terminal alone.
 python3 - "$all" "$work/forty/1" <<'END' || fail 'the line of progress'
 import os, pty, subprocess, sys, tempfile
