@@ -139,8 +139,8 @@ PRINT_SUCCESS=off ends 5 "$one" "$work/named" plain/labels.smt2
 says 'has the rows of another run'
 PRINT_SUCCESS=on ends 0 "$one" "$work/named_on" plain/labels.smt2
 [ "$(fields "$work/named_on/plain/labels.smt2.row" 9)" = 'fault P2 at command 1, answer 1' ] || fail "success on: $(cat "$work/named_on/plain/labels.smt2.row")"
-SMTCHECK_OPTIONS=--solver=smtinterpol ends 0 "$one" "$work/other" plain/labels.smt2
-[ "$(fields "$work/other/plain/labels.smt2.row" 9)" = 'fault P2 at command 1, answer 1' ] || fail "--solver=smtinterpol: $(cat "$work/other/plain/labels.smt2.row")"
+SMTCHECK_OPTIONS=--solver=smtinterpol ends 0 "$one" "$work/smtinterpol" plain/labels.smt2
+[ "$(fields "$work/smtinterpol/plain/labels.smt2.row" 9)" = 'fault P2 at command 1, answer 1' ] || fail "--solver=smtinterpol: $(cat "$work/smtinterpol/plain/labels.smt2.row")"
 (cd "$work" && ends 0 "$top/collections/taken.sh" push.smt2)
 export SMTCHECK_OPTIONS='--steps 0'
 ends 0 "$one" "$work/steps" plain/sudoku.smt2
