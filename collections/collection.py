@@ -26,8 +26,8 @@ ENVIRONMENT = """
 The environment says the rest:
 
   SMTCHECK          the program                                (smtcheck)
-  PRINT_SUCCESS     on or off, its option --print-success      (off)
-  SMTCHECK_OPTIONS  its other options, as '--profile wide'     (none; spaces separate them, quotes are not read)
+  PRINT_SUCCESS     on or off, its option --print-success      (off, or as --solver in SMTCHECK_OPTIONS sets it)
+  SMTCHECK_OPTIONS  its other options, as '--solver z3'        (none; spaces separate them, quotes are not read)
   SOLVER            the solver's command, as 'z3 -smt2'        (none: the answers are in .txt beside the script)
   SOLVER_SECONDS    how long the solver may run                (60)
   CHECK_SECONDS     how long the check may run                 (60)
@@ -67,7 +67,8 @@ class Settings(NamedTuple):
     """What the environment says."""
 
     program: str
-    print_success: str
+    success: List[str]
+    """the words that say whether the solver prints `success`, if PRINT_SUCCESS or its default says it"""
     options: List[str]
     solver: List[str]
     solver_seconds: str
@@ -98,23 +99,32 @@ def options_of_smtcheck() -> List[str]:
     return options
 
 
+def success_of(options: Sequence[str]) -> List[str]:
+    """The words that say whether the solver prints `success`; none where PRINT_SUCCESS does not say it and the options name the solver."""
+    said = os.environ.get("PRINT_SUCCESS")
+    if not said and any(option.split("=")[0] == "--solver" for option in options):
+        return []
+    if said not in (None, "", "on", "off"):
+        raise Refused(f"PRINT_SUCCESS is {said}, and not on or off")
+    return ["--print-success", said or "off"]
+
+
 def settings() -> Settings:
     """What the environment says, with what holds where it says nothing."""
+    options = options_of_smtcheck()
     try:
         solver = shlex.split(os.environ.get("SOLVER", ""))
     except ValueError as error:
         raise Refused(f"SOLVER: {error}") from error
     given = Settings(
         os.environ.get("SMTCHECK") or "smtcheck",
-        os.environ.get("PRINT_SUCCESS") or "off",
-        options_of_smtcheck(),
+        success_of(options),
+        options,
         solver,
         os.environ.get("SOLVER_SECONDS") or "60",
         os.environ.get("CHECK_SECONDS") or "60",
         os.environ.get("MEMORY_KB") or "",
     )
-    if given.print_success not in ("on", "off"):
-        raise Refused(f"PRINT_SUCCESS is {given.print_success}, and not on or off")
     for name, value in (("SOLVER_SECONDS", given.solver_seconds), ("CHECK_SECONDS", given.check_seconds), ("MEMORY_KB", given.memory or "1")):
         if not re.fullmatch(r"[1-9][0-9]*", value):
             raise Refused(f"{name} is {value}, and no number")
@@ -245,7 +255,7 @@ def same_run(results: str, given: Settings, version: str) -> None:
     try:
         wanted = f"program: {version}\nsha256: {checksum_of(given.program)}\nsolver: {shlex.join(given.solver) or '-'}\n"
         wanted += f"solver version: {version_of_solver(given)}\n"
-        wanted += f"print-success: {given.print_success}\noptions: {' '.join(given.options) or '-'}\n"
+        wanted += f"print-success: {given.success[-1] if given.success else 'as --solver'}\noptions: {' '.join(given.options) or '-'}\n"
         wanted += f"seconds: {given.solver_seconds} for the solver, {given.check_seconds} for the check\nmemory: {given.memory or '-'} kB\n"
         os.makedirs(results, exist_ok=True)
         if not os.path.exists(name):
@@ -409,7 +419,7 @@ class Folder:
                 return solver, None
         with tempfile.TemporaryDirectory() as folder:
             texts = [named(script, folder, "script.smt2"), named(answers, folder, "answers.txt")]
-            words = [given.program, "--print-success", given.print_success, *given.options, *texts]
+            words = [given.program, *given.success, *given.options, *texts]
             return solver, PROGRAMS.run(words, path + ".report", path + ".errors", given.check_seconds, given.memory)
 
     def keeps(self, solver: Optional[Ran], check: Optional[Ran]) -> bool:

@@ -60,11 +60,11 @@ END { describe() }
 '
 cat <<'END'
 .SH EXAMPLES
-z3 prints no \(gasuccess\(ga unless it is told to:
+For what z3 prints unless it is told otherwise:
 .sp
 .nf
 z3 script.smt2 > answers.txt
-smtcheck \-\-print\-success off script.smt2 answers.txt
+smtcheck \-\-solver z3 script.smt2 answers.txt
 .fi
 .SH PROFILES
 What \-\-profile wide takes beside the language of \-\-profile base, and what is said of it there. LANGUAGE.md has the rest.

@@ -24,6 +24,7 @@ for options, wanted in (
     ([], ["p", "--print-success", "off", "a/b.smt2", "a/b.txt"]),
     (["--answers", "c", "--steps", "5"], ["p", "--steps", "5", "--print-success", "off", "a/b.smt2", "c"]),
     (["--print-success=on", "--answers=c"], ["p", "--print-success=on", "a/b.smt2", "c"]),
+    (["--solver", "z3"], ["p", "--solver", "z3", "a/b.smt2", "a/b.txt"]),
 ):
     assert tool.cmdline("p", options, task, None) == wanted, options
 wanted = {"levels/bmc": "true", "plain/unsat": "done", "plain/colours, one changed": "false", "plain/labels": "unknown", "plain/reals": "ERROR (fault C5)", "plain/none": "ERROR (status 4)"}

@@ -130,6 +130,18 @@ echo '(set-logic QF_BV)(push)(check-sat)(pop)' >"$work/push.smt2"
 (cd "$work" && ends 0 "$top/collections/taken.sh" push.smt2)
 SMTCHECK_OPTIONS='--profile base' ends 5 "$one" "$work/wide" plain/unsat.smt2
 says 'has the rows of another run: there `options: --profile wide`, now `options: --profile base`'
+# With `--solver` the program knows whether it prints `success`, unless PRINT_SUCCESS says it.
+export SMTCHECK_OPTIONS='--solver z3'
+ends 0 "$one" "$work/named" plain/labels.smt2
+[ "$(fields "$work/named/plain/labels.smt2.row" 3-5)" = '0	valid	1' ] || fail "--solver z3: $(cat "$work/named/plain/labels.smt2.row")"
+grep -qx 'print-success: as --solver' "$work/named/run.txt" || fail "the options of a run: $(cat "$work/named/run.txt")"
+PRINT_SUCCESS=off ends 5 "$one" "$work/named" plain/labels.smt2
+says 'has the rows of another run'
+PRINT_SUCCESS=on ends 0 "$one" "$work/named_on" plain/labels.smt2
+[ "$(fields "$work/named_on/plain/labels.smt2.row" 9)" = 'fault P2 at command 1, answer 1' ] || fail "success on: $(cat "$work/named_on/plain/labels.smt2.row")"
+SMTCHECK_OPTIONS=--solver=smtinterpol ends 0 "$one" "$work/smtinterpol" plain/labels.smt2
+[ "$(fields "$work/smtinterpol/plain/labels.smt2.row" 9)" = 'fault P2 at command 1, answer 1' ] || fail "--solver=smtinterpol: $(cat "$work/smtinterpol/plain/labels.smt2.row")"
+(cd "$work" && ends 0 "$top/collections/taken.sh" push.smt2)
 export SMTCHECK_OPTIONS='--steps 0'
 ends 0 "$one" "$work/steps" plain/sudoku.smt2
 [ "$(fields "$work/steps/plain/sudoku.smt2.row" 4,9 | sed 's/ at command.*: /: /')" = 'not decided	check 1: too long' ] ||
@@ -426,6 +438,27 @@ wait "$running" || status=$?
 ! kill -0 "$(cat asleep)" 2>/dev/null || fail 'the solver of a run that is stopped runs on'
 touch awake
 SOLVER="$work/waiting" ends 0 "$all" waited wait
+
+# The commands of a CI file, as EMBEDDING has it: a refuted model fails, and refused answers do not.
+mkdir -p "$work/ci/bin" "$work/ci/scripts"
+ln -s "$top/collections" "$work/ci/collections"
+ln -s "$SMTCHECK" "$work/ci/bin/smtcheck"
+printf '#!/bin/sh\ncat "${1%%.smt2}.txt"\n' >"$work/ci/bin/z3"
+chmod +x "$work/ci/bin/z3"
+cp "$top"/tests/collection/plain/labels.* "$top"/tests/collection/plain/unsat.* "$work/ci/scripts"
+sed -n '/^```yaml$/,/^```$/s/^    - \([Sc].*\)$/\1/p' "$top/docs/EMBEDDING.md" >"$work/ci/commands"
+[ "$(wc -l <"$work/ci/commands")" = 2 ] || fail "the CI file: $(cat "$work/ci/commands")"
+ci() {
+    (cd "$work/ci" && unset SMTCHECK && PATH=$work/ci/bin:$PATH ends "$1" sh -e commands)
+}
+ci 0
+grep -q 'tests="2" failures="0"' "$work/ci/models.xml" || fail "the tests of a CI file: $(cat "$work/ci/models.xml")"
+sed '$d' "$work/ci/scripts/labels.txt" >"$work/ci/scripts/cut.txt"
+cp "$top/tests/collection/plain/labels.smt2" "$work/ci/scripts/cut.smt2"
+ci 0
+cp "$top/tests/collection/plain/colours, one changed.smt2" "$work/ci/scripts/wrong.smt2"
+cp "$top/tests/collection/plain/colours, one changed.txt" "$work/ci/scripts/wrong.txt"
+ci 1
 
 # A line of progress, on a terminal alone.
 python3 - "$all" "$work/forty/1" <<'END' || fail 'the line of progress'

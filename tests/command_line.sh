@@ -1,10 +1,11 @@
 #!/bin/sh
-# Runs the program on command lines: which files, which `--print-success` and which `--profile` they name, which `--steps` they may name, what
-# `--explain` and `--strict` change, or how they are refused, to the byte. Needs what `rt ci` has built. Says nothing where all is well.
+# Runs the program on command lines: which files, which `--solver`, `--print-success` and `--profile` they name, which `--steps` they may name,
+# what `--explain`, `--hints` and `--strict` change, or how they are refused, to the byte. Needs what `rt ci` has built, and Python 3 for a
+# terminal. Says nothing where all is well.
 set -e
 cd "$(dirname "$0")/.."
 top=$PWD
-program=$top/crates/smtcheck/out/smtcheck
+program=${SMTCHECK:-$top/crates/smtcheck/out/smtcheck}
 work=$(mktemp -d)
 trap 'rm -rf "$work"' EXIT
 cd "$work"
@@ -60,6 +61,18 @@ named 'a b --profile wide' a b on
 named '--print-success off --profile wide --steps 5 a b' a b off
 named 'a --profile=base --print-success=off b' a b off
 named '-- --profile=wide b' --profile=wide b on
+for solver in z3 cvc5 cvc4 bitwuzla boolector; do
+    named "--solver $solver a b" a b off
+    named "a b --solver=$solver" a b off
+    named "--solver $solver --print-success on a b" a b on
+    named "--print-success on a --solver $solver b" a b on
+    named "--profile base --solver $solver a b" a b off
+done
+named '--solver smtinterpol a b' a b on
+named '--print-success=off --solver=smtinterpol a b' a b off
+named '-- --solver=z3 b' --solver=z3 b on
+named '--hints on --steps 5 --explain --profile wide --print-success off a b --solver smtinterpol' a b off
+for words in '--hints on' '--hints off' '--hints=on' '--hints=off'; do named "a $words b" a b on; done
 named '--explain a b' a b on
 named 'a b --explain' a b on
 named '--explain --print-success off --steps 5 a b' a b off
@@ -78,6 +91,12 @@ profile 3 '--profile base'
 profile 3 '--profile=base'
 profile 0 '--profile wide'
 profile 0 '--profile=wide'
+for solver in z3 cvc5 cvc4 bitwuzla boolector smtinterpol; do
+    profile 0 "--solver $solver"
+    profile 0 "--profile wide --solver $solver"
+    profile 3 "--profile base --solver $solver"
+    profile 3 "--solver $solver --profile base"
+done
 rm -f ./*
 
 # strict WANTED SCRIPT ANSWERS: with --strict the status is this one, the report stays, and without it the status is 0 in place of 2.
@@ -151,6 +170,32 @@ hinted 'on --profile wide' - '(push)(minimize c)' 'success'
 deep=$(printf '%01100d' 0)
 hinted on 'profile wide takes' "(assert $(echo "$deep" | sed 's/0/(not /g') true $(echo "$deep" | sed 's/0/)/g'))(check-sat)" 'success unsat'
 hinted on - "(assert $(echo "$deep" | sed 's/0/(not /g') true)" 'success unsat'
+rm -f ./*
+
+# hint WANTED LINE: with this line standard error is a hint, or nothing; not a terminal, and then a terminal.
+printf 'sat' >answers
+printf '(set-logic ALL)(check-sat)' >script
+hint() {
+    run "$3 script answers"
+    [ "$status" = 3 ] && [ "$(grep -c '^hint: ' errors)" = "$1" ] || fail "$3"
+    seen=$(python3 -c '
+import os, pty, subprocess, sys
+ours, theirs = pty.openpty()
+ran = subprocess.run(sys.argv[1:], stdout=subprocess.DEVNULL, stderr=theirs)
+os.close(theirs)
+try:
+    said = os.read(ours, 4096)
+except OSError:
+    said = b""
+print(ran.returncode, said.count(b"hint: "))' "$program" $3 script answers)
+    [ "$seen" = "3 $2" ] || fail "$3: on a terminal $seen"
+}
+hint 0 1 ''
+hint 1 1 '--explain'
+hint 1 1 '--hints on'
+hint 1 1 '--hints=on --explain'
+hint 0 0 '--hints off'
+hint 0 0 '--explain --hints off'
 rm -f ./*
 
 # refused LINE: the line is refused by the text on standard input, whole, with no report.
@@ -227,6 +272,42 @@ error: a value is required for '--profile <base|wide>' but none was supplied
 For more information, try '--help'.
 END
 done
+for value in yes OFF; do
+    refused "--hints $value a b" <<END
+error: invalid value '$value' for '--hints <on|off>'
+  [possible values: on, off]
+
+For more information, try '--help'.
+END
+done
+for line in 'a b --hints' '--hints= a b'; do
+    refused "$line" <<'END'
+error: a value is required for '--hints <on|off>' but none was supplied
+  [possible values: on, off]
+
+For more information, try '--help'.
+END
+done
+refused '--solver yices a b' <<'END'
+error: invalid value 'yices' for '--solver <NAME>'
+  [possible values: z3, cvc5, cvc4, bitwuzla, boolector, smtinterpol]
+
+For more information, try '--help'.
+END
+refused '--solver Z3 a b' <<'END'
+error: invalid value 'Z3' for '--solver <NAME>'
+  [possible values: z3, cvc5, cvc4, bitwuzla, boolector, smtinterpol]
+
+For more information, try '--help'.
+END
+for line in 'a b --solver' '--solver= a b'; do
+    refused "$line" <<'END'
+error: a value is required for '--solver <NAME>' but none was supplied
+  [possible values: z3, cvc5, cvc4, bitwuzla, boolector, smtinterpol]
+
+For more information, try '--help'.
+END
+done
 for line in 'a b --print-success' '--print-success= a b'; do
     refused "$line" <<'END'
 error: a value is required for '--print-success <on|off>' but none was supplied
@@ -296,6 +377,9 @@ twice --print-success 'on|off' on on
 twice --print-success 'on|off' on off
 twice --profile 'base|wide' wide base
 twice --profile 'base|wide' wide wide
+twice --solver NAME z3 z3
+twice --solver NAME z3 cvc5
+twice --hints 'on|off' off on
 
 # helped LINE: the line asks for help, which is printed with status 5.
 cat >wanted <<'END'
@@ -313,6 +397,9 @@ Arguments:
           what the solver printed
 
 Options:
+      --solver <NAME>
+          Which solver printed ANSWERS: z3, cvc5, cvc4, bitwuzla, boolector or smtinterpol. Where --profile is not given, it is wide; where --print-success is not given, it is what the solver does by default: on for smtinterpol, and off for the others.
+
       --print-success <on|off>
           Whether the solver prints `success`, from the start, for each command that has no answer of its own.
           
@@ -345,6 +432,9 @@ Options:
           
           The report and the status stay the same. Both texts are kept in memory until then.
 
+      --hints <on|off>
+          Whether standard error gets a hint at a usual mistake, as at exchanged files or a missing option. Without this option there are hints where standard error is a terminal, and with --explain.
+
       --strict
           End with status 2 in place of 0 where a check was answered otherwise than by a confirmed `sat`, or where there is no check. The report stays the same.
 
@@ -362,13 +452,14 @@ The last line of the report is the verdict, and the exit status says the same:
   4  a file could not be opened, read or written, or memory was refused: standard error says which
   5  the command line was refused, or help was asked for
 
-A fault is named by a letter and a number: the manual page and docs/LANGUAGE.md say what each means, its likely cause, and what to do. Seen most often is `fault P2 at command 1, answer 1`: the solver prints no `success`, and --print-success off is missing.
+A fault is named by a letter and a number: the manual page and docs/LANGUAGE.md say what each means, its likely cause, and what to do. Seen most often is `fault P2 at command 1, answer 1`: the solver prints no `success`, and --solver or --print-success off is missing.
 END
 run --help
 [ "$status" = 5 ] && [ ! -s errors ] && cmp -s wanted output || fail --help
 run 'a b -h'
 [ "$status" = 5 ] && [ ! -s errors ] && grep -q '^Usage: smtcheck' output || fail 'a b -h'
 grep -qxF '      --profile <base|wide>     which language is taken [default: base]' output || fail 'a b -h'
+grep -qxF '      --print-success <on|off>  whether the solver printed `success` from the start [default: on]' output || fail 'a b -h'
 grep -qxF '      --steps <N>               how many steps the evaluation of a model may take [default: 10000000]' output || fail 'a b -h'
 
 # The version is that of CHANGELOG.md, and the kit is the one that is here.

@@ -41,7 +41,7 @@ explains X3 off '(assert
 explains X3 off '(echo "a' '' 'fault: s:1:9: the text ends here' '  not ended: the string or quoted symbol at s:1:7: "a' \
     '  open: the list at s:1:1: (echo "a'
 explains X3 off "$asked" 'sat (
-  (define-fun p' 'check 1: s:1:33, command 3: (check-sat)' '  no model: no (get-model) behind it was answered by a list before the next check or change' \
+  (define-fun p' 'check 1: s:1:33, command 3: (check-sat)' '  no model: no (get-model) was answered by a model before the next check or change' \
     'fault: a:2:16: the text ends here' '  open: the list at a:2:3: (define-fun p' '  open: the outermost list at a:1:5: ('
 
 # ---- commands
@@ -162,7 +162,7 @@ explains F8 off "$asked" 'sat ((define-fun p () Bool (! true :named b)))' "$chec
 general='  it needs success, unsupported or an error, since success is printed there'
 explains P1 on '(set-logic QF_UF)' '' 'fault: s:1:1, command 1: (set-logic QF_UF)' "$general" '  the answers end at a:1:1'
 explains P1 off "$asked" 'sat
-' "$check" '  no model: no (get-model) behind it was answered by a list before the next check or change' \
+' "$check" '  no model: no (get-model) was answered by a model before the next check or change' \
     'fault: s:1:44, command 4: (get-model)' '  it needs a list, a model or an error, or unsupported' '  the answers end at a:2:1'
 explains 'P2 at command 1, answer 1' on "$asked" "$model" 'fault: s:1:1, command 1: (declare-const p Bool)' "$general" '  the next answer: a:1:1: sat'
 explains 'P2 at the first check-sat, answer 1' off "$asked" 'success' 'fault: s:1:33, command 3: (check-sat)' \
@@ -177,7 +177,7 @@ explains P3 off "$asked" "$model sat" 'fault: a:1:35: sat' '  every command has 
 # ---- checks
 explains - off "$asked" 'unsat (error "")' "$check" '  answer: a:1:1: unsat'
 explains - off '(declare-const p Bool)(assert p)(check-sat)' 'sat' "$check" \
-    '  no model: no (get-model) behind it was answered by a list before the next check or change'
+    '  no model: no (get-model) was answered by a model before the next check or change'
 explains - off "$asked" 'sat ()' "$check" '  lacks: s:1:1, command 1: (declare-const p Bool)' '  model: a:1:5'
 explains - off '(declare-const x Int)(assert (or (= x 1) (< (div 1 x) 5)))(check-sat)(get-model)' 'sat ((define-fun x () Int 0))' \
     'check 1: s:1:59, command 3: (check-sat)' '  claim: s:1:22, command 2: (assert (or (= x 1) (< (div 1 x) 5)))' \

@@ -1,8 +1,10 @@
 #!/usr/bin/env python3
 """Tests bindings/python/smtcheck.py over the shared library that SMTCHECK_LIBRARY names: python_module.py. Says nothing where all is well."""
+import importlib.util
 import json
 import os
 import pathlib
+import shlex
 import subprocess
 import sys
 import tempfile
@@ -23,6 +25,12 @@ def run(*words: str, output: object = subprocess.PIPE, given: str = "", **variab
     return subprocess.run([sys.executable, "-m", "smtcheck", *words], stdout=output, stderr=subprocess.PIPE, cwd=BINDING, env=environment, input=given.encode())  # type: ignore[call-overload, no-any-return]
 
 
+def examples(language: str) -> "list[str]":
+    """The blocks of a language that EMBEDDING has."""
+    page = (TOP / "docs" / "EMBEDDING.md").read_text()
+    return [block.split("\n```", 1)[0] for block in page.split(f"\n```{language}\n")[1:]]
+
+
 class Files(unittest.TestCase):
     """Tests with two files."""
 
@@ -33,6 +41,46 @@ class Files(unittest.TestCase):
         self.files = [str(self.folder / name) for name in ("script.smt2", "answers.txt")]
         for file, text in zip(self.files, (SCRIPT, WRONG)):
             pathlib.Path(file).write_text(text)
+
+
+class Examples(Files):
+    """The examples of EMBEDDING for tests, over a solver that prints what is kept beside each script."""
+
+    def setUp(self) -> None:
+        super().setUp()
+        for folder in ("bin", "scripts"):
+            (self.folder / folder).mkdir()
+        for name, text in (("z3", 'cat "${1%.smt2}.txt"'), ("smtcheck", f'exec "{sys.executable}" "{BINDING}/smtcheck.py" "$@"')):
+            (self.folder / "bin" / name).write_text(f"#!/bin/sh\n{text}\n")
+            (self.folder / "bin" / name).chmod(0o755)
+        self.scripts = [self.folder / "scripts" / f"{name}.smt2" for name in ("one", "two words")]
+        self.write(RIGHT, RIGHT)
+
+    def write(self, *answers: str) -> None:
+        for script, text in zip(self.scripts, answers):
+            script.write_text(SCRIPT)
+            script.with_suffix(".txt").write_text(text)
+
+    def status(self, words: "list[str]") -> int:
+        path = f"{self.folder / 'bin'}:{os.environ['PATH']}"
+        variables = {**os.environ, "PATH": path, "PYTHONPATH": str(BINDING)}
+        return subprocess.run(words, cwd=self.folder, env=variables, stdout=subprocess.DEVNULL).returncode
+
+    def test_pre_commit(self) -> None:
+        (entry,) = [line.split("entry: ", 1)[1] for block in examples("yaml") for line in block.split("\n") if "entry: " in line]
+        line = [*shlex.split(entry), *map(str, self.scripts)]
+        self.assertEqual(self.status(line), 0)
+        for answers in ((WRONG, RIGHT), (RIGHT, WRONG)):
+            self.write(*answers)
+            self.assertEqual(self.status(line), 1, answers)
+
+    @unittest.skipUnless(importlib.util.find_spec("pytest"), "pytest is not installed")
+    def test_pytest(self) -> None:
+        (self.folder / "test_models.py").write_text(examples("python")[0])
+        line = [sys.executable, "-m", "pytest", "-q", "-p", "no:cacheprovider", "test_models.py"]
+        self.assertEqual(self.status(line), 0)
+        self.write(RIGHT, WRONG)
+        self.assertEqual(self.status(line), 1)
 
 
 class Main(Files):
@@ -82,6 +130,18 @@ class Main(Files):
             self.assertEqual(run(*line).returncode, 5, line)
         self.told(5, "given twice", "--print-success", "on", "--print-success", "on", *self.files)
         self.assertEqual(run("--profile", "Wide", *self.files).returncode, 5)
+
+    def test_the_solver(self) -> None:
+        for file, text in zip(self.files, ("(push)", "")):
+            pathlib.Path(file).write_text(text)
+        for solver in smtcheck.SOLVERS:
+            is_on = solver == "smtinterpol"
+            for words, status in (((), 3 if is_on else 0), (("--print-success=off",), 0), (("--print-success=on",), 3), (("--profile=base",), 3)):
+                for line in ((*words, "--solver", solver), (f"--solver={solver}", *words, "--hints", "on")):
+                    self.assertEqual(run(*line, *self.files).returncode, status, line)
+        self.told(5, "given twice", "--solver", "z3", "--solver", "z3", *self.files)
+        self.assertEqual(run("--solver", "yices", *self.files).returncode, 5)
+        self.assertIn(b"`-`", run("--help").stdout)
 
     def test_the_profile(self) -> None:
         for file, text in zip(self.files, ("(push)", "")):
@@ -231,6 +291,14 @@ class Explanations(unittest.TestCase):
         self.assertEqual((part.term, part.within, part.spot), ("(= x false)", "not-so", smtcheck.Spot("script", 2, 1)))
         self.assertEqual(part.values, (smtcheck.Value("x", ("|a, b = c|",), "true"),))
         self.assertEqual(part.items, (smtcheck.Item("|a, b = c|", smtcheck.Spot("answers", 1, 6)),))
+
+    def test_names_of_items(self) -> None:
+        """Whatever stands between a name's bars, it makes no other item, and stays as it is."""
+        for name in ("|f(x1, y2)|", "|a at answers:1:1, b|", "|a  b|", "|a\tb|", "|" + "long " * 40 + "|", "|\u00e9|", "x"):
+            script = f"(declare-const {name} Bool)(assert (not {name}))(check-sat)(get-model)"
+            answers = f"sat (\n ; (define-fun y\n  (define-fun ; here\n {name} () Bool true))"
+            (told,) = smtcheck.explain(script, answers, print_success=False).told
+            self.assertEqual([item for part in told.parts for item in part.items], [smtcheck.Item(name, smtcheck.Spot("answers", 3, 3))])
 
     def test_an_open_claim(self) -> None:
         script = "(declare-const x Int)(assert (< (div 1 x) 5))(check-sat)(get-model)"

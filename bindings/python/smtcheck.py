@@ -46,16 +46,17 @@ import operator
 import os
 import re
 import sys
-from typing import Callable, Iterator, List, NamedTuple, NoReturn, Optional, Sequence, Tuple, Union
+from typing import Callable, Dict, Iterator, List, NamedTuple, NoReturn, Optional, Sequence, Tuple, Union
 
 __all__ = [
-    "Detail", "Explained", "Explanation", "Item", "LibraryError", "Line", "PROFILES", "Part", "Place", "Report", "STEPS", "Session", "Spot",
-    "VERDICTS", "Value", "VerdictError", "check", "check_files", "explain", "explanation_of", "line_of", "main", "version",
+    "Detail", "Explained", "Explanation", "Item", "LibraryError", "Line", "PROFILES", "Part", "Place", "Report", "SOLVERS", "STEPS", "Session",
+    "Spot", "VERDICTS", "Value", "VerdictError", "check", "check_files", "explain", "explanation_of", "line_of", "main", "version",
 ]
 __version__ = "0.9.0"
 
 VERDICTS = ("valid", "invalid", "not decided", "refused")
 PROFILES = ("base", "wide")
+SOLVERS = ("z3", "cvc5", "cvc4", "bitwuzla", "boolector", "smtinterpol")
 MEMORY, OPTIONS, OPEN, LONG = 4, 5, 6, 7
 STEPS = 10_000_000
 
@@ -447,7 +448,8 @@ def explain(script: Text, answers: Text, print_success: bool = True, steps: int 
     options = _options_of(print_success, steps, profile)
     texts = [_bytes_of(script, "script"), _bytes_of(answers, "answers")]
     outcome, text = _filled(lambda *room: _library().smtcheck_explain(texts[0], len(texts[0]), texts[1], len(texts[1]), options, *room))
-    return Explanation(VERDICTS[outcome], explanation_of(text), text)
+    told = _with_names(explanation_of(text), {"script": texts[0], "answers": texts[1]})
+    return Explanation(VERDICTS[outcome], told, text)
 
 
 def check_files(script: Path, answers: Path, print_success: bool = True, steps: int = STEPS, profile: str = "base") -> Report:
@@ -636,7 +638,9 @@ _TOLD = re.compile(rf"(?:check (\d+)|fault): {_SPOT}(?:, command (\d+))?(?:: (.*
 _PART = re.compile(rf"  (true|false|open|value): (?!the (?:outermost )?list at )(.*?)(?:   at {_SPOT}, in (.*))?")
 _DETAIL = re.compile(rf"  ([a-z][a-z ]*?(?:,? \d+)?)(?:: the [a-z ]+)?(?:: | at ){_SPOT}(?:, command (\d+))?(?:: (.*))?")
 _NAMED = re.compile(r"  (unknown|bound twice|claim|also false|too long|no model|ill sorted|parameters declared): (.*)")
-_ITEM = re.compile(rf"(.*) at {_SPOT}")
+_AT = re.compile(rf" at {_SPOT}(?=, |$)")
+_DEFINED = re.compile(rb"\((?:\s|;[^\n\r]*)*[^\s()|;\"]+(?:\s|;[^\n\r]*)*(?:\|([^|]*)\||([^\s()|;\"]+))")
+_SIMPLE = re.compile(r"[A-Za-z~!@$%^&*_+=<>.?/-][0-9A-Za-z~!@$%^&*_+=<>.?/-]*")
 _TOKEN = re.compile(r'\|[^|]*\||"[^"]*"|[()]|[^\s()|",]+|\s')
 
 
@@ -680,13 +684,41 @@ def _values_of(text: str) -> "Tuple[Value, ...]":
 
 
 def _items_of(text: str) -> "Tuple[Item, ...]":
-    """The items of a line, as far as they stand there whole."""
-    items = []
-    for each in re.split(r"(?<=\d), ", text):
-        found = _ITEM.fullmatch(each)
-        if found and len(text) + 11 < _WIDTH:
-            items.append(Item(found.group(1), Spot(found.group(2), int(found.group(3)), int(found.group(4)))))
-    return tuple(items)
+    """The items of a line, as far as they stand there whole: each a symbol, whose bars may hold anything, and its place."""
+    items: List[Item] = []
+    place = 0
+    while True:
+        token = _TOKEN.match(text, place)
+        found = _AT.match(text, token.end()) if token else None
+        # (the last place of a line that is full may be cut)
+        if token is None or found is None or (found.end() == len(text) and len(text) + 11 >= _WIDTH):
+            return tuple(items)
+        items.append(Item(token.group(), Spot(found.group(1), int(found.group(2)), int(found.group(3)))))
+        place = found.end() + 2
+
+
+def _name_at(text: bytes, spot: Spot) -> Optional[str]:
+    """The name of the item that stands there in a text, which a line of an explanation may show in part."""
+    place = 0
+    for _ in range(spot.line - 1):
+        place = text.find(b"\n", place) + 1
+    found = _DEFINED.match(text, place + spot.column - 1)
+    if found is None:
+        return None
+    name = (found.group(2) if found.group(1) is None else found.group(1)).decode("utf-8", "surrogateescape")
+    return name if _SIMPLE.fullmatch(name) else f"|{name}|"
+
+
+def _with_names(told: "Tuple[Explained, ...]", texts: "Dict[str, bytes]") -> "Tuple[Explained, ...]":
+    """The explanation with the whole name of each item."""
+
+    def named(item: Item) -> Item:
+        return item._replace(name=_name_at(texts[item.spot.text], item.spot) or item.name)
+
+    def whole(part: Part) -> Part:
+        return part._replace(items=tuple(named(item) for item in part.items))
+
+    return tuple(each._replace(parts=tuple(whole(part) for part in each.parts)) for each in told)
 
 
 def _with_line(part: Part, text: str) -> Part:
@@ -785,12 +817,14 @@ def _print(text: str) -> bool:
 def main(words: Optional[Sequence[str]] = None) -> int:
     """The program: prints the report on two files, and answers its exit status. It answers 0 to 3 only behind a whole report."""
     parser = _Parser("smtcheck", description="Checks the models that an SMT solver printed.", allow_abbrev=False)
-    parser.add_argument("script", metavar="SCRIPT", help="the script that the solver read")
+    parser.add_argument("script", metavar="SCRIPT", help="the script that the solver read; one of the two files may be `-`, standard input")
     parser.add_argument("answers", metavar="ANSWERS", help="what the solver printed")
-    parser.add_argument("--print-success", action=_Once, choices=("on", "off"), default="on", help="whether it prints `success`, from the start")
-    parser.add_argument("--profile", action=_Once, choices=PROFILES, default="base", help="which language is taken")
+    parser.add_argument("--solver", action=_Once, choices=SOLVERS, help="which solver printed it: sets the next two, where they are not given")
+    parser.add_argument("--print-success", action=_Once, choices=("on", "off"), help="whether it prints `success`, from the start (on)")
+    parser.add_argument("--profile", action=_Once, choices=PROFILES, help="which language is taken (base)")
     parser.add_argument("--steps", action=_Once, metavar="N", type=_steps, default=STEPS, help="how many steps the evaluation of a model may take")
     parser.add_argument("--explain", action="store_true", help="tells behind the report where and why, and calls the files `script` and `answers`")
+    parser.add_argument("--hints", action=_Once, choices=("on", "off"), help="changes nothing: only the program has hints")
     parser.add_argument("--strict", action="store_true", help="ends with 2 in place of 0 unless each check is confirmed, and there is one")
     parser.add_argument("-V", "--version", action="store_true", help="prints the version")
     try:
@@ -808,7 +842,8 @@ def main(words: Optional[Sequence[str]] = None) -> int:
             except (OSError, ValueError) as error:
                 told = getattr(error, "strerror", None) or error
                 return _said(name, f"{'standard input' if path == '-' else path}: {told}")
-        options = given.print_success == "on", given.steps, given.profile
+        prints_success = given.print_success or ("on" if given.solver in (None, "smtinterpol") else "off")
+        options = prints_success == "on", given.steps, given.profile or ("wide" if given.solver else "base")
         report = check(texts[0], texts[1], *options)
         explanation = explain(texts[0], texts[1], *options).text if given.explain else ""
         if not _print(report.text + explanation):

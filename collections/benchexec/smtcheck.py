@@ -39,7 +39,7 @@ class Tool(benchexec.tools.template.BaseTool2):
                 others.append(word)
         if answers is None:
             answers = re.sub(r"\.smt2$", "", script) + ".txt"
-        if not any(word.split("=")[0] == "--print-success" for word in others):
+        if not any(word.split("=")[0] in ("--print-success", "--solver") for word in others):
             others += ["--print-success", "off"]
         return [executable, *others, script, answers]
 

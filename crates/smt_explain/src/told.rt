@@ -128,7 +128,7 @@ fn tell_line(
         Line::NoModel { check, command } => {
             tell_check(page, dialogue, check, command)?;
             page.line(
-                b"  no model: no (get-model) behind it was answered by a list before the next check or change",
+                b"  no model: no (get-model) was answered by a model before the next check or change",
             )
         }
         Line::ItemFault { check, command, .. }

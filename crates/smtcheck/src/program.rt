@@ -21,7 +21,8 @@ const REFUSED: u8 = 5;
 
 /// Runs the program, and returns its exit status: 0 to 3 by the verdict, and 4 where there is no report. It is 5
 /// where the command line was refused or asked for help, and 0 where it asked for the version. The program hints at
-/// a usual mistake on standard error if that is a terminal, or if the command line asks for an explanation.
+/// a usual mistake on standard error as the command line says; else if that is a terminal, or an explanation is
+/// asked for.
 pub(crate) fn run_program<R: Files + Env + Input + AllocGlobal + Print + Eprint>(
     rt: &R,
     on_terminal: bool,
@@ -61,7 +62,8 @@ fn run_settings<R: Files + Input + AllocGlobal + Print + Eprint>(
 ) -> u8
     requires { settings.steps < 2 ^ 64 - 1 }
 {
-    match run(rt, settings, settings.explain || on_terminal) {
+    let hints = settings.hints.unwrap_or(settings.explain || on_terminal);
+    match run(rt, settings, hints) {
         Ok(ran) => {
             tell_beside(rt, ran);
             if settings.strict {

@@ -1,4 +1,5 @@
 pub mod ClapLemmas
 pub mod DefaultLemmas
+pub mod RowLemmas
 pub mod SettingsLemmas
 pub mod WordRuleLemmas

@@ -1,34 +1,40 @@
--- What clap's definition says of the program's command on two words that begin with no hyphen, alone or
--- behind the options with their words.
-use Rattle.std.proofs.Common.{◌≡◌, ◌<◌, ◌∙◌, ◌==◌, ◌&&◌, ◌||◌, ◌++◌, ℕ, Bool, List, [], ◌∷◌, ap, true, false}
+-- What clap's definition says of the program's command on any of its options, and two words that begin with no
+-- hyphen.
+use Rattle.std.proofs.Common.{◌≡◌, ◌<◌, ◌∙◌, ◌==◌, ◌&&◌, ◌||◌, ◌++◌, ℕ, Bool, List, [], ◌∷◌, ap, ap₂, true, false}
 use Rattle.std.proofs.Common.{not, arith, Option, Some, None, unwrap_or, codes, refl, if◌then◌else◌, subst}
-use Rattle.std.proofs.Common.{sym}
-use Rattle.std.specs.List.{list_all}
+use Rattle.std.proofs.Common.{map, option_map, sym, suc}
+use Rattle.std.specs.List.{All, list_all, list_any}
 use Rattle.std.specs.Option.{option_map_or}
-use Rattle.std.specs.Prelude.{⊤, fold}
+use Rattle.std.specs.Prelude.{⊤, find, fold, option_and_then, slice_get}
 use Rattle.std.specs.Str.{bytes_eq}
 use Rattle.std.specs.Str.Parse.{IsNumeral, without_leading_plus}
 use Rattle.std.proofs.lemmas.Bool.{eqb-true}
+use Rattle.std.proofs.lemmas.List.{append-nil, append_assoc}
+use Rattle.clap.specs.Facts.{explicit_source}
 use Rattle.clap.specs.Lexer.{long_of, short_of}
 use Rattle.clap.specs.Words.{IsUnsignedIn, Row, Rule, Text, first_of, matches_of, one_of, takes}
-use Rattle.clap.specs.Walk.{Held, Waiting, Walk, after_step, arg_by_index, finished, idle, long_or_other}
-use Rattle.clap.specs.Walk.{nothing_held, option, plain_word, positional, settled, short_or_plain}
-use Rattle.clap.specs.Walk.{subcommand_met, subcommand_or_other, to_positional, trailing, value, walk}
-use Rattle.clap.specs.Walk.{walk_from, walked, word_met}
+use Rattle.clap.specs.Walk.{Held, Waiting, Walk, after_step, arg_by_index, finished, has_row}
+use Rattle.clap.specs.Walk.{long_or_other, nothing_held, option, plain_word, positional, pushed}
+use Rattle.clap.specs.Walk.{settled, short_or_plain, subcommand_met, subcommand_or_other, to_positional, value}
+use Rattle.clap.specs.Walk.{idle, row_text, trailing, walk, walk_from, walked, with_default, with_values}
+use Rattle.clap.specs.Walk.{without, word_met}
 use Rattle.clap.specs.Simple.{Shape, built}
 use Rattle.clap.specs.Takes.{bundle_passes, default_passes, flag_word_passes, is_valid, other_passes}
-use Rattle.clap.specs.Takes.{settle_passes, step_passes, takes, turn_passes, walk_passes, word_passes}
+use Rattle.clap.specs.Takes.{settle_passes, step_passes, turn_passes, walk_passes, word_passes}
+use Rattle.clap.specs.declared.builder.value_parser.Reading.TheVariants.{AsWritten}
 use Rattle.clap.specs.declared.builder.value_parser.ValueParser.TheVariants.{Unsigned}
-use Rattle.clap.specs.declared.builder.value_parser.ValueParser.TheVariants as vp
+use Rattle.clap.specs.declared.parser.matches.ValueSource.TheVariants.{CommandLine}
 use Rattle.clap.proofs.TakesLemmas.{leaf_takes}
 use Rattle.clap.proofs.ValueTestLemmas.{Accepts-accepts}
 use Rattle.clap.proofs.OnLiterals.{clap_on_literals}
-use Rattle.smt_theory.specs.declared.profile.Profile.{Profile}
 use Rattle.smt_theory.specs.declared.profile.Profile.TheVariants.{Base, Wide}
-use Rattle.smtcheck_command_line.specs.Settings.{Places, flag_words, is_given, is_plain, most_steps}
-use Rattle.smtcheck_command_line.specs.Settings.{profile_word, profile_words, smtcheck_app, success_word}
-use Rattle.clap.specs.Values.{reading_of}
-use Rattle.clap.specs.declared.parser.matches.ValueSource.TheVariants.{CommandLine}
+use Rattle.smtcheck_command_line.proofs.RowLemmas.{added, default_in, defaults_add, defaults_keep, find_row}
+use Rattle.smtcheck_command_line.proofs.RowLemmas.{found_behind, or_else, row, row_of, stays_found, still_new}
+use Rattle.smtcheck_command_line.specs.declared.arguments.Solver.TheVariants as solver
+use Rattle.smtcheck_command_line.specs.Settings.{AllPlaces, Explain, Given, Hints, IsInRange, Language, Preset}
+use Rattle.smtcheck_command_line.specs.Settings.{Steps, Strict, Success, are_distinct, given_words, is_given}
+use Rattle.smtcheck_command_line.specs.Settings.{is_plain, most_steps, name_of, smtcheck_app, value_in, value_of}
+use Rattle.smtcheck_command_line.specs.Settings.{words_of}
 
 -- ---- words that begin with no hyphen
 
@@ -119,654 +125,536 @@ plain_number low high (x ∷ xs) is = go (x == 45) refl
         let bad : 36 < 10 = hyphen.1.0 in
         absurd (omega arith)
 
--- ---- the options
-
-abbrev top : Places → Shape
+abbrev top : AllPlaces → Shape
 top places = (built (smtcheck_app places)).top
 
--- the words of each option, where it is given
-abbrev success_words : Option Bool → List Text
-success_words None = []
-success_words (Some prints) = codes "--print-success" ∷ success_word prints ∷ []
+-- ---- one option
 
-abbrev steps_words : Option Text → List Text
-steps_words None = []
-steps_words (Some text) = codes "--steps" ∷ text ∷ []
+-- what is held passes, and its rows are these once the pending argument is used
+record IsAt (places : AllPlaces) (rows : List Row) (h : Held) : Type 0 where
+  settles : (settled (top places).rules h).rows ≡ rows
+  passes : settle_passes (top places).rules (top places).args_override_self h ≡ true
 
--- which of the options without a value are given, and the words of the first two that have one
-pub record Given : Type 0 where
-  pub explain : Bool
-  pub strict : Bool
-  pub success : Option Bool
-  pub profile : Option Profile
-
-abbrev given_words : Given → List Text → List Text
-given_words given rest = flag_words given.explain given.strict
-    ++ (success_words given.success ++ (profile_words given.profile ++ rest))
-
--- the options, and the words behind them
-abbrev with_options : Given → Option Text → List Text → List Text
-with_options given steps rest = given_words given (steps_words steps ++ rest)
-
--- the program's name, the options and the two words
-abbrev pub line_of : Text → Given → Option Text → Text → Text → List Text
-line_of name given steps script answers = name ∷ with_options given steps (script ∷ answers ∷ [])
-
--- the number is one that the option takes, where it is given
-abbrev pub IsTaken : Option Text → Type 0
-IsTaken None = ⊤
-IsTaken (Some text) = IsUnsignedIn 0 most_steps text
-
--- what is held behind the options without a value
-abbrev flag_row : Text → Row
-flag_row id = record {
-  id = id;
-  values = codes "true" ∷ [];
-  count = None;
-  source = Some CommandLine;
-  reading = reading_of vp.Bool;
+abbrev flagged : AllPlaces → Held → Text → Held
+flagged places h id = record h {
+  rows = with_values id AsWritten CommandLine (codes "true" ∷ [])
+      (without id (settled (top places).rules h).rows);
+  pending = None;
 }
 
-abbrev flag_rows : Bool → Bool → List Row
-flag_rows true true = flag_row (codes "explain") ∷ flag_row (codes "strict") ∷ []
-flag_rows true false = flag_row (codes "explain") ∷ []
-flag_rows false true = flag_row (codes "strict") ∷ []
-flag_rows false false = []
+abbrev waiting_for : AllPlaces → Held → Text → List Text → Held
+waiting_for places h id texts = record (settled (top places).rules h) { pending = Some (id, texts) }
 
--- and behind the first of them
-abbrev success_pending : Option Bool → Option (Text × List Text)
-success_pending None = None
-success_pending (Some prints) = Some (codes "print-success", success_word prints ∷ [])
+-- what is held behind an option
+abbrev held_after : AllPlaces → Held → Given → Held
+held_after places h Explain = flagged places h (codes "explain")
+held_after places h Strict = flagged places h (codes "strict")
+held_after places h o = waiting_for places h (name_of o) (value_of o ∷ [])
 
-abbrev success_held : Bool → Bool → Option Bool → Held
-success_held explain strict success =
-    record nothing_held { rows = flag_rows explain strict; pending = success_pending success }
+-- the walk that waits for the number of steps
+abbrev asking : AllPlaces → Held → Walk
+asking places h = record (standing 1 (waiting_for places h (codes "steps") [])) { waiting = option (codes "steps") }
 
--- and behind the name of another, and behind its word
-abbrev asked_held : Places → Text → Held → Held
-asked_held places id h = record (settled (top places).rules h) { pending = Some (id, []) }
-
-abbrev given_held : Places → Text → Held → Text → Held
-given_held places id h text = record (settled (top places).rules h) { pending = Some (id, text ∷ []) }
-
--- and behind the second, where it is given
-abbrev profile_held : Places → Held → Option Profile → Held
-profile_held places h None = h
-profile_held places h (Some profile) = given_held places (codes "profile") h (profile_word profile)
-
--- and behind both
-abbrev worded_held : Places → Bool → Bool → Option Bool → Option Profile → Held
-worded_held places explain strict success profile =
-    profile_held places (success_held explain strict success) profile
-
-abbrev held_of : Places → Given → Held
-held_of places given = worded_held places given.explain given.strict given.success given.profile
-
--- and behind the third
-abbrev options_held : Places → Given → Option Text → Held
-options_held places given None = held_of places given
-options_held places given (Some text) = given_held places (codes "steps") (held_of places given) text
-
--- a walk that waits for the word of an option
-abbrev asking : Places → Text → Held → Walk
-asking places id h = record (standing 1 (asked_held places id h)) { waiting = option id }
-
-success_walked : (places : Places) (explain strict : Bool) (success : Option Bool) (rest : List Text)
-    → walk (top places).rules [] nothing_held (flag_words explain strict ++ (success_words success ++ rest))
-    ≡ fold (walked (top places).rules []) (standing 1 (success_held explain strict success)) rest
-unfolding smtcheck_app clap_on_literals
-success_walked places explain strict success rest = go explain strict success
-  where
-    go : (explain strict : Bool) (success : Option Bool) → walk (top places).rules [] nothing_held
-        (flag_words explain strict ++ (success_words success ++ rest))
-        ≡ fold (walked (top places).rules []) (standing 1 (success_held explain strict success)) rest
-    go true true None = refl
-    go true true (Some true) = refl
-    go true true (Some false) = refl
-    go true false None = refl
-    go true false (Some true) = refl
-    go true false (Some false) = refl
-    go false true None = refl
-    go false true (Some true) = refl
-    go false true (Some false) = refl
-    go false false None = refl
-    go false false (Some true) = refl
-    go false false (Some false) = refl
-
-profile_asked : (places : Places) (h : Held)
-    → walked (top places).rules [] (standing 1 h) (codes "--profile") ≡ asking places (codes "profile") h
-unfolding smtcheck_app clap_on_literals
-profile_asked places h = refl
-
-steps_asked : (places : Places) (h : Held)
-    → walked (top places).rules [] (standing 1 h) (codes "--steps") ≡ asking places (codes "steps") h
+steps_asked : (places : AllPlaces) (h : Held)
+    → walked (top places).rules [] (standing 1 h) (codes "--steps") ≡ asking places h
 unfolding smtcheck_app clap_on_literals
 steps_asked places h = refl
 
-word_walked : (places : Places) (h : Held) (text : Text) → is_plain text ≡ true
-    → walked (top places).rules [] (asking places (codes "profile") h) text
-    ≡ standing 1 (given_held places (codes "profile") h text)
-unfolding smtcheck_app walked
-word_walked places h text e =
-    ap (λ m. after_step (top places).rules text (asking places (codes "profile") h) m.0 m.1)
-    (plain_met (top places).rules (option (codes "profile")) 1 text
-    (asked_held places (codes "profile") h) e)
-
-number_walked : (places : Places) (h : Held) (text : Text) → is_plain text ≡ true
-    → walked (top places).rules [] (asking places (codes "steps") h) text
-    ≡ standing 1 (given_held places (codes "steps") h text)
+number_walked : (places : AllPlaces) (h : Held) (text : Text) → is_plain text ≡ true
+    → walked (top places).rules [] (asking places h) text
+    ≡ standing 1 (waiting_for places h (codes "steps") (text ∷ []))
 unfolding smtcheck_app walked
 number_walked places h text e =
-    ap (λ m. after_step (top places).rules text (asking places (codes "steps") h) m.0 m.1)
-    (plain_met (top places).rules (option (codes "steps")) 1 text (asked_held places (codes "steps") h) e)
+    ap (λ m. after_step (top places).rules text (asking places h) m.0 m.1)
+    (plain_met (top places).rules (option (codes "steps")) 1 text (waiting_for places h (codes "steps") []) e)
 
-plain_profile : (profile : Profile) → is_plain (profile_word profile) ≡ true
-plain_profile Base = refl
-plain_profile Wide = refl
-
-profile_walked : (places : Places) (h : Held) (profile : Option Profile) (rest : List Text)
-    → fold (walked (top places).rules []) (standing 1 h) (profile_words profile ++ rest)
-    ≡ fold (walked (top places).rules []) (standing 1 (profile_held places h profile)) rest
-profile_walked places h None rest = refl
-profile_walked places h (Some profile) rest =
-    ap (λ w. fold (walked (top places).rules []) (walked (top places).rules [] w (profile_word profile)) rest)
-    (profile_asked places h)
-    ∙ ap (λ w. fold (walked (top places).rules []) w rest)
-    (word_walked places h (profile_word profile) (plain_profile profile))
-
-given_walked : (places : Places) (given : Given) (rest : List Text)
-    → walk (top places).rules [] nothing_held (given_words given rest)
-    ≡ fold (walked (top places).rules []) (standing 1 (held_of places given)) rest
-given_walked places given rest =
-    success_walked places given.explain given.strict given.success (profile_words given.profile ++ rest)
-    ∙ profile_walked places (success_held given.explain given.strict given.success) given.profile rest
-
-options_walked : (places : Places) (given : Given) (steps : Option Text) (rest : List Text)
-    → IsTaken steps → walk (top places).rules [] nothing_held (with_options given steps rest)
-    ≡ fold (walked (top places).rules []) (standing 1 (options_held places given steps)) rest
-options_walked places given None rest taken = given_walked places given rest
-options_walked places given (Some text) rest taken =
-    let h = held_of places given in
-    given_walked places given (codes "--steps" ∷ text ∷ rest)
-    ∙ ap (λ w. fold (walked (top places).rules []) (walked (top places).rules [] w text) rest)
+option_walked : (places : AllPlaces) (h : Held) (o : Given) (rest : List Text) → IsInRange o
+    → fold (walked (top places).rules []) (standing 1 h) (words_of o ++ rest)
+    ≡ fold (walked (top places).rules []) (standing 1 (held_after places h o)) rest
+unfolding smtcheck_app clap_on_literals
+option_walked places h (Preset solver.Z3) rest range = refl
+option_walked places h (Preset solver.Cvc5) rest range = refl
+option_walked places h (Preset solver.Cvc4) rest range = refl
+option_walked places h (Preset solver.Bitwuzla) rest range = refl
+option_walked places h (Preset solver.Boolector) rest range = refl
+option_walked places h (Preset solver.SmtInterpol) rest range = refl
+option_walked places h (Success true) rest range = refl
+option_walked places h (Success false) rest range = refl
+option_walked places h (Language Base) rest range = refl
+option_walked places h (Language Wide) rest range = refl
+option_walked places h (Steps text) rest range =
+    ap (λ w. fold (walked (top places).rules []) (walked (top places).rules [] w text) rest)
     (steps_asked places h)
     ∙ ap (λ w. fold (walked (top places).rules []) w rest)
-    (number_walked places h text (plain_number 0 most_steps text taken))
+    (number_walked places h text (plain_number 0 most_steps text range))
+option_walked places h Explain rest range = refl
+option_walked places h (Hints true) rest range = refl
+option_walked places h (Hints false) rest range = refl
+option_walked places h Strict rest range = refl
 
-success_passes : (places : Places) (explain strict : Bool) (success : Option Bool) (rest : List Text)
-    → walk_passes (top places) [] (walk_from nothing_held)
-    (flag_words explain strict ++ (success_words success ++ rest))
-    ≡ walk_passes (top places) [] (standing 1 (success_held explain strict success)) rest
+-- an option that is new passes
+option_passes : (places : AllPlaces) (rows : List Row) (h : Held) (o : Given) (rest : List Text)
+    → IsAt places rows h → has_row (name_of o) rows ≡ false → IsInRange o
+    → walk_passes (top places) [] (standing 1 h) (words_of o ++ rest)
+    ≡ walk_passes (top places) [] (standing 1 (held_after places h o)) rest
 unfolding smtcheck_app clap_on_literals
-success_passes places explain strict success rest = go explain strict success
+option_passes places rows h o rest at new range = go o new range
   where
-    go : (explain strict : Bool) (success : Option Bool) → walk_passes (top places) []
-        (walk_from nothing_held) (flag_words explain strict ++ (success_words success ++ rest))
-        ≡ walk_passes (top places) [] (standing 1 (success_held explain strict success)) rest
-    go true true None = refl
-    go true true (Some true) = refl
-    go true true (Some false) = refl
-    go true false None = refl
-    go true false (Some true) = refl
-    go true false (Some false) = refl
-    go false true None = refl
-    go false true (Some true) = refl
-    go false true (Some false) = refl
-    go false false None = refl
-    go false false (Some true) = refl
-    go false false (Some false) = refl
+    behind : Given → Bool
+    behind o = walk_passes (top places) [] (standing 1 (held_after places h o)) rest
 
--- what is held settles before the language is asked for
-profile_turn : (places : Places) (explain strict : Bool) (success : Option Bool)
-    → turn_passes (top places) [] (standing 1 (success_held explain strict success)) (codes "--profile") ≡ true
-unfolding smtcheck_app clap_on_literals
-profile_turn places = go
-  where
-    go : (explain strict : Bool) (success : Option Bool) → turn_passes (top places) []
-        (standing 1 (success_held explain strict success)) (codes "--profile") ≡ true
-    go true true None = refl
-    go true true (Some true) = refl
-    go true true (Some false) = refl
-    go true false None = refl
-    go true false (Some true) = refl
-    go true false (Some false) = refl
-    go false true None = refl
-    go false true (Some true) = refl
-    go false true (Some false) = refl
-    go false false None = refl
-    go false false (Some true) = refl
-    go false false (Some false) = refl
+    worded : (o : Given) → (settle_passes (top places).rules false h && true && behind o) ≡ behind o
+    worded o = ap (λ b. b && true && behind o) at.passes
 
--- and before the number is
-steps_turn : (places : Places) (given : Given)
-    → turn_passes (top places) [] (standing 1 (held_of places given)) (codes "--steps") ≡ true
-unfolding smtcheck_app clap_on_literals
-steps_turn places given = go given.explain given.strict given.success given.profile
-  where
-    go : (explain strict : Bool) (success : Option Bool) (profile : Option Profile)
-        → turn_passes (top places) [] (standing 1 (worded_held places explain strict success profile))
-        (codes "--steps") ≡ true
-    go true true None None = refl
-    go true true (Some true) None = refl
-    go true true (Some false) None = refl
-    go true true None (Some Base) = refl
-    go true true None (Some Wide) = refl
-    go true true (Some prints) (Some Base) = refl
-    go true true (Some prints) (Some Wide) = refl
-    go true false None None = refl
-    go true false (Some true) None = refl
-    go true false (Some false) None = refl
-    go true false None (Some Base) = refl
-    go true false None (Some Wide) = refl
-    go true false (Some prints) (Some Base) = refl
-    go true false (Some prints) (Some Wide) = refl
-    go false true None None = refl
-    go false true (Some true) None = refl
-    go false true (Some false) None = refl
-    go false true None (Some Base) = refl
-    go false true None (Some Wide) = refl
-    go false true (Some prints) (Some Base) = refl
-    go false true (Some prints) (Some Wide) = refl
-    go false false None None = refl
-    go false false (Some true) None = refl
-    go false false (Some false) None = refl
-    go false false None (Some Base) = refl
-    go false false None (Some Wide) = refl
-    go false false (Some prints) (Some Base) = refl
-    go false false (Some prints) (Some Wide) = refl
+    flag : (o : Given) → has_row (name_of o) rows ≡ false
+        → ((settle_passes (top places).rules false h
+        && ((not (has_row (name_of o) (settled (top places).rules h).rows) || false) && true)) && true && behind o)
+        ≡ behind o
+    flag o e = ap₂ (λ b n. (b && ((not n || false) && true)) && true && behind o) at.passes
+        (ap (has_row (name_of o)) at.settles ∙ e)
 
-word_turn : (places : Places) (h : Held) (text : Text) → is_plain text ≡ true
-    → turn_passes (top places) [] (asking places (codes "profile") h) text ≡ true
+    number : (text : Text) → IsUnsignedIn 0 most_steps text
+        → walk_passes (top places) [] (standing 1 h) (codes "--steps" ∷ text ∷ rest)
+        ≡ walk_passes (top places) [] (standing 1 (waiting_for places h (codes "steps") (text ∷ []))) rest
+    number text e =
+        let plain = plain_number 0 most_steps text e in
+        let asked = waiting_for places h (codes "steps") [] in
+        let more = λ (w : Walk). walk_passes (top places) [] w rest in
+        let turn : turn_passes (top places) [] (asking places h) text ≡ true =
+        ap (λ m. word_passes (top places) [] false (option (codes "steps")) text asked
+        && step_passes (top places) 1 m.0 m.1)
+        (plain_met (top places).rules (option (codes "steps")) 1 text asked plain)
+        ∙ ap (λ b. b && true) (plain_passes (top places) (option (codes "steps")) text asked plain) in
+        ap (λ b. b && true && (turn_passes (top places) [] (asking places h) text
+        && more (walked (top places).rules [] (asking places h) text))) at.passes
+        ∙ ap (λ b. b && more (walked (top places).rules [] (asking places h) text)) turn
+        ∙ ap more (number_walked places h text plain)
+
+    go : (o : Given) → has_row (name_of o) rows ≡ false → IsInRange o
+        → walk_passes (top places) [] (standing 1 h) (words_of o ++ rest)
+        ≡ walk_passes (top places) [] (standing 1 (held_after places h o)) rest
+    go (Preset solver.Z3) e r = worded (Preset solver.Z3)
+    go (Preset solver.Cvc5) e r = worded (Preset solver.Cvc5)
+    go (Preset solver.Cvc4) e r = worded (Preset solver.Cvc4)
+    go (Preset solver.Bitwuzla) e r = worded (Preset solver.Bitwuzla)
+    go (Preset solver.Boolector) e r = worded (Preset solver.Boolector)
+    go (Preset solver.SmtInterpol) e r = worded (Preset solver.SmtInterpol)
+    go (Success true) e r = worded (Success true)
+    go (Success false) e r = worded (Success false)
+    go (Language Base) e r = worded (Language Base)
+    go (Language Wide) e r = worded (Language Wide)
+    go (Steps text) e r = number text r
+    go Explain e r = flag Explain e
+    go (Hints true) e r = worded (Hints true)
+    go (Hints false) e r = worded (Hints false)
+    go Strict e r = flag Strict e
+
+-- and adds its row
+option_held : (places : AllPlaces) (rows : List Row) (h : Held) (o : Given)
+    → IsAt places rows h → has_row (name_of o) rows ≡ false → IsInRange o
+    → IsAt places (rows ++ row_of o ∷ []) (held_after places h o)
 unfolding smtcheck_app
-word_turn places h text e =
-    let waiting = option (codes "profile") in
-    let asked = asked_held places (codes "profile") h in
-    let passes = word_passes (top places) [] false waiting text asked in
-    ap (λ m. passes && step_passes (top places) 1 m.0 m.1)
-    (plain_met (top places).rules waiting 1 text asked e)
-    ∙ ap (λ b. b && true) (plain_passes (top places) waiting text asked e)
+option_held places rows h o at new range = go o new range
+  where
+    -- the row of an option with a value, and of one without
+    put : (id text : Text) → has_row id rows ≡ false
+        → with_values id AsWritten CommandLine (text ∷ []) (without id (settled (top places).rules h).rows)
+        ≡ rows ++ row id text ∷ []
+    put id text e = ap (λ l. with_values id AsWritten CommandLine (text ∷ []) (without id l)) at.settles
+        ∙ added id text rows e
 
-number_turn : (places : Places) (h : Held) (text : Text) → is_plain text ≡ true
-    → turn_passes (top places) [] (asking places (codes "steps") h) text ≡ true
-unfolding smtcheck_app
-number_turn places h text e =
-    let waiting = option (codes "steps") in
-    let asked = asked_held places (codes "steps") h in
-    let passes = word_passes (top places) [] false waiting text asked in
-    ap (λ m. passes && step_passes (top places) 1 m.0 m.1)
-    (plain_met (top places).rules waiting 1 text asked e)
-    ∙ ap (λ b. b && true) (plain_passes (top places) waiting text asked e)
+    pass : (id : Text) (b : Bool) → has_row id rows ≡ false → b ≡ true
+        → ((not (has_row id (settled (top places).rules h).rows) || false) && (b && true)) ≡ true
+    pass id b e t = ap₂ (λ n x. (not n || false) && (x && true)) (ap (has_row id) at.settles ∙ e) t
 
-profile_passes : (places : Places) (explain strict : Bool) (success : Option Bool) (profile : Option Profile)
-    (rest : List Text)
-    → walk_passes (top places) [] (standing 1 (success_held explain strict success))
-    (profile_words profile ++ rest)
-    ≡ walk_passes (top places) [] (standing 1 (worded_held places explain strict success profile)) rest
-unfolding walk_passes
-profile_passes places explain strict success None rest = refl
-profile_passes places explain strict success (Some profile) rest =
-    let h = success_held explain strict success in
-    let text = profile_word profile in
-    let plain = plain_profile profile in
-    let behind = λ (w : Walk). turn_passes (top places) [] w text
-    && walk_passes (top places) [] (walked (top places).rules [] w text) rest in
-    let more = λ (w : Walk). walk_passes (top places) [] w rest in
-    ap (λ b. b && behind (walked (top places).rules [] (standing 1 h) (codes "--profile")))
-    (profile_turn places explain strict success) ∙ ap behind (profile_asked places h)
-    ∙ ap (λ b. b && more (walked (top places).rules [] (asking places (codes "profile") h) text))
-    (word_turn places h text plain) ∙ ap more (word_walked places h text plain)
+    go : (o : Given) → has_row (name_of o) rows ≡ false → IsInRange o
+        → IsAt places (rows ++ row_of o ∷ []) (held_after places h o)
+    go (Preset solver.Z3) e r = record { settles = put _ _ e; passes = pass _ true e refl }
+    go (Preset solver.Cvc5) e r = record { settles = put _ _ e; passes = pass _ true e refl }
+    go (Preset solver.Cvc4) e r = record { settles = put _ _ e; passes = pass _ true e refl }
+    go (Preset solver.Bitwuzla) e r = record { settles = put _ _ e; passes = pass _ true e refl }
+    go (Preset solver.Boolector) e r = record { settles = put _ _ e; passes = pass _ true e refl }
+    go (Preset solver.SmtInterpol) e r = record { settles = put _ _ e; passes = pass _ true e refl }
+    go (Success true) e r = record { settles = put _ _ e; passes = pass _ true e refl }
+    go (Success false) e r = record { settles = put _ _ e; passes = pass _ true e refl }
+    go (Language Base) e r = record { settles = put _ _ e; passes = pass _ true e refl }
+    go (Language Wide) e r = record { settles = put _ _ e; passes = pass _ true e refl }
+    go (Steps text) e r = record {
+      settles = put _ _ e;
+      passes = pass _ _ e (Accepts-accepts false (Unsigned 0 most_steps) text r);
+    }
+    go Explain e r = record { settles = put _ _ e; passes = refl }
+    go (Hints true) e r = record { settles = put _ _ e; passes = pass _ true e refl }
+    go (Hints false) e r = record { settles = put _ _ e; passes = pass _ true e refl }
+    go Strict e r = record { settles = put _ _ e; passes = refl }
 
-given_passes : (places : Places) (given : Given) (rest : List Text)
-    → walk_passes (top places) [] (walk_from nothing_held) (given_words given rest)
-    ≡ walk_passes (top places) [] (standing 1 (held_of places given)) rest
-given_passes places given rest =
-    success_passes places given.explain given.strict given.success (profile_words given.profile ++ rest)
-    ∙ profile_passes places given.explain given.strict given.success given.profile rest
+-- ---- all options
 
-options_pass : (places : Places) (given : Given) (steps : Option Text) (rest : List Text)
-    → IsTaken steps
-    → walk_passes (top places) [] (walk_from nothing_held) (with_options given steps rest)
-    ≡ walk_passes (top places) [] (standing 1 (options_held places given steps)) rest
-unfolding walk_passes
-options_pass places given None rest taken = given_passes places given rest
-options_pass places given (Some text) rest taken =
-    let h = held_of places given in
-    let plain = plain_number 0 most_steps text taken in
-    let behind = λ (w : Walk). turn_passes (top places) [] w text
-    && walk_passes (top places) [] (walked (top places).rules [] w text) rest in
-    let more = λ (w : Walk). walk_passes (top places) [] w rest in
-    given_passes places given (codes "--steps" ∷ text ∷ rest)
-    ∙ ap (λ b. b && behind (walked (top places).rules [] (standing 1 h) (codes "--steps")))
-    (steps_turn places given) ∙ ap behind (steps_asked places h)
-    ∙ ap (λ b. b && more (walked (top places).rules [] (asking places (codes "steps") h) text))
-    (number_turn places h text plain) ∙ ap more (number_walked places h text plain)
+-- no option has a row yet
+AreNew : List Row → List Given → Type 0
+AreNew rows [] = ⊤
+AreNew rows (o ∷ rest) = (has_row (name_of o) rows ≡ false) × AreNew rows rest
+
+both : (a b : Bool) → (a && b) ≡ true → (a ≡ true) × (b ≡ true)
+both true b e = (refl, e)
+both false b e = cc
+
+-- and those that are distinct from one still have none behind it
+still : (o : Given) (rows : List Row) (given : List Given) → AreNew rows given
+    → list_any (λ other. bytes_eq (name_of o) (name_of other)) given ≡ false
+    → AreNew (rows ++ row_of o ∷ []) given
+unfolding AreNew
+still o rows [] new others = tt
+still o rows (x ∷ xs) new others = go (bytes_eq (name_of o) (name_of x)) refl others (still o rows xs new.1)
+  where
+    go : (b : Bool) → bytes_eq (name_of o) (name_of x) ≡ b
+        → (b || list_any (λ other. bytes_eq (name_of o) (name_of other)) xs) ≡ false
+        → (list_any (λ other. bytes_eq (name_of o) (name_of other)) xs ≡ false
+        → AreNew (rows ++ row_of o ∷ []) xs)
+        → AreNew (rows ++ row_of o ∷ []) (x ∷ xs)
+    go true e f more = cc
+    go false e f more = (still_new (name_of x) (row_of o) rows new.0 e, more f)
+
+-- the walk over options, from what is held to what is held behind them
+record IsWalked (places : AllPlaces) (rows : List Row) (h : Held) (given : List Given) (behind : List Text)
+    : Type 0 where
+  held : Held
+  at : IsAt places (rows ++ map row_of given) held
+  goes : fold (walked (top places).rules []) (standing 1 h) (given_words given behind)
+      ≡ fold (walked (top places).rules []) (standing 1 held) behind
+  passes : walk_passes (top places) [] (standing 1 h) (given_words given behind)
+      ≡ walk_passes (top places) [] (standing 1 held) behind
+
+options_walked : (places : AllPlaces) (rows : List Row) (h : Held) (given : List Given) (behind : List Text)
+    → IsAt places rows h → AreNew rows given → are_distinct given ≡ true → All IsInRange given
+    → IsWalked places rows h given behind
+unfolding AreNew
+options_walked places rows h [] behind at new distinct ranges = record {
+  held = h;
+  at = subst (λ l. IsAt places l h) (sym (append-nil rows)) at;
+  goes = refl;
+  passes = refl;
+}
+options_walked places rows h (o ∷ rest) behind at new distinct ranges =
+    let range : IsInRange o = ranges 0 o (omega arith) in
+    let apart = both _ _ distinct in
+    let one = option_held places rows h o at new.0 range in
+    let all = options_walked places (rows ++ row_of o ∷ []) (held_after places h o) rest behind one
+    (still o rows rest new.1 (is_false _ apart.0)) apart.1 (λ k d lt. ranges (suc k) d (omega arith)) in
+    record {
+      held = all.held;
+      at = subst (λ l. IsAt places l all.held) (append_assoc rows (row_of o ∷ []) (map row_of rest)) all.at;
+      goes = option_walked places h o (given_words rest behind) range ∙ all.goes;
+      passes = option_passes places rows h o (given_words rest behind) at new.0 range ∙ all.passes;
+    }
+
+none_new : (given : List Given) → AreNew [] given
+unfolding AreNew
+none_new [] = tt
+none_new (o ∷ rest) = (refl, none_new rest)
 
 -- ---- the two words
 
--- what is held after the first word, and after both
-abbrev after_word : Places → ℕ → Held → Text → Held
-after_word places position h word =
-    let c = (top places).rules in
-    (to_positional c (arg_by_index c position) word (standing position h) h).held
+abbrev file_held : AllPlaces → Held → Text → Text → Held
+file_held places h id text = pushed id text (settled (top places).rules h)
 
-abbrev first_held : Places → Held → Text → Held
-first_held places h script = after_word places 1 h script
+abbrev with_script : List Given → Text → List Row
+with_script given script = map row_of given ++ row (codes "SCRIPT") script ∷ []
 
-abbrev both_held : Places → Held → Text → Text → Held
-both_held places h script answers = after_word places 2 (first_held places h script) answers
+abbrev with_both : List Given → Text → Text → List Row
+with_both given script answers = with_script given script ++ row (codes "ANSWERS") answers ∷ []
 
-first_walked : (places : Places) (h : Held) (script : Text) → is_plain script ≡ true
-    → walked (top places).rules [] (standing 1 h) script ≡ standing 2 (first_held places h script)
+-- no option has the name of a file
+no_file : (id : Text) → ((o : Given) → bytes_eq (name_of o) id ≡ false) → (given : List Given)
+    → has_row id (map row_of given) ≡ false
+no_file id other [] = refl
+no_file id other (o ∷ rest) = ap₂ (λ a b. a || b) (other o) (no_file id other rest)
+
+no_option : (id : Text) → ((o : Given) → bytes_eq (name_of o) id ≡ false) → (given : List Given)
+    → find_row id (map row_of given) ≡ None
+no_option id other [] = refl
+no_option id other (o ∷ rest) =
+    ap₂ (λ b r. if b then Some (row_of o) else r) (other o) (no_option id other rest)
+
+not_script : (o : Given) → bytes_eq (name_of o) (codes "SCRIPT") ≡ false
+not_script (Preset s) = refl
+not_script (Success prints) = refl
+not_script (Language profile) = refl
+not_script (Steps text) = refl
+not_script Explain = refl
+not_script (Hints are_on) = refl
+not_script Strict = refl
+
+not_answers : (o : Given) → bytes_eq (name_of o) (codes "ANSWERS") ≡ false
+not_answers (Preset s) = refl
+not_answers (Success prints) = refl
+not_answers (Language profile) = refl
+not_answers (Steps text) = refl
+not_answers Explain = refl
+not_answers (Hints are_on) = refl
+not_answers Strict = refl
+
+no_answers : (given : List Given) (script : Text) → has_row (codes "ANSWERS") (with_script given script) ≡ false
+no_answers given script = still_new (codes "ANSWERS") (row (codes "SCRIPT") script) (map row_of given)
+    (no_file (codes "ANSWERS") not_answers given) refl
+
+and_false : (b : Bool) → (b && false) ≡ false
+and_false true = refl
+and_false false = refl
+
+-- a file that has no row yet adds one
+file_at : (places : AllPlaces) (rows : List Row) (h : Held) (id text : Text) → IsAt places rows h
+    → has_row id rows ≡ false
+    → with_values id AsWritten CommandLine (text ∷ []) (without id (settled (top places).rules h).rows)
+    ≡ rows ++ row id text ∷ []
+file_at places rows h id text at new =
+    ap (λ l. with_values id AsWritten CommandLine (text ∷ []) (without id l)) at.settles ∙ added id text rows new
+
+file_passes : (places : AllPlaces) (rows : List Row) (h : Held) (id : Text) → IsAt places rows h
+    → has_row id rows ≡ false
+    → ((not (has_row id (settled (top places).rules h).rows) || false) && (true && true)) ≡ true
+file_passes places rows h id at new = ap (λ n. (not n || false) && true) (ap (has_row id) at.settles ∙ new)
+
+script_at : (places : AllPlaces) (given : List Given) (h : Held) (script : Text)
+    → IsAt places (map row_of given) h
+    → IsAt places (with_script given script) (file_held places h (codes "SCRIPT") script)
 unfolding smtcheck_app
-first_walked places h script e = plain_walked (top places).rules 1 script h e
+script_at places given h script at =
+    let new = no_file (codes "SCRIPT") not_script given in
+    record {
+      settles = file_at places _ h (codes "SCRIPT") script at new;
+      passes = file_passes places _ h (codes "SCRIPT") at new;
+    }
 
-both_walked : (places : Places) (h : Held) (script answers : Text) → is_plain script ≡ true
-    → is_plain answers ≡ true
-    → fold (walked (top places).rules []) (standing 1 h) (script ∷ answers ∷ [])
-    ≡ standing 3 (both_held places h script answers)
+answers_at : (places : AllPlaces) (given : List Given) (h : Held) (script answers : Text)
+    → IsAt places (with_script given script) h
+    → IsAt places (with_both given script answers) (file_held places h (codes "ANSWERS") answers)
 unfolding smtcheck_app
-both_walked places h script answers p q =
-    ap (λ w. walked (top places).rules [] w answers) (first_walked places h script p)
-    ∙ plain_walked (top places).rules 2 answers (first_held places h script) q
+answers_at places given h script answers at =
+    let new = no_answers given script in
+    record {
+      settles = file_at places _ h (codes "ANSWERS") answers at new;
+      passes = file_passes places _ h (codes "ANSWERS") at new;
+    }
 
-line_walked : (places : Places) (given : Given) (steps : Option Text) (script answers : Text)
-    → IsTaken steps → is_plain script ≡ true → is_plain answers ≡ true
-    → walk (top places).rules [] nothing_held (with_options given steps (script ∷ answers ∷ []))
-    ≡ standing 3 (both_held places (options_held places given steps) script answers)
-line_walked places given steps script answers taken p q =
-    options_walked places given steps (script ∷ answers ∷ []) taken
-    ∙ both_walked places (options_held places given steps) script answers p q
-
--- the number settles, since it is in its range
-number_settles : (places : Places) (given : Given) (text : Text) → IsUnsignedIn 0 most_steps text
-    → settle_passes (top places).rules (top places).args_override_self
-    (given_held places (codes "steps") (held_of places given) text) ≡ true
+script_walked : (places : AllPlaces) (h : Held) (script : Text) → is_plain script ≡ true
+    → walked (top places).rules [] (standing 1 h) script
+    ≡ standing 2 (file_held places h (codes "SCRIPT") script)
 unfolding smtcheck_app
-number_settles places given text is = go given.explain given.strict given.success given.profile
-  where
-    go : (explain strict : Bool) (success : Option Bool) (profile : Option Profile)
-        → settle_passes (top places).rules (top places).args_override_self
-        (given_held places (codes "steps") (worded_held places explain strict success profile) text) ≡ true
-    go true true None None = ap (λ b. b && true) (Accepts-accepts false (Unsigned 0 most_steps) text is)
-    go true true None (Some profile) = ap (λ b. b && true) (Accepts-accepts false (Unsigned 0 most_steps) text is)
-    go true true (Some prints) None = ap (λ b. b && true) (Accepts-accepts false (Unsigned 0 most_steps) text is)
-    go true true (Some prints) (Some profile) = ap (λ b. b && true) (Accepts-accepts false (Unsigned 0 most_steps) text is)
-    go true false None None = ap (λ b. b && true) (Accepts-accepts false (Unsigned 0 most_steps) text is)
-    go true false None (Some profile) = ap (λ b. b && true) (Accepts-accepts false (Unsigned 0 most_steps) text is)
-    go true false (Some prints) None = ap (λ b. b && true) (Accepts-accepts false (Unsigned 0 most_steps) text is)
-    go true false (Some prints) (Some profile) = ap (λ b. b && true) (Accepts-accepts false (Unsigned 0 most_steps) text is)
-    go false true None None = ap (λ b. b && true) (Accepts-accepts false (Unsigned 0 most_steps) text is)
-    go false true None (Some profile) = ap (λ b. b && true) (Accepts-accepts false (Unsigned 0 most_steps) text is)
-    go false true (Some prints) None = ap (λ b. b && true) (Accepts-accepts false (Unsigned 0 most_steps) text is)
-    go false true (Some prints) (Some profile) = ap (λ b. b && true) (Accepts-accepts false (Unsigned 0 most_steps) text is)
-    go false false None None = ap (λ b. b && true) (Accepts-accepts false (Unsigned 0 most_steps) text is)
-    go false false None (Some profile) = ap (λ b. b && true) (Accepts-accepts false (Unsigned 0 most_steps) text is)
-    go false false (Some prints) None = ap (λ b. b && true) (Accepts-accepts false (Unsigned 0 most_steps) text is)
-    go false false (Some prints) (Some profile) = ap (λ b. b && true) (Accepts-accepts false (Unsigned 0 most_steps) text is)
+script_walked places h script e = plain_walked (top places).rules 1 script h e
+    ∙ ap (λ b. standing 2 (pushed (codes "SCRIPT") script (if b then h else settled (top places).rules h)))
+    (and_false (option_map_or (λ q. bytes_eq q.0 (codes "SCRIPT")) h.pending false))
 
-first_passes : (places : Places) (given : Given) (steps : Option Text) → IsTaken steps
-    → step_passes (top places) 1 (options_held places given steps) value ≡ true
+answers_walked : (places : AllPlaces) (h : Held) (answers : Text) → is_plain answers ≡ true
+    → walked (top places).rules [] (standing 2 h) answers
+    ≡ standing 3 (file_held places h (codes "ANSWERS") answers)
 unfolding smtcheck_app
-first_passes places given None taken = go given.explain given.strict given.success given.profile
-  where
-    go : (explain strict : Bool) (success : Option Bool) (profile : Option Profile)
-        → step_passes (top places) 1 (worded_held places explain strict success profile) value ≡ true
-    go true true None None = refl
-    go true true (Some true) None = refl
-    go true true (Some false) None = refl
-    go true true None (Some Base) = refl
-    go true true None (Some Wide) = refl
-    go true true (Some prints) (Some Base) = refl
-    go true true (Some prints) (Some Wide) = refl
-    go true false None None = refl
-    go true false (Some true) None = refl
-    go true false (Some false) None = refl
-    go true false None (Some Base) = refl
-    go true false None (Some Wide) = refl
-    go true false (Some prints) (Some Base) = refl
-    go true false (Some prints) (Some Wide) = refl
-    go false true None None = refl
-    go false true (Some true) None = refl
-    go false true (Some false) None = refl
-    go false true None (Some Base) = refl
-    go false true None (Some Wide) = refl
-    go false true (Some prints) (Some Base) = refl
-    go false true (Some prints) (Some Wide) = refl
-    go false false None None = refl
-    go false false (Some true) None = refl
-    go false false (Some false) None = refl
-    go false false None (Some Base) = refl
-    go false false None (Some Wide) = refl
-    go false false (Some prints) (Some Base) = refl
-    go false false (Some prints) (Some Wide) = refl
-first_passes places given (Some text) taken = number_settles places given text taken
+answers_walked places h answers e = plain_walked (top places).rules 2 answers h e
+    ∙ ap (λ b. standing 3 (pushed (codes "ANSWERS") answers (if b then h else settled (top places).rules h)))
+    (and_false (option_map_or (λ q. bytes_eq q.0 (codes "ANSWERS")) h.pending false))
 
-second_passes : (places : Places) (given : Given) (steps : Option Text) (script : Text)
-    → step_passes (top places) 2 (first_held places (options_held places given steps) script) value ≡ true
+script_step : (places : AllPlaces) (rows : List Row) (h : Held) → IsAt places rows h
+    → step_passes (top places) 1 h value ≡ true
 unfolding smtcheck_app
-second_passes places given None script = go given.explain given.strict given.success given.profile
-  where
-    go : (explain strict : Bool) (success : Option Bool) (profile : Option Profile)
-        → step_passes (top places) 2
-        (first_held places (worded_held places explain strict success profile) script) value ≡ true
-    go true true None None = refl
-    go true true None (Some profile) = refl
-    go true true (Some prints) None = refl
-    go true true (Some prints) (Some profile) = refl
-    go true false None None = refl
-    go true false None (Some profile) = refl
-    go true false (Some prints) None = refl
-    go true false (Some prints) (Some profile) = refl
-    go false true None None = refl
-    go false true None (Some profile) = refl
-    go false true (Some prints) None = refl
-    go false true (Some prints) (Some profile) = refl
-    go false false None None = refl
-    go false false None (Some profile) = refl
-    go false false (Some prints) None = refl
-    go false false (Some prints) (Some profile) = refl
-second_passes places given (Some text) script = go given.explain given.strict given.success given.profile
-  where
-    go : (explain strict : Bool) (success : Option Bool) (profile : Option Profile)
-        → step_passes (top places) 2 (first_held places
-        (given_held places (codes "steps") (worded_held places explain strict success profile) text) script)
-        value ≡ true
-    go true true None None = refl
-    go true true None (Some profile) = refl
-    go true true (Some prints) None = refl
-    go true true (Some prints) (Some profile) = refl
-    go true false None None = refl
-    go true false None (Some profile) = refl
-    go true false (Some prints) None = refl
-    go true false (Some prints) (Some profile) = refl
-    go false true None None = refl
-    go false true None (Some profile) = refl
-    go false true (Some prints) None = refl
-    go false true (Some prints) (Some profile) = refl
-    go false false None None = refl
-    go false false None (Some profile) = refl
-    go false false (Some prints) None = refl
-    go false false (Some prints) (Some profile) = refl
+script_step places rows h at = ap₂ (λ a b. a || b)
+    (and_false (option_map_or (λ q. bytes_eq q.0 (codes "SCRIPT")) h.pending false)) at.passes
 
-both_pass : (places : Places) (given : Given) (steps : Option Text) (script answers : Text)
-    → IsTaken steps → is_plain script ≡ true → is_plain answers ≡ true
-    → walk_passes (top places) [] (standing 1 (options_held places given steps)) (script ∷ answers ∷ [])
-    ≡ true
+answers_step : (places : AllPlaces) (rows : List Row) (h : Held) → IsAt places rows h
+    → step_passes (top places) 2 h value ≡ true
+unfolding smtcheck_app
+answers_step places rows h at = ap₂ (λ a b. a || b)
+    (and_false (option_map_or (λ q. bytes_eq q.0 (codes "ANSWERS")) h.pending false)) at.passes
+
+-- ---- the whole line
+
+-- the program's name, the options and the two words
+abbrev pub line_of : Text → List Given → Text → Text → List Text
+line_of name given script answers = name ∷ given_words given (script ∷ answers ∷ [])
+
+record IsRead (places : AllPlaces) (given : List Given) (script answers : Text) : Type 0 where
+  held : Held
+  at : IsAt places (with_both given script answers) held
+  goes : walk (top places).rules [] nothing_held (given_words given (script ∷ answers ∷ [])) ≡ standing 3 held
+  passes : walk_passes (top places) [] (walk_from nothing_held) (given_words given (script ∷ answers ∷ [])) ≡ true
+
+line_read : (places : AllPlaces) (given : List Given) (script answers : Text)
+    → are_distinct given ≡ true → All IsInRange given → is_plain script ≡ true → is_plain answers ≡ true
+    → IsRead places given script answers
 unfolding walk_passes
-both_pass places given steps script answers taken p q =
-    let h = options_held places given steps in
+line_read places given script answers distinct ranges p q =
+    let words = script ∷ answers ∷ [] in
+    let options = options_walked places [] nothing_held given words (record { settles = refl; passes = refl })
+    (none_new given) distinct ranges in
+    let h = options.held in
+    let first = file_held places h (codes "SCRIPT") script in
+    let first_at = script_at places given h script options.at in
+    let second = file_held places first (codes "ANSWERS") answers in
     let behind = λ (w : Walk). turn_passes (top places) [] w answers && true in
-    let second : behind (standing 2 (first_held places h script)) ≡ true = ap (λ b. b && true)
-    (plain_turn (top places) 2 answers (first_held places h script) q
-    (second_passes places given steps script)) in
-    ap (λ b. b && behind (walked (top places).rules [] (standing 1 h) script))
-    (plain_turn (top places) 1 script h p (first_passes places given steps taken))
-    ∙ ap behind (first_walked places h script p) ∙ second
+    let last : behind (standing 2 first) ≡ true = ap (λ b. b && true)
+    (plain_turn (top places) 2 answers first q (answers_step places _ first first_at)) in
+    record {
+      held = second;
+      at = answers_at places given first script answers first_at;
+      goes = options.goes ∙ ap (λ w. walked (top places).rules [] w answers) (script_walked places h script p)
+          ∙ answers_walked places first answers q;
+      passes = options.passes
+          ∙ ap (λ b. b && behind (walked (top places).rules [] (standing 1 h) script))
+          (plain_turn (top places) 1 script h p (script_step places _ h options.at))
+          ∙ ap behind (script_walked places h script p) ∙ last;
+    }
+
+-- ---- the rows at the end
+
+-- what an id has at the end, where no file has it: the option that is given, or else the default
+looked_up : (rules : List Rule) (given : List Given) (script answers id : Text)
+    → bytes_eq (codes "SCRIPT") id ≡ false → bytes_eq (codes "ANSWERS") id ≡ false
+    → find_row id (fold with_default (with_both given script answers) rules)
+    ≡ or_else (option_map row_of (find (λ o. bytes_eq (name_of o) id) given)) (default_in id rules)
+looked_up rules given script answers id s a =
+    go (find (λ o. bytes_eq (name_of o) id) given) (of_given given)
+  where
+    of_given : (given : List Given) → find_row id (map row_of given)
+        ≡ option_map row_of (find (λ o. bytes_eq (name_of o) id) given)
+    of_given [] = refl
+    of_given (o ∷ rest) = step (bytes_eq (name_of o) id) (of_given rest)
+      where
+        step : (b : Bool)
+            → find_row id (map row_of rest) ≡ option_map row_of (find (λ o. bytes_eq (name_of o) id) rest)
+            → (if b then Some (row_of o) else find_row id (map row_of rest))
+            ≡ option_map row_of (if b then Some o else find (λ o. bytes_eq (name_of o) id) rest)
+        step true e = refl
+        step false e = e
+
+    go : (o : Option Given) → find_row id (map row_of given) ≡ option_map row_of o
+        → find_row id (fold with_default (with_both given script answers) rules)
+        ≡ or_else (option_map row_of o) (default_in id rules)
+    go (Some o) e = defaults_keep id (row_of o) rules (with_both given script answers)
+        (stays_found id (row_of o) (with_script given script) _
+        (stays_found id (row_of o) (map row_of given) _ e))
+    go None e = defaults_add id rules (with_both given script answers)
+        (found_behind id (with_script given script) _ (found_behind id (map row_of given) _ e
+        ∙ ap (λ b. if b then Some (row (codes "SCRIPT") script) else None) s)
+        ∙ ap (λ b. if b then Some (row (codes "ANSWERS") answers) else None) a)
+
+-- the rows of the two files
+script_row : (rules : List Rule) (given : List Given) (script answers : Text)
+    → find_row (codes "SCRIPT") (fold with_default (with_both given script answers) rules)
+    ≡ Some (row (codes "SCRIPT") script)
+script_row rules given script answers =
+    let id = codes "SCRIPT" in
+    defaults_keep id _ rules (with_both given script answers) (stays_found id _ (with_script given script) _
+    (found_behind id (map row_of given) (row id script ∷ []) (no_option id not_script given)))
+
+answers_row : (rules : List Rule) (given : List Given) (script answers : Text)
+    → find_row (codes "ANSWERS") (fold with_default (with_both given script answers) rules)
+    ≡ Some (row (codes "ANSWERS") answers)
+answers_row rules given script answers =
+    let id = codes "ANSWERS" in
+    defaults_keep id _ rules (with_both given script answers)
+    (found_behind id (with_script given script) (row id answers ∷ [])
+    (found_behind id (map row_of given) (row (codes "SCRIPT") script ∷ []) (no_option id not_answers given)))
 
 -- what is checked after the words
-abbrev end_passes : Places → Held → Bool
+abbrev end_passes : AllPlaces → Held → Bool
 end_passes places h = settle_passes (top places).rules (top places).args_override_self h
     && (list_all default_passes (top places).rules
     && is_valid (top places) (finished (top places).rules h) false)
 
-end_holds : (places : Places) (given : Given) (steps : Option Text) (script answers : Text)
-    → end_passes places (both_held places (options_held places given steps) script answers) ≡ true
+end_holds : (places : AllPlaces) (given : List Given) (h : Held) (script answers : Text)
+    → IsAt places (with_both given script answers) h → end_passes places h ≡ true
 unfolding smtcheck_app
-end_holds places given None script answers = go given.explain given.strict given.success given.profile
-  where
-    go : (explain strict : Bool) (success : Option Bool) (profile : Option Profile)
-        → end_passes places
-        (both_held places (worded_held places explain strict success profile) script answers) ≡ true
-    go true true None None = refl
-    go true true None (Some profile) = refl
-    go true true (Some prints) None = refl
-    go true true (Some prints) (Some profile) = refl
-    go true false None None = refl
-    go true false None (Some profile) = refl
-    go true false (Some prints) None = refl
-    go true false (Some prints) (Some profile) = refl
-    go false true None None = refl
-    go false true None (Some profile) = refl
-    go false true (Some prints) None = refl
-    go false true (Some prints) (Some profile) = refl
-    go false false None None = refl
-    go false false None (Some profile) = refl
-    go false false (Some prints) None = refl
-    go false false (Some prints) (Some profile) = refl
-end_holds places given (Some text) script answers =
-    go given.explain given.strict given.success given.profile
-  where
-    go : (explain strict : Bool) (success : Option Bool) (profile : Option Profile)
-        → end_passes places (both_held places
-        (given_held places (codes "steps") (worded_held places explain strict success profile) text) script
-        answers) ≡ true
-    go true true None None = refl
-    go true true None (Some profile) = refl
-    go true true (Some prints) None = refl
-    go true true (Some prints) (Some profile) = refl
-    go true false None None = refl
-    go true false None (Some profile) = refl
-    go true false (Some prints) None = refl
-    go true false (Some prints) (Some profile) = refl
-    go false true None None = refl
-    go false true None (Some profile) = refl
-    go false true (Some prints) None = refl
-    go false true (Some prints) (Some profile) = refl
-    go false false None None = refl
-    go false false None (Some profile) = refl
-    go false false (Some prints) None = refl
-    go false false (Some prints) (Some profile) = refl
+end_holds places given h script answers at =
+    let rules = (top places).rules in
+    let of = λ (l : List Row). fold with_default l rules in
+    let was = λ (o : Option Row). option_map_or (λ r. explicit_source r.source) o false in
+    ap₂ (λ b l. b && (was (find_row (codes "SCRIPT") (of l)) && (was (find_row (codes "ANSWERS") (of l)) && true)))
+    at.passes at.settles
+    ∙ ap₂ (λ x y. was x && (was y && true)) (script_row rules given script answers)
+    (answers_row rules given script answers)
 
-pub line-taken : (places : Places) (name : Text) (given : Given) (steps : Option Text)
-    (script answers : Text) → IsTaken steps → is_plain script ≡ true → is_plain answers ≡ true
-    → takes (smtcheck_app places) (line_of name given steps script answers) ≡ true
+pub line-taken : (places : AllPlaces) (name : Text) (given : List Given) (script answers : Text)
+    → are_distinct given ≡ true → All IsInRange given → is_plain script ≡ true → is_plain answers ≡ true
+    → takes (smtcheck_app places) (line_of name given script answers) ≡ true
 unfolding smtcheck_app
-line-taken places name given steps script answers taken p q =
-    let words = with_options given steps (script ∷ answers ∷ []) in
+line-taken places name given script answers distinct ranges p q =
+    let words = given_words given (script ∷ answers ∷ []) in
+    let read = line_read places given script answers distinct ranges p q in
     let ends : end_passes places (walk (top places).rules [] nothing_held words).held ≡ true =
-    ap (λ (w : Walk). end_passes places w.held)
-    (line_walked places given steps script answers taken p q)
-    ∙ end_holds places given steps script answers in
-    let passes = options_pass places given steps (script ∷ answers ∷ []) taken
-    ∙ both_pass places given steps script answers taken p q in
+    ap (λ (w : Walk). end_passes places w.held) read.goes
+    ∙ end_holds places given read.held script answers read.at in
     leaf_takes (built (smtcheck_app places)) nothing_held words refl
-    (ap (λ b. b && end_passes places (walk (top places).rules [] nothing_held words).held) passes ∙ ends)
+    (ap (λ b. b && end_passes places (walk (top places).rules [] nothing_held words).held) read.passes ∙ ends)
 
 -- ---- the values that the command has on the words
 
+abbrev first_in : Option Row → Option Text
+first_in = option_and_then (λ r. slice_get r.values 0)
+
 -- the rows have these values: where an option is not given, its default
-pub record HasValues (given : Given) (steps : Option Text) (script answers : Text) (rows : List Row)
-    : Type 0 where
+pub record HasValues (given : List Given) (script answers : Text) (rows : List Row) : Type 0 where
   pub of_script : first_of (codes "SCRIPT") rows ≡ Some script
   pub of_answers : first_of (codes "ANSWERS") rows ≡ Some answers
-  pub of_success : first_of (codes "print-success") rows
-      ≡ Some (success_word (unwrap_or given.success true))
-  pub of_profile : first_of (codes "profile") rows ≡ Some (profile_word (unwrap_or given.profile Base))
-  pub of_steps : one_of (codes "steps") rows ≡ Some (unwrap_or steps (codes "10000000"))
-  pub of_explain : is_given (first_of (codes "explain") rows) ≡ given.explain
-  pub of_strict : is_given (first_of (codes "strict") rows) ≡ given.strict
+  pub of_solver : first_of (codes "solver") rows ≡ value_in given (codes "solver")
+  pub of_success : first_of (codes "print-success") rows ≡ value_in given (codes "print-success")
+  pub of_profile : first_of (codes "profile") rows ≡ value_in given (codes "profile")
+  pub of_hints : first_of (codes "hints") rows ≡ value_in given (codes "hints")
+  pub of_steps : one_of (codes "steps") rows
+      ≡ Some (unwrap_or (value_in given (codes "steps")) (codes "10000000"))
+  pub of_explain : is_given (first_of (codes "explain") rows) ≡ is_given (value_in given (codes "explain"))
+  pub of_strict : is_given (first_of (codes "strict") rows) ≡ is_given (value_in given (codes "strict"))
 
--- what is given, one by one
-abbrev pub given_as : Bool → Bool → Option Bool → Option Profile → Given
-given_as explain strict success profile =
-    record { explain = explain; strict = strict; success = success; profile = profile }
-
-end_values : (places : Places) (given : Given) (steps : Option Text) (script answers : Text)
-    → HasValues given steps script answers (finished (top places).rules
-    (both_held places (options_held places given steps) script answers))
-unfolding smtcheck_app clap_on_literals
-end_values places given None script answers =
-    let g = go given.explain given.strict given.success given.profile in
-    record {
-      of_script = g.of_script;
-      of_answers = g.of_answers;
-      of_success = g.of_success;
-      of_profile = g.of_profile;
-      of_steps = g.of_steps;
-      of_explain = g.of_explain;
-      of_strict = g.of_strict;
-    }
+end_values : (places : AllPlaces) (given : List Given) (h : Held) (script answers : Text)
+    → IsAt places (with_both given script answers) h
+    → HasValues given script answers (finished (top places).rules h)
+unfolding smtcheck_app default_in
+end_values places given h script answers at = subst
+    (λ l. HasValues given script answers (fold with_default l (top places).rules)) (sym at.settles) (record {
+      of_script = ap first_in (script_row (top places).rules given script answers);
+      of_answers = ap first_in (answers_row (top places).rules given script answers);
+      of_solver = no_default (codes "solver") refl refl refl;
+      of_success = no_default (codes "print-success") refl refl refl;
+      of_profile = no_default (codes "profile") refl refl refl;
+      of_hints = no_default (codes "hints") refl refl refl;
+      of_steps = ap (option_and_then row_text)
+          (looked_up (top places).rules given script answers (codes "steps") refl refl)
+          ∙ number (find (λ o. bytes_eq (name_of o) (codes "steps")) given);
+      of_explain = ap (λ o. is_given (first_in o))
+          (looked_up (top places).rules given script answers (codes "explain") refl refl)
+          ∙ flag (codes "explain") refl (find (λ o. bytes_eq (name_of o) (codes "explain")) given);
+      of_strict = ap (λ o. is_given (first_in o))
+          (looked_up (top places).rules given script answers (codes "strict") refl refl)
+          ∙ flag (codes "strict") refl (find (λ o. bytes_eq (name_of o) (codes "strict")) given);
+    })
   where
-    go : (explain strict : Bool) (success : Option Bool) (profile : Option Profile)
-        → HasValues (given_as explain strict success profile) None script answers
-        (finished (top places).rules
-        (both_held places (worded_held places explain strict success profile) script answers))
-    go true true None None = record { of_script = refl; of_answers = refl; of_success = refl; of_profile = refl; of_steps = refl; of_explain = refl; of_strict = refl }
-    go true true None (Some profile) = record { of_script = refl; of_answers = refl; of_success = refl; of_profile = refl; of_steps = refl; of_explain = refl; of_strict = refl }
-    go true true (Some prints) None = record { of_script = refl; of_answers = refl; of_success = refl; of_profile = refl; of_steps = refl; of_explain = refl; of_strict = refl }
-    go true true (Some prints) (Some profile) = record { of_script = refl; of_answers = refl; of_success = refl; of_profile = refl; of_steps = refl; of_explain = refl; of_strict = refl }
-    go true false None None = record { of_script = refl; of_answers = refl; of_success = refl; of_profile = refl; of_steps = refl; of_explain = refl; of_strict = refl }
-    go true false None (Some profile) = record { of_script = refl; of_answers = refl; of_success = refl; of_profile = refl; of_steps = refl; of_explain = refl; of_strict = refl }
-    go true false (Some prints) None = record { of_script = refl; of_answers = refl; of_success = refl; of_profile = refl; of_steps = refl; of_explain = refl; of_strict = refl }
-    go true false (Some prints) (Some profile) = record { of_script = refl; of_answers = refl; of_success = refl; of_profile = refl; of_steps = refl; of_explain = refl; of_strict = refl }
-    go false true None None = record { of_script = refl; of_answers = refl; of_success = refl; of_profile = refl; of_steps = refl; of_explain = refl; of_strict = refl }
-    go false true None (Some profile) = record { of_script = refl; of_answers = refl; of_success = refl; of_profile = refl; of_steps = refl; of_explain = refl; of_strict = refl }
-    go false true (Some prints) None = record { of_script = refl; of_answers = refl; of_success = refl; of_profile = refl; of_steps = refl; of_explain = refl; of_strict = refl }
-    go false true (Some prints) (Some profile) = record { of_script = refl; of_answers = refl; of_success = refl; of_profile = refl; of_steps = refl; of_explain = refl; of_strict = refl }
-    go false false None None = record { of_script = refl; of_answers = refl; of_success = refl; of_profile = refl; of_steps = refl; of_explain = refl; of_strict = refl }
-    go false false None (Some profile) = record { of_script = refl; of_answers = refl; of_success = refl; of_profile = refl; of_steps = refl; of_explain = refl; of_strict = refl }
-    go false false (Some prints) None = record { of_script = refl; of_answers = refl; of_success = refl; of_profile = refl; of_steps = refl; of_explain = refl; of_strict = refl }
-    go false false (Some prints) (Some profile) = record { of_script = refl; of_answers = refl; of_success = refl; of_profile = refl; of_steps = refl; of_explain = refl; of_strict = refl }
-end_values places given (Some text) script answers =
-    let g = go given.explain given.strict given.success given.profile in
-    record {
-      of_script = g.of_script;
-      of_answers = g.of_answers;
-      of_success = g.of_success;
-      of_profile = g.of_profile;
-      of_steps = g.of_steps;
-      of_explain = g.of_explain;
-      of_strict = g.of_strict;
-    }
-  where
-    go : (explain strict : Bool) (success : Option Bool) (profile : Option Profile)
-        → HasValues (given_as explain strict success profile) (Some text) script answers
-        (finished (top places).rules (both_held places
-        (given_held places (codes "steps") (worded_held places explain strict success profile) text) script
-        answers))
-    go true true None None = record { of_script = refl; of_answers = refl; of_success = refl; of_profile = refl; of_steps = refl; of_explain = refl; of_strict = refl }
-    go true true None (Some profile) = record { of_script = refl; of_answers = refl; of_success = refl; of_profile = refl; of_steps = refl; of_explain = refl; of_strict = refl }
-    go true true (Some prints) None = record { of_script = refl; of_answers = refl; of_success = refl; of_profile = refl; of_steps = refl; of_explain = refl; of_strict = refl }
-    go true true (Some prints) (Some profile) = record { of_script = refl; of_answers = refl; of_success = refl; of_profile = refl; of_steps = refl; of_explain = refl; of_strict = refl }
-    go true false None None = record { of_script = refl; of_answers = refl; of_success = refl; of_profile = refl; of_steps = refl; of_explain = refl; of_strict = refl }
-    go true false None (Some profile) = record { of_script = refl; of_answers = refl; of_success = refl; of_profile = refl; of_steps = refl; of_explain = refl; of_strict = refl }
-    go true false (Some prints) None = record { of_script = refl; of_answers = refl; of_success = refl; of_profile = refl; of_steps = refl; of_explain = refl; of_strict = refl }
-    go true false (Some prints) (Some profile) = record { of_script = refl; of_answers = refl; of_success = refl; of_profile = refl; of_steps = refl; of_explain = refl; of_strict = refl }
-    go false true None None = record { of_script = refl; of_answers = refl; of_success = refl; of_profile = refl; of_steps = refl; of_explain = refl; of_strict = refl }
-    go false true None (Some profile) = record { of_script = refl; of_answers = refl; of_success = refl; of_profile = refl; of_steps = refl; of_explain = refl; of_strict = refl }
-    go false true (Some prints) None = record { of_script = refl; of_answers = refl; of_success = refl; of_profile = refl; of_steps = refl; of_explain = refl; of_strict = refl }
-    go false true (Some prints) (Some profile) = record { of_script = refl; of_answers = refl; of_success = refl; of_profile = refl; of_steps = refl; of_explain = refl; of_strict = refl }
-    go false false None None = record { of_script = refl; of_answers = refl; of_success = refl; of_profile = refl; of_steps = refl; of_explain = refl; of_strict = refl }
-    go false false None (Some profile) = record { of_script = refl; of_answers = refl; of_success = refl; of_profile = refl; of_steps = refl; of_explain = refl; of_strict = refl }
-    go false false (Some prints) None = record { of_script = refl; of_answers = refl; of_success = refl; of_profile = refl; of_steps = refl; of_explain = refl; of_strict = refl }
-    go false false (Some prints) (Some profile) = record { of_script = refl; of_answers = refl; of_success = refl; of_profile = refl; of_steps = refl; of_explain = refl; of_strict = refl }
+    none : (o : Option Given) → first_in (or_else (option_map row_of o) None) ≡ option_map value_of o
+    none None = refl
+    none (Some o) = refl
 
-pub line-values : (places : Places) (name : Text) (given : Given) (steps : Option Text)
-    (script answers : Text) → IsTaken steps → is_plain script ≡ true → is_plain answers ≡ true
-    → HasValues given steps script answers
-    (matches_of (smtcheck_app places) (line_of name given steps script answers))
+    no_default : (id : Text) → bytes_eq (codes "SCRIPT") id ≡ false → bytes_eq (codes "ANSWERS") id ≡ false
+        → default_in id (top places).rules ≡ None
+        → first_of id (fold with_default (with_both given script answers) (top places).rules)
+        ≡ value_in given id
+    no_default id s a absent = ap first_in (looked_up (top places).rules given script answers id s a)
+        ∙ ap (λ d. first_in (or_else (option_map row_of (find (λ o. bytes_eq (name_of o) id) given)) d)) absent
+        ∙ none (find (λ o. bytes_eq (name_of o) id) given)
+
+    number : (o : Option Given)
+        → option_and_then row_text (or_else (option_map row_of o) (default_in (codes "steps") (top places).rules))
+        ≡ Some (unwrap_or (option_map value_of o) (codes "10000000"))
+    number None = refl
+    number (Some o) = refl
+
+    flag : (id : Text) → first_in (default_in id (top places).rules) ≡ Some (codes "false") → (o : Option Given)
+        → is_given (first_in (or_else (option_map row_of o) (default_in id (top places).rules)))
+        ≡ is_given (option_map value_of o)
+    flag id absent None = ap is_given absent
+    flag id absent (Some o) = refl
+
+pub line-values : (places : AllPlaces) (name : Text) (given : List Given) (script answers : Text)
+    → are_distinct given ≡ true → All IsInRange given → is_plain script ≡ true → is_plain answers ≡ true
+    → HasValues given script answers (matches_of (smtcheck_app places) (line_of name given script answers))
 unfolding smtcheck_app
-line-values places name given steps script answers taken p q = subst
-    (λ (w : Walk). HasValues given steps script answers (finished (top places).rules w.held))
-    (sym (line_walked places given steps script answers taken p q))
-    (end_values places given steps script answers)
+line-values places name given script answers distinct ranges p q =
+    let read = line_read places given script answers distinct ranges p q in
+    subst (λ (w : Walk). HasValues given script answers (finished (top places).rules w.held)) (sym read.goes)
+    (end_values places given read.held script answers read.at)

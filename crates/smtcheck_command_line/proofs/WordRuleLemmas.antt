@@ -1,26 +1,29 @@
--- An option with one of two words has its rule, wherever its words lie.
-use Rattle.std.proofs.Common.{◌≡◌, ◌∙◌, ℕ, ap, ap₂, List, [], ◌∷◌, Option, Some}
-use Rattle.std.specs.List.{slice_index_or}
+-- An option with one of some words has its rule, wherever its words lie.
+use Rattle.std.proofs.Common.{◌≡◌, ◌∙◌, ℕ, zero, suc, ap, refl, List, [], ◌∷◌, Option, Some}
 use Rattle.std.specs.Borrow.{Bor}
 use Rattle.clap.specs.Words.{Text}
 use Rattle.clap.specs.Walk.{texts}
 use Rattle.clap.specs.declared.builder.value_parser.ValueParser.{ValueParser}
 use Rattle.clap.specs.declared.builder.value_parser.ValueParser.TheVariants.{Names}
-use Rattle.smtcheck_command_line.specs.Settings.{PlacesOfTwo, choices}
+use Rattle.smtcheck_command_line.specs.Settings.{Places, choices, placed}
 
--- a list of the two words lies at some places
-pub placed : (u v : Text) (o : Option ValueParser) (p : ValueParser) (list : ℕ × ℕ) (words : List (Bor Text))
-    → o ≡ Some p → p ≡ Names (record { ref_ptr = list; now = words }) → texts words ≡ u ∷ v ∷ []
-    → (places : PlacesOfTwo) × (o ≡ Some (Names (choices u v places)))
-placed u v o p list [] x y e = cc
-placed u v o p list (a ∷ []) x y e = cc
-placed u v o p list (a ∷ b ∷ c ∷ rest) x y e = cc
-placed u v o p list (a ∷ b ∷ []) x y e =
-    let first : a.now ≡ u = ap (λ ts. slice_index_or ts 0 a.now) e in
-    let second : b.now ≡ v = ap (λ ts. slice_index_or ts 1 b.now) e in
-    let at = λ (s t : Text). Some
-    (Names (record {
-      ref_ptr = list;
-      now = record { ref_ptr = a.ref_ptr; now = s } ∷ record { ref_ptr = b.ref_ptr; now = t } ∷ [];
-    })) in
-    (record { list = list; first = a.ref_ptr; second = b.ref_ptr }, x ∙ ap Some y ∙ ap₂ at first second)
+abbrev behind : ℕ × ℕ → (ℕ → ℕ × ℕ) → ℕ → ℕ × ℕ
+behind first at zero = first
+behind first at (suc i) = at i
+
+-- each word lies somewhere
+lie : (words : List (Bor Text)) → (at : ℕ → ℕ × ℕ) × (words ≡ placed (texts words) at)
+lie [] = (λ i. (0, 0), refl)
+lie (w ∷ ws) =
+    let rest = lie ws in
+    (behind w.ref_ptr rest.0, ap (λ l. w ∷ l) rest.1)
+
+-- a parser of words has them at some places
+pub with_places : (o : Option ValueParser) (p : ValueParser) (words : Bor (List (Bor Text)))
+    → o ≡ Some p → p ≡ Names words
+    → (places : Places) × (o ≡ Some (Names (choices (texts words.now) places)))
+with_places o p words some names =
+    let at = lie words.now in (
+      record { list = words.ref_ptr; word = at.0 },
+      some ∙ ap Some names ∙ ap (λ l. Some (Names (record { ref_ptr = words.ref_ptr; now = l }))) at.1,
+    )

@@ -1,6 +1,8 @@
 -- The command line of the program, in the words in which clap says what a parse gives.
-use Rattle.std.specs.Prelude.{◌≡◌, ◌==◌, ◌-◌, ◌^◌, ℕ, Bool, true, false, not, Some, ⊤, codes, is_some, List}
-use Rattle.std.specs.Prelude.{[], ◌∷◌, ◌++◌, MatchResult, None, Option, Result, if◌then◌else◌, unwrap_or}
+use Rattle.std.specs.Prelude.{◌≡◌, ◌==◌, ◌-◌, ◌^◌, ◌&&◌, ℕ, suc, Bool, true, false, not, Some, ⊤, codes, is_some}
+use Rattle.std.specs.Prelude.{List, [], ◌∷◌, ◌++◌, find, map, MatchResult, None, Option, Result, if◌then◌else◌}
+use Rattle.std.specs.Prelude.{option_and_then, option_map, unwrap_or}
+use Rattle.std.specs.List.{All, list_any}
 use Rattle.std.specs.Option.{option_map_or}
 use Rattle.std.specs.Str.{bytes_eq}
 use Rattle.std.specs.Borrow.{Bor}
@@ -20,44 +22,88 @@ use Rattle.smt_theory.specs.declared.profile.Profile.TheVariants.{Base, Wide}
 use Rattle.smtcheck_command_line.specs.declared.arguments.LineFault.{LineFault}
 use Rattle.smtcheck_command_line.specs.declared.arguments.LineFault.TheVariants as line
 use Rattle.smtcheck_command_line.specs.declared.arguments.Settings.{Settings}
+use Rattle.smtcheck_command_line.specs.declared.arguments.Solver.{Solver}
+use Rattle.smtcheck_command_line.specs.declared.arguments.Solver.TheVariants as solver
 
 -- a file that has to be named, once: a positional argument
 abbrev pub file_rule : Text → Rule
 file_rule id = record (new_rule id) { action = Some Set; required = true }
 
--- where in memory the list of an option's two words lies, and each of the two: clap's definition keeps the
--- references, and reads the words
-pub record PlacesOfTwo : Type 0 where
-  pub list : ℕ × ℕ
-  pub first : ℕ × ℕ
-  pub second : ℕ × ℕ
-
--- those of both options with a word
+-- where in memory the list of an option's words lies, and each of them, by its place in the list: clap's
+-- definition keeps the references, and reads the words
 pub record Places : Type 0 where
-  pub success : PlacesOfTwo
-  pub profile : PlacesOfTwo
+  pub list : ℕ × ℕ
+  pub word : ℕ → ℕ × ℕ
 
-abbrev pub choices : Text → Text → PlacesOfTwo → Bor (List (Bor Text))
-choices x y places = record {
-  ref_ptr = places.list;
-  now = record { ref_ptr = places.first; now = x } ∷ record { ref_ptr = places.second; now = y } ∷ [];
-}
+abbrev pub placed : List Text → (ℕ → ℕ × ℕ) → List (Bor Text)
+placed [] at = []
+placed (t ∷ ts) at = record { ref_ptr = at 0; now = t } ∷ placed ts (λ i. at (suc i))
 
--- the option of this name with one of two words, which is the first where the option is not given
-abbrev pub word_rule : Text → Text → Text → PlacesOfTwo → Rule
-word_rule id x y places = record (new_rule id) {
+abbrev pub choices : List Text → Places → Bor (List (Bor Text))
+choices words places = record { ref_ptr = places.list; now = placed words places.word }
+
+-- the option of this name with one of these words, and no word where the option is not given
+abbrev pub word_rule : Text → List Text → Places → Rule
+word_rule id words places = record (new_rule id) {
   long = Some id;
   action = Some Set;
   value_names = 1;
-  parser = Some (parser.Names (choices x y places));
-  defaults = x ∷ [];
+  parser = Some (parser.Names (choices words places));
 }
 
-abbrev pub success_rule : PlacesOfTwo → Rule
-success_rule places = word_rule (codes "print-success") (codes "on") (codes "off") places
+-- the option's word for whether something is so
+abbrev pub switch_word : Bool → Text
+switch_word is_on = if is_on then codes "on" else codes "off"
 
-abbrev pub profile_rule : PlacesOfTwo → Rule
-profile_rule places = word_rule (codes "profile") (codes "base") (codes "wide") places
+-- and what a word says, if the option is given
+abbrev pub switch_of : Option Text → Option Bool
+switch_of = option_map (λ word. bytes_eq word (codes "on"))
+
+-- the option's word for the language that is taken
+abbrev pub profile_word : Profile → Text
+profile_word Base = codes "base"
+profile_word Wide = codes "wide"
+
+-- and the language of a word
+abbrev pub profile_named : Text → Profile
+profile_named word = if bytes_eq word (codes "wide") then Wide else Base
+
+-- the option's word for a solver
+abbrev pub solver_word : Solver → Text
+solver_word solver.Z3 = codes "z3"
+solver_word solver.Cvc5 = codes "cvc5"
+solver_word solver.Cvc4 = codes "cvc4"
+solver_word solver.Bitwuzla = codes "bitwuzla"
+solver_word solver.Boolector = codes "boolector"
+solver_word solver.SmtInterpol = codes "smtinterpol"
+
+-- all of them
+abbrev pub solvers : List Solver
+solvers = solver.Z3 ∷ solver.Cvc5 ∷ solver.Cvc4 ∷ solver.Bitwuzla ∷ solver.Boolector ∷ solver.SmtInterpol ∷ []
+
+-- the solver of a word
+abbrev pub solver_named : Text → Option Solver
+solver_named word = find (λ s. bytes_eq word (solver_word s)) solvers
+
+abbrev pub solver_of : Option Text → Option Solver
+solver_of = option_and_then solver_named
+
+-- the solver prints `success` before a script asks for it
+abbrev pub prints_by_default : Solver → Bool
+prints_by_default solver.SmtInterpol = true
+prints_by_default _ = false
+
+abbrev pub solver_rule : Places → Rule
+solver_rule places = word_rule (codes "solver") (map solver_word solvers) places
+
+abbrev pub success_rule : Places → Rule
+success_rule places = word_rule (codes "print-success") (codes "on" ∷ codes "off" ∷ []) places
+
+abbrev pub profile_rule : Places → Rule
+profile_rule places = word_rule (codes "profile") (codes "base" ∷ codes "wide" ∷ []) places
+
+abbrev pub hints_rule : Places → Rule
+hints_rule places = word_rule (codes "hints") (codes "on" ∷ codes "off" ∷ []) places
 
 -- the most steps that the command line may ask for, and how many are meant where it asks for none
 abbrev pub most_steps : ℕ
@@ -84,36 +130,34 @@ flag_rule id = record (new_rule id) { long = Some id; action = Some SetTrue }
 abbrev pub with_version : App → App
 with_version = on_top (λ s. record s { has_version = true })
 
--- `smtcheck [--print-success on|off] [--profile base|wide] [--steps N] [--explain] [--strict] SCRIPT ANSWERS`,
--- which has `--version` and `--help` besides
-unfoldable pub smtcheck_app : Places → App
+-- where the words of the options lie
+pub record AllPlaces : Type 0 where
+  pub solver : Places
+  pub success : Places
+  pub profile : Places
+  pub hints : Places
+
+-- `smtcheck [--solver NAME] [--print-success on|off] [--profile base|wide] [--steps N] [--explain] [--hints on|off]
+-- [--strict] SCRIPT ANSWERS`, which has `--version` and `--help` besides
+unfoldable pub smtcheck_app : AllPlaces → App
 smtcheck_app places =
-    with_rule (with_rule (with_rule (with_rule (with_rule (with_rule
+    with_rule (with_rule (with_rule (with_rule (with_rule (with_rule (with_rule (with_rule
     (with_rule (with_version (new_app (codes "smtcheck"))) (file_rule (codes "SCRIPT")))
-    (file_rule (codes "ANSWERS"))) (success_rule places.success)) (profile_rule places.profile)) steps_rule)
-    (flag_rule (codes "explain"))) (flag_rule (codes "strict"))
+    (file_rule (codes "ANSWERS"))) (solver_rule places.solver)) (success_rule places.success))
+    (profile_rule places.profile)) steps_rule) (flag_rule (codes "explain"))) (hints_rule places.hints))
+    (flag_rule (codes "strict"))
 
 -- of the program's command, whose words lie at some places
 abbrev pub OfCommand : (App → Type 0) → Type 0
-OfCommand P = (places : Places) × P (smtcheck_app places)
+OfCommand P = (places : AllPlaces) × P (smtcheck_app places)
 
--- the option's word for whether the solver prints `success` before the script sets `:print-success`
-abbrev pub success_word : Bool → Text
-success_word prints = if prints then codes "on" else codes "off"
+-- the number that a text writes, in decimal
+abbrev pub number_of : Text → ℕ
+number_of text = digits_value 10 (without_leading_plus text)
 
--- the option's word for the language that is taken
-abbrev pub profile_word : Profile → Text
-profile_word Base = codes "base"
-profile_word Wide = codes "wide"
-
--- and the language of a word
-abbrev pub profile_named : Text → Profile
-profile_named word = if bytes_eq word (codes "wide") then Wide else Base
-
--- the text writes this number of steps, in decimal, and the number is in the option's range
+-- the text writes this number of steps, and the number is in the option's range
 abbrev pub WritesSteps : Text → ℕ → Type 0
-WritesSteps text steps =
-    IsUnsignedIn 0 most_steps text × (steps ≡ digits_value 10 (without_leading_plus text))
+WritesSteps text steps = IsUnsignedIn 0 most_steps text × (steps ≡ number_of text)
 
 -- the matches have a value for the argument
 abbrev pub HasValue : ArgMatches → Text → Type 0
@@ -124,36 +168,46 @@ abbrev pub NeedsFiles : Command → Type 0
 NeedsFiles c =
     (m : ArgMatches) → IsParsedFrom c m → HasValue m (codes "SCRIPT") × HasValue m (codes "ANSWERS")
 
--- and has one of the two words for each of the two options
-abbrev pub HasSuccessWord : Command → Type 0
-HasSuccessWord c = (m : ArgMatches) → IsParsedFrom c m
-    → (prints : Bool) × (first_value (found_of m) (codes "print-success") ≡ Some (success_word prints))
-
-abbrev pub HasProfileWord : Command → Type 0
-HasProfileWord c = (m : ArgMatches) → IsParsedFrom c m
-    → (profile : Profile) × (first_value (found_of m) (codes "profile") ≡ Some (profile_word profile))
-
--- and a number of steps for the third
+-- and a number of steps
 abbrev pub HasSteps : Command → Type 0
 HasSteps c = (m : ArgMatches) → IsParsedFrom c m
     → (text : Text) × (steps : ℕ) × (one_text (found_of m) (codes "steps") ≡ Some text)
     × WritesSteps text steps
 
+-- the text behind a reference
+abbrev pub text_of : Option (Bor Text) → Option Text
+text_of = option_map (λ t. t.now)
+
+-- whether the solver prints `success` from the start, by the word of `--print-success`, else by that of `--solver`,
+-- else as the standard has it
+abbrev pub prints_success : Option Text → Option Text → Bool
+prints_success word solver =
+    unwrap_or (switch_of word) (option_map_or prints_by_default (solver_of solver) true)
+
+-- the language, by the word of `--profile`, else by that of `--solver`
+abbrev pub profile_taken : Option Text → Option Text → Profile
+profile_taken word solver =
+    option_map_or profile_named word (option_map_or (λ s. Wide) (solver_of solver) Base)
+
 -- an option without a value is given where its value is `true`, as clap has it
 abbrev pub is_given : Option Text → Bool
 is_given value = option_map_or (λ t. bytes_eq t (codes "true")) value false
+
+-- the settings are those that the words of the options ask for, by the options' names
+pub record AreAskedFor (word : Text → Option Text) (s : Settings) : Type 0 where
+  pub print_success : s.print_success ≡ prints_success (word (codes "print-success")) (word (codes "solver"))
+  pub profile : s.profile ≡ profile_taken (word (codes "profile")) (word (codes "solver"))
+  pub explain : s.explain ≡ is_given (word (codes "explain"))
+  pub hints : s.hints ≡ switch_of (word (codes "hints"))
+  pub strict : s.strict ≡ is_given (word (codes "strict"))
 
 -- the settings are the matches that the command has on these words, where a number stands as its text
 pub record AreSettings (words : List Text) (s : Settings) (a : App) : Type 0 where
   pub script : first_of (codes "SCRIPT") (matches_of a words) ≡ Some s.script.now
   pub answers : first_of (codes "ANSWERS") (matches_of a words) ≡ Some s.answers.now
-  pub print_success : first_of (codes "print-success") (matches_of a words)
-      ≡ Some (success_word s.print_success)
-  pub profile : first_of (codes "profile") (matches_of a words) ≡ Some (profile_word s.profile)
+  pub asked : AreAskedFor (λ id. first_of id (matches_of a words)) s
   pub steps : (text : Text) × (one_of (codes "steps") (matches_of a words) ≡ Some text)
       × WritesSteps text s.steps
-  pub explain : s.explain ≡ is_given (first_of (codes "explain") (matches_of a words))
-  pub strict : s.strict ≡ is_given (first_of (codes "strict") (matches_of a words))
 
 -- what is refused is refused with a kind that the command has on these words
 abbrev pub IsFaultOf : List Text → LineFault → App → Type 0
@@ -165,61 +219,73 @@ abbrev pub is_plain : Text → Bool
 is_plain [] = false
 is_plain (x ∷ xs) = not (x == 45)
 
--- the words of the options without a value
-abbrev pub flag_words : Bool → Bool → List Text
-flag_words true true = codes "--explain" ∷ codes "--strict" ∷ []
-flag_words true false = codes "--explain" ∷ []
-flag_words false true = codes "--strict" ∷ []
-flag_words false false = []
+-- an option that is given, with what it says; a number as its text
+pub data Given : Type 0 where
+  Preset : Solver → Given
+  Success : Bool → Given
+  Language : Profile → Given
+  Steps : Text → Given
+  Explain : Given
+  Hints : Bool → Given
+  Strict : Given
 
--- the words of the option for the language, where it is given
-abbrev pub profile_words : Option Profile → List Text
-profile_words None = []
-profile_words (Some profile) = codes "--profile" ∷ profile_word profile ∷ []
+-- its name
+abbrev pub name_of : Given → Text
+name_of (Preset s) = codes "solver"
+name_of (Success prints) = codes "print-success"
+name_of (Language profile) = codes "profile"
+name_of (Steps text) = codes "steps"
+name_of Explain = codes "explain"
+name_of (Hints are_on) = codes "hints"
+name_of Strict = codes "strict"
 
--- the settings are these, or memory was refused
-abbrev pub Gives : Bool → Bool → Option Profile → Text → Text → Bool → ℕ → Result Settings LineFault → Type 0
-Gives explain strict profile script answers prints steps r = MatchResult r
-    (λ s. (s.script.now ≡ script) × (s.answers.now ≡ answers) × (s.print_success ≡ prints)
-    × (s.profile ≡ unwrap_or profile Base) × (s.steps ≡ steps) × (s.explain ≡ explain)
-    × (s.strict ≡ strict))
+-- its value; that of an option without one is `true`
+abbrev pub value_of : Given → Text
+value_of (Preset s) = solver_word s
+value_of (Success prints) = switch_word prints
+value_of (Language profile) = profile_word profile
+value_of (Steps text) = text
+value_of Explain = codes "true"
+value_of (Hints are_on) = switch_word are_on
+value_of Strict = codes "true"
+
+-- its words on the command line
+abbrev pub words_of : Given → List Text
+words_of Explain = codes "--explain" ∷ []
+words_of Strict = codes "--strict" ∷ []
+words_of option = (codes "--" ++ name_of option) ∷ value_of option ∷ []
+
+-- the words of options, and those behind them
+abbrev pub given_words : List Given → List Text → List Text
+given_words [] behind = behind
+given_words (option ∷ rest) behind = words_of option ++ given_words rest behind
+
+-- the value that one of the options has
+abbrev pub value_in : List Given → Text → Option Text
+value_in given name = option_map value_of (find (λ option. bytes_eq (name_of option) name) given)
+
+-- no option is given twice
+abbrev pub are_distinct : List Given → Bool
+are_distinct [] = true
+are_distinct (option ∷ rest) =
+    not (list_any (λ other. bytes_eq (name_of option) (name_of other)) rest) && are_distinct rest
+
+-- a number of steps is in its range
+abbrev pub IsInRange : Given → Type 0
+IsInRange (Steps text) = IsUnsignedIn 0 most_steps text
+IsInRange option = ⊤
+
+-- after the program's name any of the options, in any order, and two plain words name the two files: only memory
+-- may be missing
+abbrev pub TakesOptions : List Text → Result Settings LineFault → Type 0
+TakesOptions words r = (name script answers : Text) (given : List Given)
+    → words ≡ name ∷ given_words given (script ∷ answers ∷ [])
+    → are_distinct given ≡ true → All IsInRange given
+    → is_plain script ≡ true → is_plain answers ≡ true
+    → MatchResult r (λ s. (s.script.now ≡ script) × (s.answers.now ≡ answers)
+    × (s.steps ≡ option_map_or number_of (value_in given (codes "steps")) default_steps)
+    × AreAskedFor (value_in given) s)
     (λ f. f ≡ line.Memory)
-
--- after the program's name, any options without a value and that for the language, or not, two plain words name
--- the two files: only memory may be missing
-abbrev pub TakesTwo : List Text → Result Settings LineFault → Type 0
-TakesTwo words r = (name script answers : Text) (explain strict : Bool) (profile : Option Profile)
-    → words ≡ name ∷ flag_words explain strict ++ (profile_words profile ++ (script ∷ answers ∷ []))
-    → is_plain script ≡ true → is_plain answers ≡ true
-    → Gives explain strict profile script answers true default_steps r
-
--- and so they do behind the option that says whether `success` is printed, with one of its words
-abbrev pub TakesOption : List Text → Result Settings LineFault → Type 0
-TakesOption words r =
-    (name script answers : Text) (explain strict prints : Bool) (profile : Option Profile)
-    → words ≡ name ∷ flag_words explain strict
-    ++ (codes "--print-success" ∷ success_word prints ∷ profile_words profile ++ (script ∷ answers ∷ []))
-    → is_plain script ≡ true → is_plain answers ≡ true
-    → Gives explain strict profile script answers prints default_steps r
-
--- and behind `--steps` with a number in its range
-abbrev pub TakesSteps : List Text → Result Settings LineFault → Type 0
-TakesSteps words r =
-    (name text script answers : Text) (explain strict : Bool) (profile : Option Profile) (steps : ℕ)
-    → words ≡ name ∷ flag_words explain strict
-    ++ (profile_words profile ++ (codes "--steps" ∷ text ∷ script ∷ answers ∷ []))
-    → WritesSteps text steps → is_plain script ≡ true → is_plain answers ≡ true
-    → Gives explain strict profile script answers true steps r
-
--- and behind all of them
-abbrev pub TakesAll : List Text → Result Settings LineFault → Type 0
-TakesAll words r =
-    (name text script answers : Text) (explain strict prints : Bool) (profile : Option Profile) (steps : ℕ)
-    → words ≡ name ∷ flag_words explain strict
-    ++ (codes "--print-success" ∷ success_word prints ∷ profile_words profile
-    ++ (codes "--steps" ∷ text ∷ script ∷ answers ∷ []))
-    → WritesSteps text steps → is_plain script ≡ true → is_plain answers ≡ true
-    → Gives explain strict profile script answers prints steps r
 
 -- the version was asked for
 abbrev pub is_version : ErrorKind → Bool

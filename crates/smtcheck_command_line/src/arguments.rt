@@ -1,7 +1,7 @@
 //! What a command line asks for, and why it is refused. This file reads no words, and knows only the error of `clap`.
 
 ghost use Rattle.std.specs.Prelude.{◌≡◌};
-ghost use Rattle.smtcheck_command_line.specs.Settings.{asks_for_version};
+ghost use Rattle.smtcheck_command_line.specs.Settings.{asks_for_version, prints_by_default, solver_named};
 
 use clap::Error;
 use clap::error::ErrorKind;
@@ -23,9 +23,46 @@ pub struct Settings<'a> {
     pub steps: u64,
     /// Whether an explanation of what is not confirmed follows the report.
     pub explain: bool,
+    /// Whether the program hints at usual mistakes. `None` leaves it to the program, which knows the terminal.
+    pub hints: Option<bool>,
     /// Whether the exit status is 2 in place of 0 where a check is not answered by a confirmed `sat`, or where
     /// there is no check.
     pub strict: bool,
+}
+
+/// A solver that the command line can name, in place of the options that suit its answers.
+#[derive(Clone, Copy)]
+pub(crate) enum Solver {
+    Z3,
+    Cvc5,
+    Cvc4,
+    Bitwuzla,
+    Boolector,
+    SmtInterpol,
+}
+
+impl Solver {
+    /// The solver with this name, as the option `--solver` writes it.
+    pub(crate) fn named(word: &str) -> Option<Solver>
+        ensures { result ≡ solver_named word.now }
+    {
+        match word {
+            "z3" => Some(Solver::Z3),
+            "cvc5" => Some(Solver::Cvc5),
+            "cvc4" => Some(Solver::Cvc4),
+            "bitwuzla" => Some(Solver::Bitwuzla),
+            "boolector" => Some(Solver::Boolector),
+            "smtinterpol" => Some(Solver::SmtInterpol),
+            _ => None,
+        }
+    }
+
+    /// Whether the solver prints `success` by default.
+    pub(crate) fn prints_success(self) -> bool
+        ensures { result ≡ prints_by_default self }
+    {
+        matches!(self, Solver::SmtInterpol)
+    }
 }
 
 /// Why a command line is refused.

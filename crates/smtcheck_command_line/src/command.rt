@@ -4,13 +4,13 @@
 ghost use Rattle.std.specs.Prelude.{◌≡◌, ◌<◌, ◌-◌, ◌^◌, IfErr, IfOk, None, [], true, false};
 ghost use Rattle.clap.specs.Walk.{texts};
 ghost use Rattle.clap.specs.Words.{IsPlainArg, app_of, first_value, found_of, rule_of, takes};
-ghost use Rattle.smtcheck_command_line.specs.Settings.{AreSettings, HasProfileWord, HasSteps, HasSuccessWord};
-ghost use Rattle.smtcheck_command_line.specs.Settings.{IsFaultOf, NeedsFiles, OfCommand, PlacesOfTwo, TakesAll};
-ghost use Rattle.smtcheck_command_line.specs.Settings.{TakesOption, TakesSteps, TakesTwo, file_rule, flag_rule};
-ghost use Rattle.smtcheck_command_line.specs.Settings.{is_given, profile_named, profile_rule, steps_rule};
-ghost use Rattle.smtcheck_command_line.specs.Settings.{success_rule};
+ghost use Rattle.smtcheck_command_line.specs.Settings.{AreSettings, HasSteps, IsFaultOf, NeedsFiles, OfCommand};
+ghost use Rattle.smtcheck_command_line.specs.Settings.{Places, TakesOptions, file_rule, flag_rule, hints_rule};
+ghost use Rattle.smtcheck_command_line.specs.Settings.{is_given, prints_success, profile_named, profile_rule};
+ghost use Rattle.smtcheck_command_line.specs.Settings.{profile_taken, solver_of, solver_rule, steps_rule};
+ghost use Rattle.smtcheck_command_line.specs.Settings.{success_rule, switch_of, text_of, word_rule};
 
-use crate::arguments::{LineFault, Settings};
+use crate::arguments::{LineFault, Settings, Solver};
 use clap::builder::ValueParser;
 use clap::error::ErrorKind;
 use clap::{Arg, ArgAction, ArgMatches, Command};
@@ -26,6 +26,11 @@ SCRIPT is the SMT-LIB 2.6 script that the solver read, and ANSWERS the text that
 answer is paired with its command, and every `sat` is checked by evaluating the printed model in each \
 assertion that was in force. One of the two may be `-`, which is standard input.";
 
+const SOLVER: &str =
+    "Which solver printed ANSWERS: z3, cvc5, cvc4, bitwuzla, boolector or smtinterpol. Where --profile is not given, \
+it is wide; where --print-success is not given, it is what the solver does by default: on for smtinterpol, and off for \
+the others.";
+
 const PRINT_SUCCESS: &str =
     "Whether the solver prints `success`, from the start, for each command that has no answer of its own.
 
@@ -33,7 +38,9 @@ off: for z3, cvc5, cvc4 and bitwuzla, which print it only once the script says (
 on:  for SMTInterpol and others that keep to the default of SMT-LIB, and for a run that was told to print \
 it, such as `z3 smtlib2_compliant=true` or `cvc5 --print-success`
 
-A script's own (set-option :print-success ..) is followed from there on.";
+A script's own (set-option :print-success ..) is followed from there on.
+
+[default: on]";
 
 const PROFILE: &str = "Which language is taken; docs/LANGUAGE.md has both.
 
@@ -41,7 +48,9 @@ base: scripts over truth values, integers and bit vectors, in the forms of SMT-L
 wide: the same, and forms that real scripts and models have besides: (push) and (pop) without a numeral, \
 define-const, declare-sort, terms as assumptions, the names of more logics, `unsupported` as answer to a set-logic \
 of another name, and items of a model that repeat a label or a definition of the script or tell of declared sorts, \
-as z3 prints them";
+as z3 prints them
+
+[default: base]";
 
 const STEPS: &str =
     "How many steps the evaluation of a model may take, from 0 to 18446744073709551614. All assertions in \
@@ -61,6 +70,10 @@ of what stands in it.
 
 The report and the status stay the same. Both texts are kept in memory until then.";
 
+const HINTS: &str =
+    "Whether standard error gets a hint at a usual mistake, as at exchanged files or a missing option. Without this \
+option there are hints where standard error is a terminal, and with --explain.";
+
 const STRICT: &str =
     "End with status 2 in place of 0 where a check was answered otherwise than by a confirmed `sat`, or where there \
 is no check. The report stays the same.";
@@ -76,14 +89,12 @@ const VERDICTS: &str =
 
 A fault is named by a letter and a number: the manual page and docs/LANGUAGE.md say what each means, its \
 likely cause, and what to do. Seen most often is `fault P2 at command 1, answer 1`: the solver prints no \
-`success`, and --print-success off is missing.";
+`success`, and --solver or --print-success off is missing.";
 
 /// The command line of the program.
 pub(crate) fn smtcheck_command<'a>(alloc: Global) -> Result<Command<'a>, AllocError>
     ensures app { IfOk result (λ c. OfCommand (λ a. app_of c ≡ a)) }
     ensures needs { IfOk result NeedsFiles }
-    ensures success { IfOk result HasSuccessWord }
-    ensures profile { IfOk result HasProfileWord }
     ensures steps { IfOk result HasSteps }
 {
     let script = file(alloc, "SCRIPT", "the script that the solver read");
@@ -107,10 +118,12 @@ pub(crate) fn smtcheck_command<'a>(alloc: Global) -> Result<Command<'a>, AllocEr
         .after_help(VERDICTS)
         .arg(script)?
         .arg(answers)?
+        .arg(solver(alloc))?
         .arg(print_success(alloc))?
         .arg(profile(alloc))?
         .arg(steps(alloc))?
         .arg(explain)?
+        .arg(hints(alloc))?
         .arg(strict)
 }
 
@@ -140,44 +153,67 @@ fn flag<'a>(alloc: Global, id: &'a str, help: &'a str, long_help: &'a str) -> Ar
         .long_help(long_help)
 }
 
-// The option that says whether the solver prints `success` before the script sets `:print-success`.
-fn print_success<'a>(alloc: Global) -> Arg<'a>
-    ensures rule { (places : PlacesOfTwo) × (rule_of result ≡ success_rule places) }
+// An option with one of some words, shown as `form`, which has no word where it is missing.
+fn choice<'a>(alloc: Global, id: &'a str, form: &'a str, words: &'a [&'a str]) -> Arg<'a>
+    ensures rule { (places : Places)
+        × (rule_of result ≡ word_rule id.entry.now (texts words.entry.now) places) }
     ensures plain { IsPlainArg result }
     ensures local { result.global ≡ false }
-    ensures undivided { result.val_delim ≡ None }
-    ensures unconditional { result.default_vals_ifs.items ≡ [] }
 {
-    let choices: &'a [&'a str] = &["on", "off"];
-    Arg::new(alloc, "print-success")
-        .long("print-success")
+    Arg::new(alloc, id)
+        .long(id)
         .action(ArgAction::Set)
-        .value_name("on|off")
-        .value_parser(choices)
-        .default_value("on")
+        .value_name(form)
+        .value_parser(words)
         .hide_possible_values(true)
-        .help("whether the solver printed `success` from the start")
+}
+
+// The option that names the solver.
+fn solver<'a>(alloc: Global) -> Arg<'a>
+    ensures rule { (places : Places) × (rule_of result ≡ solver_rule places) }
+    ensures plain { IsPlainArg result }
+    ensures local { result.global ≡ false }
+{
+    let words: &'a [&'a str] = &["z3", "cvc5", "cvc4", "bitwuzla", "boolector", "smtinterpol"];
+    choice(alloc, "solver", "NAME", words)
+        .help("which solver printed ANSWERS: sets the next two, where they are not given")
+        .long_help(SOLVER)
+}
+
+// The option that says whether the solver prints `success` before the script sets `:print-success`.
+fn print_success<'a>(alloc: Global) -> Arg<'a>
+    ensures rule { (places : Places) × (rule_of result ≡ success_rule places) }
+    ensures plain { IsPlainArg result }
+    ensures local { result.global ≡ false }
+{
+    let words: &'a [&'a str] = &["on", "off"];
+    choice(alloc, "print-success", "on|off", words)
+        .help("whether the solver printed `success` from the start [default: on]")
         .long_help(PRINT_SUCCESS)
 }
 
 // The option for the profile of the language.
 fn profile<'a>(alloc: Global) -> Arg<'a>
-    ensures rule { (places : PlacesOfTwo) × (rule_of result ≡ profile_rule places) }
+    ensures rule { (places : Places) × (rule_of result ≡ profile_rule places) }
     ensures plain { IsPlainArg result }
     ensures local { result.global ≡ false }
-    ensures undivided { result.val_delim ≡ None }
-    ensures unconditional { result.default_vals_ifs.items ≡ [] }
 {
-    let choices: &'a [&'a str] = &["base", "wide"];
-    Arg::new(alloc, "profile")
-        .long("profile")
-        .action(ArgAction::Set)
-        .value_name("base|wide")
-        .value_parser(choices)
-        .default_value("base")
-        .hide_possible_values(true)
-        .help("which language is taken")
+    let words: &'a [&'a str] = &["base", "wide"];
+    choice(alloc, "profile", "base|wide", words)
+        .help("which language is taken [default: base]")
         .long_help(PROFILE)
+}
+
+// The option that says whether the program hints at usual mistakes.
+fn hints<'a>(alloc: Global) -> Arg<'a>
+    ensures rule { (places : Places) × (rule_of result ≡ hints_rule places) }
+    ensures plain { IsPlainArg result }
+    ensures local { result.global ≡ false }
+{
+    let words: &'a [&'a str] = &["on", "off"];
+    choice(alloc, "hints", "on|off", words)
+        .help("whether there are hints at usual mistakes")
+        .long_help(HINTS)
 }
 
 // The option for the most steps that the evaluation of a model may cost.
@@ -203,10 +239,7 @@ fn steps<'a>(alloc: Global) -> Arg<'a>
 /// `LineFault::Memory`.
 pub fn settings<'a>(alloc: Global, words: &'a [&'a str]) -> Result<Settings<'a>, LineFault>
     ensures ok { IfOk result (λ s. OfCommand (AreSettings (texts words.entry.now) s)) }
-    ensures two_words { TakesTwo (texts words.entry.now) result }
-    ensures option { TakesOption (texts words.entry.now) result }
-    ensures steps { TakesSteps (texts words.entry.now) result }
-    ensures all { TakesAll (texts words.entry.now) result }
+    ensures given { TakesOptions (texts words.entry.now) result }
     ensures limited { IfOk result (λ s. s.steps < 2 ^ 64 - 1) }
     ensures taken { IfOk result (λ _. OfCommand (λ a. takes a (texts words.entry.now) ≡ true)) }
     ensures refused { IfErr result (λ f. OfCommand (IsFaultOf (texts words.entry.now) f)) }
@@ -221,15 +254,63 @@ pub fn settings<'a>(alloc: Global, words: &'a [&'a str]) -> Result<Settings<'a>,
         Err(error) if error.kind() == ErrorKind::OutOfMemory => return Err(LineFault::Memory),
         Err(error) => return Err(LineFault::Refused(error)),
     };
+    let solver = matches.get_str("solver");
     Ok(Settings {
         script: matches.get_str("SCRIPT").unwrap(),
         answers: matches.get_str("ANSWERS").unwrap(),
-        print_success: matches.get_str("print-success").unwrap() == "on",
-        profile: profile_of(matches.get_str("profile").unwrap()),
+        print_success: prints_success(matches.get_str("print-success"), solver),
+        profile: profile_taken(matches.get_str("profile"), solver),
         steps: matches.get_one::<u64>("steps").unwrap(),
         explain: is_given_in(&matches, "explain"),
+        hints: switch(matches.get_str("hints")),
         strict: is_given_in(&matches, "strict"),
     })
+}
+
+// Whether the solver prints `success` from the start, by the option's word, else by the solver's name.
+fn prints_success(word: Option<&str>, solver: Option<&str>) -> bool
+    ensures { result ≡ prints_success (text_of word.entry) (text_of solver.entry) }
+{
+    match switch(word) {
+        Some(prints) => prints,
+        None => match solver_of(solver) {
+            Some(solver) => solver.prints_success(),
+            None => true,
+        },
+    }
+}
+
+// The profile, by the option's word, else by the solver's name.
+fn profile_taken(word: Option<&str>, solver: Option<&str>) -> Profile
+    ensures { result ≡ profile_taken (text_of word.entry) (text_of solver.entry) }
+{
+    match word {
+        Some(word) => profile_of(word),
+        None => match solver_of(solver) {
+            Some(_) => Profile::Wide,
+            None => Profile::Base,
+        },
+    }
+}
+
+// The solver that an option names, if it is given.
+fn solver_of(word: Option<&str>) -> Option<Solver>
+    ensures { result ≡ solver_of (text_of word.entry) }
+{
+    match word {
+        Some(word) => Solver::named(word),
+        None => None,
+    }
+}
+
+// Whether an option says `on`, if it is given.
+fn switch(word: Option<&str>) -> Option<bool>
+    ensures { result ≡ switch_of (text_of word.entry) }
+{
+    match word {
+        Some(word) => Some(word == "on"),
+        None => None,
+    }
 }
 
 // The profile that a word of the option names.
