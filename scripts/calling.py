@@ -11,14 +11,14 @@ PAGE = "crates/smt_dialogue/CALLING.md"
 EXAMPLE = "crates/example_session/src/main.rt"
 CALLS = (
     ("crates/smt_dialogue/src/validation.rt", ("validate",)),
-    ("crates/smt_dialogue/src/session.rt", ("new", "script", "answers", "end_script", "end_answers", "take_lines", "verdict")),
+    ("crates/smt_dialogue/src/session.rt", ("new", "script", "answers", "end_script", "end_answers", "take_lines", "summary", "verdict")),
     ("crates/smt_dialogue/src/runs.rt", ("run",)),
 )
 HEAD = """# Calling `smt_dialogue`
 
 `validate` gives the whole report of a script and the answers that a solver printed for it. A `Session` is fed with both texts in pieces,
-and gives each line once it is decided. `run` reads two sources and puts the lines into a sink. The crate hands on the types that its calls need:
-`Options`, `Profile`, `Limit`, `Line`, `Verdict`, `Source`, `Sink` and `Device`.
+and gives each line once it is decided. `run` reads two sources, puts the lines into a sink and shows them to a visitor. The crate hands on the types that
+its calls need: `Options`, `Profile`, `Limit`, `Line`, `LineVisitor`, `Verdict`, `Summary`, `Source`, `Sink` and `Device`.
 
 This page is made by `scripts/calling.py`, from `example_session`, which the gate proves and runs, and from the sources of the crate.
 

@@ -8,7 +8,7 @@ use crate::dialogues::usual_limit;
 use crate::runs::devices::{Calls, Narrow, Text};
 use anyhow::{Result, bail};
 use row_texts::{Field, is_on, want_key};
-use smt_dialogue::{Options, Profile, RunFault, Verdict, run, validate};
+use smt_dialogue::{Options, Profile, RunFault, Summary, run, validate};
 use smt_streams::Device;
 use std::alloc::Global;
 use std::io::Write;
@@ -29,7 +29,7 @@ enum Failing {
 // The outcome of a run.
 #[derive(Drop)]
 struct Ran {
-    outcome: Result<Verdict, RunFault>,
+    outcome: Result<Summary, RunFault>,
     written: Vec<u8>,
     /// Whether the run made the call that fails.
     met: bool,
@@ -176,11 +176,11 @@ fn run_over(
     answers: &mut Text,
     out: &mut Narrow,
     options: Options,
-) -> Result<Verdict, RunFault> {
+) -> Result<Summary, RunFault> {
     let mut script = Device::new(script);
     let mut answers = Device::new(answers);
     let mut out = Device::new(out);
-    run(alloc, &mut script, &mut answers, &mut out, options)
+    run(alloc, &mut script, &mut answers, &mut out, &mut (), options)
 }
 
 // Writes why a run ended, and how many bytes of the report it wrote. Where memory was refused to the run, the
@@ -210,7 +210,7 @@ fn write_ran<W: Write>(
         write!(out, "{device}, no call {number}: ")?;
     }
     match &ran.outcome {
-        Ok(verdict) => write!(out, "status {}", verdict.status())?,
+        Ok(summary) => write!(out, "status {}", summary.status(false))?,
         Err(fault) => write!(out, "{fault}")?,
     }
     write!(out, ", {} bytes", ran.written.len())?;

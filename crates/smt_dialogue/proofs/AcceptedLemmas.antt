@@ -239,7 +239,8 @@ pub accepted : (early : Bool) (s t : State) (new : List Line) (n : ℕ) (pairs :
     → s.checks.count + 1 < 2 ^ 64
     → (s.tally ≡ tally_of s.lines → length s.lines + length new < 2 ^ 64 → t.tally ≡ tally_of (s.lines ++ new))
     → (flaw_of_pair (profile_of s.stack) pairs (pair_of c o) ≡ None) × StandsFor t (pairs ++ pair_of c o ∷ [])
-accepted early s t new n pairs c o k is kind check before start applied last checks commands answers decided room tally =
+accepted early s t new n pairs c o k is kind check before start applied last checks commands answers decided room
+    tally =
     let done = subst (λ (i : ℕ). (flaw_if (profile_of s.stack) (is_effective_with o) (effective_commands pairs) i c
     ≡ None)
     × stacks.StandsFor t.stack (effective_commands pairs ++ numbered_if (is_effective_with o) i c)) is applied in (

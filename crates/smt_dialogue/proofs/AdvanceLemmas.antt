@@ -68,7 +68,8 @@ bounded few x texts pairs later rest h =
     omega (
       arith,
       commands_count (profile_of x.dialogue.stack) pairs texts.script.trees later h.paired.pairing.commands,
-      few (depth_limit x.script.reader) texts.script.told texts.script_bytes texts.script.trees texts.script.fault h.script_front.reads,
+      few (depth_limit x.script.reader) texts.script.told texts.script_bytes texts.script.trees texts.script.fault
+          h.script_front.reads,
       h.script_front.stands.0,
     )
 
@@ -148,7 +149,8 @@ turn_kept x y texts pairs later rest same =
 pub settled : (x y : Pairing) (texts : Texts) (pairs : List Pair) (later rest : Sexps) (closed : Bool)
     → y.script ≡ x.script → y.answers ≡ x.answers → y.command ≡ x.command
     → options_of y.dialogue ≡ options_of x.dialogue
-    → Fits closed (state_behind texts.taken y.dialogue) pairs → (closed ≡ true → IsClosing (profile_of x.dialogue.stack) x.command texts later)
+    → Fits closed (state_behind texts.taken y.dialogue) pairs
+    → (closed ≡ true → IsClosing (profile_of x.dialogue.stack) x.command texts later)
     → IsUnderWay x texts pairs later rest → IsUnderWay y texts pairs later rest
 settled x y texts pairs later rest closed script answers command start stands closing h = record {
   left = h.left;
@@ -215,7 +217,8 @@ next_pair start texts None pairs later left rest turn h w =
     texts.answers.fault w.turn h.0 h.1 h.2 w.commands w.turn_is
 next_pair start texts (Some t) pairs later left rest turn h w =
     at_tree start pairs w.pairs (sexp_of t) left w.later turn.0 texts.answers.told w.rest texts.answers.fault
-    w.turn turn.3 turn.2 (h turn.0 turn.2) (subst (λ ts. AreCommands start.profile w.pairs ts w.later) turn.1 w.commands)
+    w.turn turn.3 turn.2 (h turn.0 turn.2)
+    (subst (λ ts. AreCommands start.profile w.pairs ts w.later) turn.1 w.commands)
     texts.script.told texts.script.fault w.turn_is w.rests
 
 -- what is decided begins the lines so far

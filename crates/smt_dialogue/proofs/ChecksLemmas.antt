@@ -1,5 +1,6 @@
 -- How the checks of a dialogue go on with one more pair.
-use Rattle.std.proofs.Common.{◌≡◌, ◌+◌, ℕ, Bool, true, false, not, ◌&&◌, ◌||◌, List, [], ◌∷◌, ◌++◌, length, Option, Some}
+use Rattle.std.proofs.Common.{◌≡◌, ◌+◌, ℕ, Bool, true, false, not, ◌&&◌, ◌||◌, List, [], ◌∷◌, ◌++◌, length, Option}
+use Rattle.std.proofs.Common.{Some}
 use Rattle.std.proofs.Common.{None, cond, codes, refl, ap, sym, ◌∙◌, subst, arith, length-append}
 use Rattle.std.proofs.lemmas.List.{append-nil}
 use Rattle.std.specs.List.{list_any}
@@ -22,7 +23,8 @@ use Rattle.smt_dialogue.specs.Internal.ChecksState.{pending_lines, unchanged, wi
 use Rattle.smt_dialogue.specs.Internal.ChecksState.{with_window_ended}
 use Rattle.smt_dialogue.specs.Internal.Claims.{claims_after}
 use Rattle.smt_dialogue.specs.Judgement.{Claimed, judgement_of}
-use Rattle.smt_dialogue.specs.Lines.{claims_of_check, confirmed_line, is_empty, line_of_judgement, lines_of_answer, lines_of_pair}
+use Rattle.smt_dialogue.specs.Lines.{claims_of_check, confirmed_line, is_empty, line_of_judgement, lines_of_answer}
+use Rattle.smt_dialogue.specs.Lines.{lines_of_pair}
 use Rattle.smt_dialogue.specs.Lines.{lines_of_sat, sat_lines, unchecked_line_or}
 use Rattle.smt_dialogue.specs.Lines.{unconfirmed_line}
 use Rattle.smt_dialogue.specs.Pairs.{Pair, checks_in, is_effective, pair_of}

@@ -200,7 +200,8 @@ unconfirmed_has options script answers before after check closed ls model w sat 
     let models = models_from (n + 1) (window after) in
     let place : models ≡ among.first ++ model ∷ among.last =
     ap (λ (i : ℕ). models_from i (window after)) (omega arith) ∙ among.models in
-    let is_confirmed : Printed → Type 0 = λ (m : Printed). judgement_of steps names claims m.parts ≡ judgements.Confirmed
+    let is_confirmed : Printed → Type 0 =
+    λ (m : Printed). judgement_of steps names claims m.parts ≡ judgements.Confirmed
     in
     sat_line options script answers before after check closed ls w sat
     (sat_unconfirmed k n (unconfirmed_line steps k n names claims models) (not (is_empty models))

@@ -1,5 +1,6 @@
 -- An exchange goes on as more of a text comes, or its end is told.
-use Rattle.std.proofs.Common.{true, ◌||◌, is_some, ◌≡◌, ℕ, Bool, false, List, Option, Some, None, refl, ap, sym, ◌∙◌, subst}
+use Rattle.std.proofs.Common.{true, ◌||◌, is_some, ◌≡◌, ℕ, Bool, false, List, Option, Some, None, refl, ap, sym, ◌∙◌}
+use Rattle.std.proofs.Common.{subst}
 use Rattle.smt_script.specs.StackView.{profile_of, start_of}
 use Rattle.smt_text.specs.Reader as readers
 use Rattle.smt_text.specs.Reader.{depth_limit, is_finished}

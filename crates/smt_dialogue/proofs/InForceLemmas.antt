@@ -15,7 +15,8 @@ use Rattle.smt_trees.specs.Sexp.{Sexp, Sexps}
 use Rattle.smt_script.specs.Command.{Command, Effect, AllButOptions, Assumes, Everything, Nothing, Removes, Removing}
 use Rattle.smt_script.specs.Command.{SetsGlobal, closes_window, effect_of, is_check}
 use Rattle.smt_script.specs.Command.{SetLogic, SetPrintSuccess, SetGlobalDeclarations, SetOption, SetInfo}
-use Rattle.smt_script.specs.Command.{DeclareConst, DeclareFun, DefineFun, DeclareSort, DefineSort, Assert, Push, Pop, Reset}
+use Rattle.smt_script.specs.Command.{DeclareConst, DeclareFun, DefineFun, DeclareSort, DefineSort, Assert, Push, Pop}
+use Rattle.smt_script.specs.Command.{Reset}
 use Rattle.smt_script.specs.Command.{ResetAssertions, Exit, CheckSat, CheckSatAssuming, GetModel, Echo, Get}
 use Rattle.smt_script.specs.Stack.{assumptions_after, assumptions_in_force, literals_of}
 use Rattle.smt_script.specs.Stack.{Brought, Numbered, abbreviations_by, abbreviations_of}

@@ -41,7 +41,8 @@ some_same : {a b : OwnedTree} → ◌≡◌ {A = Option OwnedTree} (Some a) (Som
 some_same h = cc
 
 -- the answer that stood ready is the first of those that are left
-first_is : (next : Option OwnedTree) (tree other : OwnedTree) (rest later : Sexps) → next ≡ Some other → next ≡ Some tree
+first_is : (next : Option OwnedTree) (tree other : OwnedTree) (rest later : Sexps) → next ≡ Some other
+    → next ≡ Some tree
     → rest ≡ Cons (sexp_of other) later → rest ≡ Cons (sexp_of tree) later
 first_is next tree other rest later is same h =
     h ∙ ap (λ t. Cons (sexp_of t) later) (some_same (sym is ∙ same))
@@ -52,7 +53,8 @@ pub nothing_taken : (text : TextSoFar) (rest : Sexps) (bytes : List ℕ) (front 
     → HasQueue front bytes text rest → IsTaken (found.Takes None) Nothing text rest bytes front
 nothing_taken text rest bytes front h = record { left = rest; front_is = h; taken_so = refl; left_is = refl }
 
-pub optional_ready : (form : AnswerForm) (o : Option TakenAnswer) (next : Option OwnedTree) (text : TextSoFar) (rest : Sexps)
+pub optional_ready : (form : AnswerForm) (o : Option TakenAnswer) (next : Option OwnedTree) (text : TextSoFar)
+    (rest : Sexps)
     (bytes : List ℕ) (front : TreeQueue) → IsAhead comes.Tree next text rest → IsFound form o next text rest bytes front
     → IsTaken (found.Takes o) (Optional form) text rest bytes front
 optional_ready form (Some answer) next text rest bytes front ahead h =
@@ -72,7 +74,8 @@ optional_ready form None next text rest bytes front ahead h = record {
   left_is = refl;
 }
 
-pub needed_taken : (form : AnswerForm) (answer : TakenAnswer) (next : Option OwnedTree) (text : TextSoFar) (rest : Sexps)
+pub needed_taken : (form : AnswerForm) (answer : TakenAnswer) (next : Option OwnedTree) (text : TextSoFar)
+    (rest : Sexps)
     (bytes : List ℕ) (front : TreeQueue) → IsAhead comes.Tree next text rest
     → IsFound form (Some answer) next text rest bytes front
     → IsTaken (found.Takes (Some answer)) (Needed form) text rest bytes front

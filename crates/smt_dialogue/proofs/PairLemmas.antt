@@ -8,7 +8,8 @@ use Rattle.std.specs.Cmp.Lexicographic.{same_text}
 use Rattle.smt_script.specs.Command.{Command, is_check, closes_window}
 use Rattle.smt_script.specs.Stack.{Assertion, Numbered, assertions_in_force, assumptions_in_force}
 use Rattle.smt_script.specs.Stack.{literals_of, signature_in_force}
-use Rattle.smt_dialogue.proofs.InForceLemmas.{IsQuiet, assertions-quiet, signature-quiet, assumptions-check, assumptions-passed}
+use Rattle.smt_dialogue.proofs.InForceLemmas.{IsQuiet, assertions-quiet, signature-quiet, assumptions-check}
+use Rattle.smt_dialogue.proofs.InForceLemmas.{assumptions-passed}
 use Rattle.smt_dialogue.specs.Answers.{Takes, taken}
 use Rattle.smt_dialogue.specs.InForce.{AreFaultless, assertions_after, assumptions_after, flaw_of_pair}
 use Rattle.smt_dialogue.specs.Internal.Claims.{claims_after}

@@ -185,7 +185,8 @@ command_read old new texts pairs later rest t c none some dialogue answers ready
         early = h.early;
         stands = subst (λ d. Fits h.early (state_behind texts.taken d) pairs) (sym dialogue) h.stands;
         closing = λ e. absurd (let empty : Cons (sexp_of t) behind ≡ Nil =
-            sym (left ∙ first) ∙ (subst (λ o. IsClosing (profile_of old.dialogue.stack) o texts later) none (h.closing e)).0 in cc);
+            sym (left ∙ first) ∙
+            (subst (λ o. IsClosing (profile_of old.dialogue.stack) o texts later) none (h.closing e)).0 in cc);
         paired =
             subst (λ d. ArePaired (start_of d.stack) texts.script texts.answers pairs later rest)
             (sym dialogue) h.paired;
@@ -243,7 +244,8 @@ pub taken_up : (turn : Turn) (old new : Pairing) (texts : Texts) (pairs : List P
     texts.answers_bytes new.answers (state_behind texts.taken new.dialogue))
     → IsUnderWay old texts pairs later rest → IsTurned turn old new texts pairs later rest
 taken_up turns.GoesOn old new texts pairs later rest t c some read script start gone stays ups h =
-    let up = ups h.early h.stands (λ e. subst (λ o. IsClosing (profile_of old.dialogue.stack) o texts later) some (h.closing e) c read) in
+    let up = ups h.early h.stands
+    (λ e. subst (λ o. IsClosing (profile_of old.dialogue.stack) o texts later) some (h.closing e) c read) in
     let turn = subst (λ o. IsInTurn (profile_of old.dialogue.stack) o pairs later h.left) some h.in_turn in
     let before = subst (λ l. ArePaired (start_of old.dialogue.stack) texts.script texts.answers pairs
     l rest) turn.1 h.paired in
@@ -267,7 +269,8 @@ taken_up turns.GoesOn old new texts pairs later rest t c some read script start 
       start,
     )
 taken_up (turns.Waits closed) old new texts pairs later rest t c some read script start gone stays ups h =
-    let up = ups h.early h.stands (λ e. subst (λ o. IsClosing (profile_of old.dialogue.stack) o texts later) some (h.closing e) c read) in
+    let up = ups h.early h.stands
+    (λ e. subst (λ o. IsClosing (profile_of old.dialogue.stack) o texts later) some (h.closing e) c read) in
     let turn = subst (λ o. IsInTurn (profile_of old.dialogue.stack) o pairs later h.left) some h.in_turn in (
       record {
         left = h.left;
@@ -293,7 +296,8 @@ taken_up (turns.Waits closed) old new texts pairs later rest t c some read scrip
           (taken_for (start_of old.dialogue.stack) pairs c texts.answers rest) (up.0 ∙ ap Waits e))),
     )
 taken_up (turns.Ends fault) old new texts pairs later rest t c some read script start gone stays ups h =
-    let up = ups h.early h.stands (λ e. subst (λ o. IsClosing (profile_of old.dialogue.stack) o texts later) some (h.closing e) c read) in
+    let up = ups h.early h.stands
+    (λ e. subst (λ o. IsClosing (profile_of old.dialogue.stack) o texts later) some (h.closing e) c read) in
     let turn = subst (λ o. IsInTurn (profile_of old.dialogue.stack) o pairs later h.left) some h.in_turn in
     (h.early, up.1, command_turn old texts pairs later rest (sexp_of t) c h.left turn.1 read turn.3 ∙ up.0)
 

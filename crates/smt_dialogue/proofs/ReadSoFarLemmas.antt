@@ -46,7 +46,8 @@ one_lines : (options : Options) (script answers : TextSoFar) (ls ms : List Line)
     → AreLinesSoFar options script answers ls → AreLinesSoFar options script answers ms → ls ≡ ms
 one_lines options script answers ls ms x y =
     let steps = options.limit.steps in
-    let way = one_turn (start_by options) script answers x.pairs y.pairs x.turn y.turn x.rests y.rests x.turn_is y.turn_is in
+    let way = one_turn (start_by options) script answers x.pairs y.pairs x.turn y.turn x.rests y.rests x.turn_is
+    y.turn_is in
     x.lines_are ∙ ap (λ ps. lines_at options.profile steps ps x.turn) way.0
     ∙ ap (lines_at options.profile steps y.pairs) way.1 ∙ sym y.lines_are
 
@@ -55,7 +56,8 @@ pub one_so_far : OneReading → (options : Options) (script_told answers_told : 
     → IsSoFar options script_told script answers_told answers ms → ls ≡ ms
 one_so_far one options script_told answers_told script answers ls ms x y =
     let start = start_by options in
-    let scripts = same_text one (max_depth_of options.profile) script_told script y.script_text x.script_text y.script_read x.script_read in
+    let scripts = same_text one
+    (max_depth_of options.profile) script_told script y.script_text x.script_text y.script_read x.script_read in
     let printed = same_text one (max_depth_of options.profile) answers_told answers y.answers_text x.answers_text
     y.answers_read x.answers_read in
     one_lines options x.script_text x.answers_text ls ms x.lines_are
@@ -142,7 +144,8 @@ not_told true h g = cc
 not_told false h g = cc
 
 -- a text whose end was not told
-grown_open : TreesStay → FaultsStay → (max_depth : ℕ) (bytes : List ℕ) (grown_told : Bool) (grown : List ℕ) (x y : TextSoFar)
+grown_open : TreesStay → FaultsStay
+    → (max_depth : ℕ) (bytes : List ℕ) (grown_told : Bool) (grown : List ℕ) (x y : TextSoFar)
     (f : Option TextFlaw) → x.fault ≡ f → AreGrown false bytes grown_told grown
     → IsRead max_depth false bytes x → IsRead max_depth grown_told grown y → IsGrown x y
 grown_open trees_stay faults_stay max_depth bytes grown_told grown x y (Some fault) is g a b =

@@ -166,17 +166,17 @@ open_with laws side x y h told dialogue alike goes o =
       limits = limited_on x y depth alike o.limits;
     }
 
-pub is_under_way : (s : Session) (h : History) → s.failure ≡ None → false ≡ is_some s.verdict → StandsFor s h
+pub is_under_way : (s : Session) (h : History) → s.failure ≡ None → false ≡ is_some s.summary → StandsFor s h
     → IsOpen s.exchange h
 is_under_way s h none unset k =
     subst (λ f. GoesOn None f s.exchange h) none
-    (subst (λ v. GoesOn v s.failure s.exchange h) (none_by s.verdict unset) k.goes_on)
+    (subst (λ v. GoesOn v s.failure s.exchange h) (none_by s.summary unset) k.goes_on)
 
 -- ---- more of a text, counted
 
 -- m is s with another text on this side, and its exchange goes on to y
 takes_more : TextLaws → (side : Side) (s m : Session) (y : Pairing) (h : History) (fed : Fed) (told : Told)
-    → m.failure ≡ None → false ≡ is_some m.verdict → m ≡ with_fed side fed s → AreTold m (with_text side told h)
+    → m.failure ≡ None → false ≡ is_some m.summary → m ≡ with_fed side fed s → AreTold m (with_text side told h)
     → (AreCounted s h → AreCounted m (with_text side told h)) → y.dialogue ≡ m.exchange.dialogue
     → AreLimitedAlike m.exchange y
     → ((texts : Texts) → bytes_at side texts ≡ (text_at side h).bytes
@@ -184,23 +184,23 @@ takes_more : TextLaws → (side : Side) (s m : Session) (y : Pairing) (h : Histo
     → StandsFor s h → IsGoingOn (record m { exchange = y }) (with_text side told h)
 takes_more laws side s m y h fed told none unset is ends counts dialogue alike goes k =
     let exchange : m.exchange ≡ s.exchange = ap (λ (m' : Session). m'.exchange) is in
-    let verdict : m.verdict ≡ s.verdict = ap (λ (m' : Session). m'.verdict) is in
+    let summary : m.summary ≡ s.summary = ap (λ (m' : Session). m'.summary) is in
     let failure : m.failure ≡ s.failure = ap (λ (m' : Session). m'.failure) is in
     let counted = counts (k.counted (sym failure ∙ none)) in
     record {
       failure = none;
-      verdict = none_by m.verdict unset;
+      summary = none_by m.summary unset;
       script_ended = ends.script;
       answers_ended = ends.answers;
       counted = record { script = counted.script; answers = counted.answers };
       open' = open_with laws side m.exchange y h told dialogue alike goes
           (subst (λ x. IsOpen x h) (sym exchange)
-          (is_under_way s h (sym failure ∙ none) (unset ∙ ap is_some verdict) k));
+          (is_under_way s h (sym failure ∙ none) (unset ∙ ap is_some summary) k));
     }
 
 -- and a piece of it
 pub piece_fed : TextLaws → (side : Side) (s m : Session) (y : Pairing) (h : History) (piece : List ℕ)
-    (before after : ℕ) → m.failure ≡ None → false ≡ is_some m.verdict → is_ended side s ≡ false
+    (before after : ℕ) → m.failure ≡ None → false ≡ is_some m.summary → is_ended side s ≡ false
     → m ≡ with_fed side (record (fed_at side s) { bytes = after }) s → AreTold m (with_piece side h piece)
     → before ≡ (fed_at side s).bytes → (before + length piece < 2 ^ 64) × (after ≡ before + length piece)
     → y.dialogue ≡ m.exchange.dialogue → AreLimitedAlike m.exchange y
@@ -217,7 +217,7 @@ piece_fed laws side s m y h piece before after none unset open' is ends read sum
 
 -- or its end
 pub end_fed : TextLaws → (side : Side) (s m : Session) (y : Pairing) (h : History) → m.failure ≡ None
-    → false ≡ is_some m.verdict → m ≡ with_fed side (record (fed_at side s) { ended = true }) s
+    → false ≡ is_some m.summary → m ≡ with_fed side (record (fed_at side s) { ended = true }) s
     → AreTold m (with_end side h) → y.dialogue ≡ m.exchange.dialogue → AreLimitedAlike m.exchange y
     → ((texts : Texts) → GoesOnWith side m.exchange y texts true (bytes_at side texts))
     → StandsFor s h → IsGoingOn (record m { exchange = y }) (with_end side h)
@@ -245,14 +245,14 @@ kept_same x y same = ([], ap waiting same ∙ sym (append-nil (waiting x)))
 
 -- the reader of this side takes more, where m has the texts of s
 pub open_at : (side : Side) (s m : Session) (h : History) → m.exchange ≡ s.exchange → s.failure ≡ None
-    → false ≡ is_some s.verdict → is_ended side s ≡ false → StandsFor s h
+    → false ≡ is_some s.summary → is_ended side s ≡ false → StandsFor s h
     → is_finished (queue_at side m.exchange).reader ≡ false
 open_at side s m h same none unset open' k =
     ap (λ x. is_finished (queue_at side x).reader) same
     ∙ is_open_front side s h (is_under_way s h none unset k) open' k
 
 pub fed_so_far : (side : Side) (s m : Session) (h : History) → m.exchange ≡ s.exchange → s.failure ≡ None
-    → false ≡ is_some s.verdict → StandsFor s h
+    → false ≡ is_some s.summary → StandsFor s h
     → bytes_fed (queue_at side m.exchange).reader ≡ (fed_at side s).bytes
 fed_so_far side s m h same none unset k =
     ap (λ x. bytes_fed (queue_at side x).reader) same

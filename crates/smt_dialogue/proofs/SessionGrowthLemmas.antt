@@ -10,7 +10,7 @@ use Rattle.smt_dialogue.specs.History.{AreDecided, AreFirstDecided, HasGrown, Hi
 use Rattle.smt_dialogue.specs.Lines.{lines_in}
 use Rattle.smt_dialogue.specs.Depth.{max_depth_of}
 use Rattle.smt_dialogue.specs.Report.{IsRead, IsTurn, lines_at_end, lines_of_end}
-use Rattle.smt_dialogue.specs.Session.{AreCounted, AreLines, IsVerdictIn, StandsFor, is_answers_ended}
+use Rattle.smt_dialogue.specs.Session.{AreCounted, AreLines, IsSummaryIn, StandsFor, is_answers_ended}
 use Rattle.smt_dialogue.specs.Session.{is_script_ended, lines_waiting}
 use Rattle.smt_dialogue.specs.SoFar.{AreGrown, AreLinesSoFar, IsBeginning, IsGrown}
 use Rattle.smt_dialogue.specs.Internal.PairingView.{waiting}
@@ -21,10 +21,10 @@ use Rattle.smt_dialogue.specs.declared.options.Options.{Options}
 use Rattle.smt_dialogue.specs.declared.session.Failed.{Failed}
 use Rattle.smt_dialogue.specs.declared.session.Failed.TheVariants.{Long}
 use Rattle.smt_dialogue.specs.declared.session.Session.{Session}
-use Rattle.smt_report.specs.Verdict.{IsVerdictOf, tally_of, verdict_of}
+use Rattle.smt_report.specs.Verdict.{IsSummaryOf, IsVerdictOf, summary_of}
 use Rattle.smt_report.specs.declared.line.Line.{Line}
 use Rattle.smt_report.specs.declared.line.Line.TheVariants as lines
-use Rattle.smt_report.specs.declared.verdict.Verdict.{Verdict}
+use Rattle.smt_report.specs.declared.summary.Summary.{Summary}
 use Rattle.smt_dialogue.specs.InForce.{start_by}
 
 -- ---- more was told
@@ -55,11 +55,14 @@ grown_lines : TextLaws → (h g : History) → HasGrown h g → (ls ms : List Li
 grown_lines laws h g s ls ms x y =
     let grown = grown_text laws.one laws.trees_stay laws.faults_stay (max_depth_of h.options.profile) in
     lines_stay h.options x.script_text x.answers_text y.script_text y.answers_text ls ms
-    (grown h.script.ended h.script.bytes g.script.ended g.script.bytes x.script_text y.script_text s.script x.script_read
-    (subst (λ (o : Options). IsRead (max_depth_of o.profile) g.script.ended g.script.bytes y.script_text) s.options y.script_read))
+    (grown h.script.ended h.script.bytes g.script.ended g.script.bytes x.script_text y.script_text s.script
+    x.script_read
+    (subst (λ (o : Options). IsRead (max_depth_of o.profile) g.script.ended g.script.bytes y.script_text) s.options
+    y.script_read))
     (grown h.answers.ended h.answers.bytes g.answers.ended g.answers.bytes x.answers_text y.answers_text s.answers
     x.answers_read
-    (subst (λ (o : Options). IsRead (max_depth_of o.profile) g.answers.ended g.answers.bytes y.answers_text) s.options y.answers_read))
+    (subst (λ (o : Options). IsRead (max_depth_of o.profile) g.answers.ended g.answers.bytes y.answers_text) s.options
+    y.answers_read))
     x.lines_are
     (subst (λ (o : Options). AreLinesSoFar o y.script_text y.answers_text ms) s.options y.lines_are)
 
@@ -107,9 +110,9 @@ read_again laws h g script answers s r =
       grown h.answers.ended h.answers.bytes g.answers.ended g.answers.bytes answers at' s.answers r.answers_read ra,
     )
 
-ended_grown : TextLaws → (verdict : Verdict) (h g : History) (ls : List Line) → HasGrown h g → HasEnded verdict h ls
-    → HasEnded verdict g ls
-ended_grown laws verdict h g ls s e =
+ended_grown : TextLaws → (summary : Summary) (h g : History) (ls : List Line) → HasGrown h g → HasEnded summary h ls
+    → HasEnded summary g ls
+ended_grown laws summary h g ls s e =
     let r = read_again laws h g e.script e.answers s e.read in
     record {
       script = r.0;
@@ -121,13 +124,13 @@ ended_grown laws verdict h g ls s e =
           (ends_stay (start_by h.options) e.script e.answers r.0 r.1 e.pairs e.fault r.3 r.4 e.ends);
       lines_are = subst (λ (o : Options). ls ≡ lines_at_end o.profile o.limit.steps e.pairs e.fault)
           (sym s.options) e.lines_are;
-      verdict_is = subst (λ (o : Options). verdict
-          ≡ verdict_of (lines_in o.profile o.limit.steps true [] e.pairs [] ++ lines_of_end e.fault))
-          (sym s.options) e.verdict_is;
+      summary_is = subst (λ (o : Options). summary
+          ≡ summary_of (lines_in o.profile o.limit.steps true [] e.pairs [] ++ lines_of_end e.fault))
+          (sym s.options) e.summary_is;
     }
 
-pub ended_lines : (verdict : Verdict) (h : History) (ls : List Line) → HasEnded verdict h ls → AreDecided h ls
-ended_lines verdict h ls e = record {
+pub ended_lines : (summary : Summary) (h : History) (ls : List Line) → HasEnded summary h ls → AreDecided h ls
+ended_lines summary h ls e = record {
   script_text = e.script;
   script_read = e.read.script_read;
   answers_text = e.answers;
@@ -135,18 +138,24 @@ ended_lines verdict h ls e = record {
   lines_are = record { pairs = e.pairs; turn = Ends e.fault; rests = tt; turn_is = e.ends; lines_are = e.lines_are };
 }
 
-pub ended_verdict : (verdict : Verdict) (h : History) (ls : List Line) → HasEnded verdict h ls → IsVerdictOf verdict ls
-ended_verdict verdict h ls e =
-    let all = lines_in h.options.profile h.options.limit.steps true [] e.pairs [] ++ lines_of_end e.fault in (
-      all,
-      tally_of all,
-      e.lines_are ∙ ap (λ v. all ++ lines.Verdict v (tally_of all) ∷ []) (sym e.verdict_is),
-    )
+pub ended_summary : (summary : Summary) (h : History) (ls : List Line) → HasEnded summary h ls → IsSummaryOf summary ls
+ended_summary summary h ls e = (
+  lines_in h.options.profile h.options.limit.steps true [] e.pairs [] ++ lines_of_end e.fault,
+  e.lines_are,
+  e.summary_is,
+)
+
+pub summary_verdict : (summary : Summary) (ls : List Line) → IsSummaryOf summary ls → IsVerdictOf summary.verdict ls
+summary_verdict summary ls h = (
+  h.0,
+  summary.tally,
+  h.1 ∙ ap (λ (s : Summary). h.0 ++ lines.Verdict s.verdict s.tally ∷ []) (sym h.2),
+)
 
 -- ---- a call behind a failure, or behind the end
 
-goes_behind : TextLaws → (verdict : Option Verdict) (failure : Option Failed) (failed : Failed) (x : Pairing)
-    (h g : History) → HasGrown h g → g.taken ≡ h.taken → GoesOn verdict failure x h → GoesOn verdict (Some failed) x g
+goes_behind : TextLaws → (summary : Option Summary) (failure : Option Failed) (failed : Failed) (x : Pairing)
+    (h g : History) → HasGrown h g → g.taken ≡ h.taken → GoesOn summary failure x h → GoesOn summary (Some failed) x g
 goes_behind laws None failure failed x h g s taken on = tt
 goes_behind laws (Some v) failure failed x h g s taken on =
     subst (λ t. HasEnded v g (t ++ waiting x)) (sym taken) (ended_grown laws v h g (h.taken ++ waiting x) s on)
@@ -161,45 +170,45 @@ same_lines : (s t : Session) (h g : History) → t.exchange ≡ s.exchange → g
 same_lines s t h g exchange taken =
     ap (λ ls. ls ++ lines_waiting t) taken ∙ ap (λ (x : Pairing). h.taken ++ waiting x) exchange
 
-same_verdict : (s t : Session) (h g : History) → t.verdict ≡ s.verdict → t.exchange ≡ s.exchange → g.taken ≡ h.taken
-    → StandsFor s h → IsVerdictIn t.verdict (g.taken ++ lines_waiting t)
-same_verdict s t h g verdict exchange taken k =
-    subst (IsVerdictIn t.verdict) (sym (same_lines s t h g exchange taken))
-    (subst (λ v. IsVerdictIn v (h.taken ++ lines_waiting s)) (sym verdict) k.verdict)
+same_summary : (s t : Session) (h g : History) → t.summary ≡ s.summary → t.exchange ≡ s.exchange → g.taken ≡ h.taken
+    → StandsFor s h → IsSummaryIn t.summary (g.taken ++ lines_waiting t)
+same_summary s t h g summary exchange taken k =
+    subst (IsSummaryIn t.summary) (sym (same_lines s t h g exchange taken))
+    (subst (λ v. IsSummaryIn v (h.taken ++ lines_waiting s)) (sym summary) k.summary)
 
 -- t is s, and has failed, with other texts told
 pub stopped_stands : TextLaws → (s t : Session) (h g : History) (failed : Failed) → t.failure ≡ Some failed
-    → t.verdict ≡ s.verdict → t.exchange ≡ s.exchange → AreTold t g → HasGrown h g → g.taken ≡ h.taken
+    → t.summary ≡ s.summary → t.exchange ≡ s.exchange → AreTold t g → HasGrown h g → g.taken ≡ h.taken
     → (failed ≡ Long → IsLong g) → StandsFor s h → StandsFor t g
-stopped_stands laws s t h g failed some verdict exchange told more taken long k = record {
+stopped_stands laws s t h g failed some summary exchange told more taken long k = record {
   lines = subst (λ o. AreLines o g (g.taken ++ lines_waiting t)) (sym some)
       (subst (AreFirstDecided g) (sym (same_lines s t h g exchange taken))
       (first_grown laws h g more (h.taken ++ lines_waiting s)
       (any_first s.failure h (h.taken ++ lines_waiting s) k.lines)));
-  verdict = same_verdict s t h g verdict exchange taken k;
+  summary = same_summary s t h g summary exchange taken k;
   script_ended = told.script;
   answers_ended = told.answers;
   counted = λ none. absurd (let e : None ≡ Some failed = sym none ∙ some in cc);
   long = λ is. long (let e : Some failed ≡ Some Long = sym some ∙ is in cc);
-  goes_on = subst (λ x. GoesOn t.verdict t.failure x g) (sym exchange)
-      (subst (λ f. GoesOn t.verdict f s.exchange g) (sym some)
-      (subst (λ v. GoesOn v (Some failed) s.exchange g) (sym verdict)
-      (goes_behind laws s.verdict s.failure failed s.exchange h g more taken k.goes_on)));
+  goes_on = subst (λ x. GoesOn t.summary t.failure x g) (sym exchange)
+      (subst (λ f. GoesOn t.summary f s.exchange g) (sym some)
+      (subst (λ v. GoesOn v (Some failed) s.exchange g) (sym summary)
+      (goes_behind laws s.summary s.failure failed s.exchange h g more taken k.goes_on)));
 }
 
 -- t is s, which has failed, with other texts told
 pub failed_stands : TextLaws → (s t : Session) (h g : History) (failed : Failed) → s.failure ≡ Some failed
-    → t.failure ≡ s.failure → t.verdict ≡ s.verdict → t.exchange ≡ s.exchange → AreTold t g → HasGrown h g
+    → t.failure ≡ s.failure → t.summary ≡ s.summary → t.exchange ≡ s.exchange → AreTold t g → HasGrown h g
     → g.taken ≡ h.taken → StandsFor s h → StandsFor t g
-failed_stands laws s t h g failed is failure verdict exchange told more taken k =
-    stopped_stands laws s t h g failed (failure ∙ is) verdict exchange told more taken
+failed_stands laws s t h g failed is failure summary exchange told more taken k =
+    stopped_stands laws s t h g failed (failure ∙ is) summary exchange told more taken
     (λ long. long_grown h g more (k.long (is ∙ ap Some long))) k
 
 -- t is s, whose dialogue has ended, with other texts told
-pub ended_stands : TextLaws → (s t : Session) (h g : History) (v : Verdict) → s.verdict ≡ Some v → s.failure ≡ None
-    → t.failure ≡ None → t.verdict ≡ s.verdict → t.exchange ≡ s.exchange → AreTold t g → HasGrown h g
+pub ended_stands : TextLaws → (s t : Session) (h g : History) (v : Summary) → s.summary ≡ Some v → s.failure ≡ None
+    → t.failure ≡ None → t.summary ≡ s.summary → t.exchange ≡ s.exchange → AreTold t g → HasGrown h g
     → g.taken ≡ h.taken → AreCounted t g → StandsFor s h → StandsFor t g
-ended_stands laws s t h g v is none unset verdict exchange told more taken counted k =
+ended_stands laws s t h g v is none unset summary exchange told more taken counted k =
     let before : HasEnded v h (h.taken ++ waiting s.exchange) =
     subst (λ o. GoesOn o s.failure s.exchange h) is k.goes_on in
     let now : HasEnded v g (g.taken ++ lines_waiting t) =
@@ -208,10 +217,10 @@ ended_stands laws s t h g v is none unset verdict exchange told more taken count
     record {
       lines = subst (λ o. AreLines o g (g.taken ++ lines_waiting t)) (sym unset)
           (ended_lines v g (g.taken ++ lines_waiting t) now);
-      verdict = same_verdict s t h g verdict exchange taken k;
+      summary = same_summary s t h g summary exchange taken k;
       script_ended = told.script;
       answers_ended = told.answers;
       counted = λ unset'. counted;
       long = λ is'. absurd (let e : None ≡ Some Long = sym unset ∙ is' in cc);
-      goes_on = subst (λ o. GoesOn o t.failure t.exchange g) (sym (verdict ∙ is)) now;
+      goes_on = subst (λ o. GoesOn o t.failure t.exchange g) (sym (summary ∙ is)) now;
     }

@@ -14,7 +14,7 @@ use Rattle.smt_dialogue.specs.History.{History, begun, with_taken}
 use Rattle.smt_dialogue.specs.Pairs.{Pair}
 use Rattle.smt_dialogue.specs.Depth.{max_depth_of}
 use Rattle.smt_dialogue.specs.Report.{IsRead}
-use Rattle.smt_dialogue.specs.Session.{AreCounted, AreLines, IsVerdictIn, StandsFor, is_answers_ended}
+use Rattle.smt_dialogue.specs.Session.{AreCounted, AreLines, IsSummaryIn, StandsFor, is_answers_ended}
 use Rattle.smt_dialogue.specs.Session.{is_script_ended, lines_waiting}
 use Rattle.smt_dialogue.specs.SoFar.{is_verdict_line}
 use Rattle.smt_dialogue.specs.Internal.AcceptedState.{options_of}
@@ -29,7 +29,7 @@ use Rattle.smt_dialogue.specs.declared.session.Failed.TheVariants.{Long}
 use Rattle.smt_dialogue.specs.declared.session.Session.{Session}
 use Rattle.smt_dialogue.specs.declared.tree_queue.TreeQueue.{TreeQueue}
 use Rattle.smt_report.specs.declared.line.Line.{Line}
-use Rattle.smt_report.specs.declared.verdict.Verdict.{Verdict}
+use Rattle.smt_report.specs.declared.summary.Summary.{Summary}
 
 -- ---- the beginning
 
@@ -58,7 +58,7 @@ nothing_read one max_depth none = (
 )
 
 pub new_stands : OneForest → (s : Session) (options : Options)
-    → Forest (max_depth_of options.profile) [] Nil → s.verdict ≡ None → s.failure ≡ None
+    → Forest (max_depth_of options.profile) [] Nil → s.summary ≡ None → s.failure ≡ None
     → is_script_ended s ≡ false → is_answers_ended s ≡ false
     → s.script.bytes ≡ 0 → s.answers.bytes ≡ 0 → lines_waiting s ≡ []
     → options_of s.exchange.dialogue ≡ options
@@ -93,7 +93,7 @@ new_stands one s options none no_verdict no_failure open' answers_open zero answ
           lines_are = empty;
         };
       });
-      verdict = subst (λ v. IsVerdictIn v (lines_waiting s)) (sym no_verdict) (ap (list_any is_verdict_line) empty);
+      summary = subst (λ v. IsSummaryIn v (lines_waiting s)) (sym no_verdict) (ap (list_any is_verdict_line) empty);
       script_ended = open';
       answers_ended = answers_open;
       counted = λ is. record {
@@ -144,7 +144,7 @@ taken_on x y h ls takes o = record {
   limits = limited_on x y (max_depth_of h.options.profile) takes.limits o.limits;
 }
 
-ended_taken : (v : Verdict) (h : History) (ls ms ns : List Line) → ms ≡ ns → HasEnded v h ms
+ended_taken : (v : Summary) (h : History) (ls ms ns : List Line) → ms ≡ ns → HasEnded v h ms
     → HasEnded v (with_taken h ls) ns
 ended_taken v h ls ms ns same e = record {
   script = e.script;
@@ -154,10 +154,10 @@ ended_taken v h ls ms ns same e = record {
   fault = e.fault;
   ends = e.ends;
   lines_are = sym same ∙ e.lines_are;
-  verdict_is = e.verdict_is;
+  summary_is = e.summary_is;
 }
 
-goes_taken : (v : Option Verdict) (f : Option Failed) (x y : Pairing) (h : History) (ls : List Line)
+goes_taken : (v : Option Summary) (f : Option Failed) (x y : Pairing) (h : History) (ls : List Line)
     → (h.taken ++ waiting x) ≡ ((h.taken ++ ls) ++ waiting y) → IsTakenOf x y ls
     → GoesOn v f x h → GoesOn v f y (with_taken h ls)
 goes_taken (Some v) f x y h ls same takes on =
@@ -173,7 +173,7 @@ lines_taken (Some failed) h ls ms x = x
 -- t is s but for its lines
 pub record SameButLines (s t : Session) : Type 0 where
   pub failure : t.failure ≡ s.failure
-  pub verdict : t.verdict ≡ s.verdict
+  pub summary : t.summary ≡ s.summary
   pub script : t.script ≡ s.script
   pub answers : t.answers ≡ s.answers
 
@@ -194,22 +194,22 @@ taken_stands s t h ls out none now takes k =
       lines = subst (AreLines t.failure (with_taken h ls)) same
           (subst (λ f. AreLines f (with_taken h ls) (h.taken ++ lines_waiting s)) (sym now.failure)
           (lines_taken s.failure h ls (h.taken ++ lines_waiting s) k.lines));
-      verdict = subst (IsVerdictIn t.verdict) same
-          (subst (λ v. IsVerdictIn v (h.taken ++ lines_waiting s)) (sym now.verdict) k.verdict);
+      summary = subst (IsSummaryIn t.summary) same
+          (subst (λ v. IsSummaryIn v (h.taken ++ lines_waiting s)) (sym now.summary) k.summary);
       script_ended = ap (λ (f : Fed). f.ended) now.script ∙ k.script_ended;
       answers_ended = ap (λ (f : Fed). f.ended) now.answers ∙ k.answers_ended;
       counted = λ unset. counted_taken s t h ls now (k.counted (sym now.failure ∙ unset));
       long = λ is. k.long (sym now.failure ∙ is);
-      goes_on = subst (λ f. GoesOn t.verdict f t.exchange (with_taken h ls)) (sym now.failure)
-          (subst (λ v. GoesOn v s.failure t.exchange (with_taken h ls)) (sym now.verdict)
-          (goes_taken s.verdict s.failure s.exchange t.exchange h ls same takes k.goes_on));
+      goes_on = subst (λ f. GoesOn t.summary f t.exchange (with_taken h ls)) (sym now.failure)
+          (subst (λ v. GoesOn v s.failure t.exchange (with_taken h ls)) (sym now.summary)
+          (goes_taken s.summary s.failure s.exchange t.exchange h ls same takes k.goes_on));
     }
 
 pub taken_going : (s t : Session) (h : History) (ls : List Line) → SameButLines s t
     → IsTakenOf s.exchange t.exchange ls → IsGoingOn s h → IsGoingOn t (with_taken h ls)
 taken_going s t h ls now takes on = record {
   failure = now.failure ∙ on.failure;
-  verdict = now.verdict ∙ on.verdict;
+  summary = now.summary ∙ on.summary;
   script_ended = ap (λ (f : Fed). f.ended) now.script ∙ on.script_ended;
   answers_ended = ap (λ (f : Fed). f.ended) now.answers ∙ on.answers_ended;
   counted = counted_taken s t h ls now on.counted;

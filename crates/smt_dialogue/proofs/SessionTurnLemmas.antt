@@ -6,12 +6,12 @@ use Rattle.smt_dialogue.specs.InForce.{start_by}
 use Rattle.smt_dialogue.proofs.AdvanceLemmas.{cut_at}
 use Rattle.smt_dialogue.proofs.CheckLineLemmas.{no_verdicts}
 use Rattle.smt_dialogue.proofs.FirstFaultLemmas.{none_of}
-use Rattle.smt_dialogue.proofs.SessionGrowthLemmas.{AreTold, ended_lines, ended_verdict}
+use Rattle.smt_dialogue.proofs.SessionGrowthLemmas.{AreTold, ended_lines, ended_summary}
 use Rattle.smt_dialogue.specs.FirstFault.{TextSoFar, Waits, turn_at}
 use Rattle.smt_dialogue.specs.History.{AreDecided, AreFirstDecided, History, Told}
 use Rattle.smt_dialogue.specs.Depth.{max_depth_of}
 use Rattle.smt_dialogue.specs.Report.{ArePaired}
-use Rattle.smt_dialogue.specs.Session.{AreCounted, AreLines, IsCounted, IsVerdictIn, StandsFor}
+use Rattle.smt_dialogue.specs.Session.{AreCounted, AreLines, IsCounted, IsSummaryIn, StandsFor}
 use Rattle.smt_dialogue.specs.Session.{is_verdict_waiting, lines_waiting}
 use Rattle.smt_dialogue.specs.SoFar.{IsBeginning, is_verdict_line}
 use Rattle.smt_dialogue.specs.Internal.PairingView.{AreLimited, AreLimitedAlike, HasAdvanced, HasRested}
@@ -27,7 +27,7 @@ use Rattle.smt_dialogue.specs.declared.session.Fed.{Fed}
 use Rattle.smt_dialogue.specs.declared.session.Failed.TheVariants.{Long, Memory}
 use Rattle.smt_dialogue.specs.declared.session.Session.{Session}
 use Rattle.smt_report.specs.declared.line.Line.{Line}
-use Rattle.smt_report.specs.declared.verdict.Verdict.{Verdict}
+use Rattle.smt_report.specs.declared.summary.Summary.{Summary}
 
 -- lists may nest as deep as before
 pub limited_on : (x y : Pairing) (max_depth : ℕ) → AreLimitedAlike x y → AreLimited max_depth x
@@ -65,7 +65,7 @@ rested_lines h script answers x ls r o is = (
   ap (list_any is_verdict_line) (is ∙ o.7) ∙ no_verdicts h.options.profile h.options.limit.steps o.0 [] o.1 [],
 )
 
-pub waits_stands : (s t : Session) (h : History) → (on : IsGoingOn s h) → t.failure ≡ None → t.verdict ≡ None
+pub waits_stands : (s t : Session) (h : History) → (on : IsGoingOn s h) → t.failure ≡ None → t.summary ≡ None
     → AreTold t h → AreCounted t h → AreLimited (max_depth_of h.options.profile) t.exchange
     → HasRested None h.options t.exchange (texts_of h on.open'.script on.open'.answers)
     → StandsFor t h
@@ -74,7 +74,7 @@ waits_stands s t h on none unset told counted limits o =
     in
     record {
       lines = subst (λ f. AreLines f h (h.taken ++ lines_waiting t)) (sym none) r.0;
-      verdict = subst (λ v. IsVerdictIn v (h.taken ++ lines_waiting t)) (sym unset) r.1;
+      summary = subst (λ v. IsSummaryIn v (h.taken ++ lines_waiting t)) (sym unset) r.1;
       script_ended = told.script;
       answers_ended = told.answers;
       counted = λ unset'. counted;
@@ -93,8 +93,8 @@ waits_stands s t h on none unset told counted limits o =
           }));
     }
 
-pub ends_stands : (s t : Session) (h : History) (v : Verdict) → (on : IsGoingOn s h) → t.failure ≡ None
-    → t.verdict ≡ Some v → AreTold t h → AreCounted t h
+pub ends_stands : (s t : Session) (h : History) (v : Summary) → (on : IsGoingOn s h) → t.failure ≡ None
+    → t.summary ≡ Some v → AreTold t h → AreCounted t h
     → HasRested (Some v) h.options t.exchange (texts_of h on.open'.script on.open'.answers)
     → StandsFor t h
 ends_stands s t h v on none some told counted o =
@@ -106,13 +106,13 @@ ends_stands s t h v on none some told counted o =
       fault = o.0;
       ends = o.2;
       lines_are = o.3;
-      verdict_is = o.4;
+      summary_is = o.4;
     } in
     record {
       lines = subst (λ f. AreLines f h (h.taken ++ lines_waiting t)) (sym none)
           (ended_lines v h (h.taken ++ lines_waiting t) e);
-      verdict = subst (λ o'. IsVerdictIn o' (h.taken ++ lines_waiting t)) (sym some)
-          (ended_verdict v h (h.taken ++ lines_waiting t) e);
+      summary = subst (λ o'. IsSummaryIn o' (h.taken ++ lines_waiting t)) (sym some)
+          (ended_summary v h (h.taken ++ lines_waiting t) e);
       script_ended = told.script;
       answers_ended = told.answers;
       counted = λ unset'. counted;
@@ -130,10 +130,10 @@ counted_on s t h script answers counted = record {
   answers = same_counted s.answers t.answers h.answers answers counted.answers;
 }
 
-pub rests_stands : (s t : Session) (h : History) (verdict : Option Verdict) → (on : IsGoingOn s h) → t.failure ≡ None
-    → t.verdict ≡ verdict → AreTold t h → t.script ≡ s.script → t.answers ≡ s.answers
+pub rests_stands : (s t : Session) (h : History) (summary : Option Summary) → (on : IsGoingOn s h) → t.failure ≡ None
+    → t.summary ≡ summary → AreTold t h → t.script ≡ s.script → t.answers ≡ s.answers
     → AreLimited (max_depth_of h.options.profile) t.exchange
-    → HasRested verdict h.options t.exchange (texts_of h on.open'.script on.open'.answers)
+    → HasRested summary h.options t.exchange (texts_of h on.open'.script on.open'.answers)
     → StandsFor t h
 rests_stands s t h None on none is told script answers limits o =
     waits_stands s t h on none is told (counted_on s t h script answers on.counted) limits o
@@ -141,7 +141,7 @@ rests_stands s t h (Some v) on none is told script answers limits o =
     ends_stands s t h v on none is told (counted_on s t h script answers on.counted) o
 
 -- memory was refused: the lines are the first
-pub cut_stands : (s t : Session) (h : History) → (on : IsGoingOn s h) → t.failure ≡ Some Memory → t.verdict ≡ None
+pub cut_stands : (s t : Session) (h : History) → (on : IsGoingOn s h) → t.failure ≡ Some Memory → t.summary ≡ None
     → AreTold t h
     → IsCut h.options (lines_waiting t) (texts_of h on.open'.script on.open'.answers) → StandsFor t h
 cut_stands s t h on some unset told o = record {
@@ -156,7 +156,7 @@ cut_stands s t h on some unset told o = record {
     },
     o.2,
   );
-  verdict = subst (λ v. IsVerdictIn v (h.taken ++ lines_waiting t)) (sym unset) o.3;
+  summary = subst (λ v. IsSummaryIn v (h.taken ++ lines_waiting t)) (sym unset) o.3;
   script_ended = told.script;
   answers_ended = told.answers;
   counted = λ none. absurd (let e : None ≡ Some Memory = sym none ∙ some in cc);
@@ -175,35 +175,35 @@ pub some_by : {A : Type 0} (o : Option A) → true ≡ is_some o → (v : A) × 
 some_by None h = absurd (cc)
 some_by (Some v) h = (v, refl)
 
-failed_by : (v : Option Verdict) (failed : Failed) (s : Session) (h : History) → StandsFor s h
+failed_by : (v : Option Summary) (failed : Failed) (s : Session) (h : History) → StandsFor s h
     → IsFedBy v (Some failed) s h
 failed_by None failed s h k = k
 failed_by (Some v) failed s h k = k
 
 pub fed_failed : (s : Session) (h : History) (failed : Failed) → s.failure ≡ Some failed → StandsFor s h → IsFed s h
-fed_failed s h failed is k = subst (λ f. IsFedBy s.verdict f s h) (sym is) (failed_by s.verdict failed s h k)
+fed_failed s h failed is k = subst (λ f. IsFedBy s.summary f s h) (sym is) (failed_by s.summary failed s h k)
 
-pub fed_ended : (s : Session) (h : History) (v : Verdict) → s.verdict ≡ Some v → StandsFor s h → IsFed s h
+pub fed_ended : (s : Session) (h : History) (v : Summary) → s.summary ≡ Some v → StandsFor s h → IsFed s h
 fed_ended s h v is k = subst (λ o. IsFedBy o s.failure s h) (sym is) k
 
 pub going_fed : (s : Session) (h : History) → IsGoingOn s h → IsFed s h
 going_fed s h on =
-    subst (λ v. IsFedBy v s.failure s h) (sym on.verdict) (subst (λ f. IsFedBy None f s h) (sym on.failure) on)
+    subst (λ v. IsFedBy v s.failure s h) (sym on.summary) (subst (λ f. IsFedBy None f s h) (sym on.failure) on)
 
-by_failed : (v : Option Verdict) (failed : Failed) (s : Session) (h : History) → IsFedBy v (Some failed) s h
+by_failed : (v : Option Summary) (failed : Failed) (s : Session) (h : History) → IsFedBy v (Some failed) s h
     → StandsFor s h
 by_failed None failed s h k = k
 by_failed (Some v) failed s h k = k
 
 pub failed_fed : (s : Session) (h : History) (failed : Failed) → s.failure ≡ Some failed → IsFed s h → StandsFor s h
-failed_fed s h failed is k = by_failed s.verdict failed s h (subst (λ f. IsFedBy s.verdict f s h) is k)
+failed_fed s h failed is k = by_failed s.summary failed s h (subst (λ f. IsFedBy s.summary f s h) is k)
 
-pub ended_fed : (s : Session) (h : History) → true ≡ is_some s.verdict → IsFed s h → StandsFor s h
-ended_fed s h some k = subst (λ o. IsFedBy o s.failure s h) (some_by s.verdict some).1 k
+pub ended_fed : (s : Session) (h : History) → true ≡ is_some s.summary → IsFed s h → StandsFor s h
+ended_fed s h some k = subst (λ o. IsFedBy o s.failure s h) (some_by s.summary some).1 k
 
-pub open_fed : (s : Session) (h : History) → s.failure ≡ None → false ≡ is_some s.verdict → IsFed s h → IsGoingOn s h
+pub open_fed : (s : Session) (h : History) → s.failure ≡ None → false ≡ is_some s.summary → IsFed s h → IsGoingOn s h
 open_fed s h none unset k =
-    subst (λ f. IsFedBy None f s h) none (subst (λ o. IsFedBy o s.failure s h) (none_by s.verdict unset) k)
+    subst (λ f. IsFedBy None f s h) none (subst (λ o. IsFedBy o s.failure s h) (none_by s.summary unset) k)
 
 -- the lines that wait are the first of those that are decided
 pub first_going : (s : Session) (h : History) → IsGoingOn s h → AreFirstDecided h (h.taken ++ lines_waiting s)
@@ -223,13 +223,13 @@ first_going s h on =
     )
 
 -- turns were taken, and more are left
-pub paused_going : (s t : Session) (h : History) → (on : IsGoingOn s h) → t.failure ≡ None → t.verdict ≡ None
+pub paused_going : (s t : Session) (h : History) → (on : IsGoingOn s h) → t.failure ≡ None → t.summary ≡ None
     → AreTold t h → t.script ≡ s.script → t.answers ≡ s.answers
     → AreLimited (max_depth_of h.options.profile) t.exchange
     → HasAdvanced Pauses h.options t.exchange (texts_of h on.open'.script on.open'.answers) → IsGoingOn t h
 paused_going s t h on none unset told script answers limits p = record {
   failure = none;
-  verdict = unset;
+  summary = unset;
   script_ended = told.script;
   answers_ended = told.answers;
   counted = counted_on s t h script answers on.counted;
@@ -249,7 +249,7 @@ paused_going s t h on none unset told script answers limits p = record {
 pub pause_less : (a : Advance) (enough : Option ℕ) (before after : ℕ) → a ≡ Pauses
     → IsAdvance a enough before after → (is_some enough ≡ true) × (2 ^ 64 - after < 2 ^ 64 - before)
 pause_less Pauses enough before after is h = (h.0, omega (arith, h.1, h.2))
-pause_less (Rests verdict) enough before after is h = absurd (cc)
+pause_less (Rests summary) enough before after is h = absurd (cc)
 
 -- ---- lines are added, and no line of a verdict is among all
 

@@ -25,7 +25,8 @@ use Rattle.smt_dialogue.specs.InForce.{AreFaultless, signature_after, start_by}
 use Rattle.smt_dialogue.specs.Pairing.{IsPairing, IsPairingSoFar}
 use Rattle.smt_dialogue.specs.Pairs.{Pair, checks_in}
 use Rattle.smt_dialogue.specs.Lines.{claims_of_check, is_empty, line_of_judgement, lines_in}
-use Rattle.smt_dialogue.specs.Lines.{lines_of_answer, lines_of_pair, lines_of_sat, sat_lines, unchecked_answer, unchecked_line_or}
+use Rattle.smt_dialogue.specs.Lines.{lines_of_answer, lines_of_pair, lines_of_sat, sat_lines, unchecked_answer}
+use Rattle.smt_dialogue.specs.Lines.{unchecked_line_or}
 use Rattle.smt_dialogue.specs.Lines.{unconfirmed_line}
 use Rattle.smt_report.specs.Verdict.{IsVerdictOf, is_fault_line, is_refuted_line, is_undecided_line, tally_of}
 use Rattle.smt_report.specs.Verdict.{verdict_of, with_verdict}
@@ -414,7 +415,8 @@ invalid_means laws options script answers st at' ls v rs ra j verdict h =
     refl check.line in
     let over = refuted_over options.limit.steps names claimed (model_in names found.model.model.parts)
     found.model.refuted.claim found.model.refuted.found in
-    let source = claimed_from options.profile laws.found before p over.2.first over.2.last over.2.claimed over.2.place in
+    let source = claimed_from options.profile laws.found before p over.2.first over.2.last over.2.claimed over.2.place
+    in
     let l1 = lines_in options.profile options.limit.steps true [] before ((p ∷ at_pair.last) ++ []) in
     let l2 = lines_in options.profile options.limit.steps true (before ++ p ∷ []) at_pair.last [] in
     let claim = over.2.claimed.claim in
@@ -447,7 +449,8 @@ invalid_means laws options script answers st at' ls v rs ra j verdict h =
       earlier = source.0;
       term = over.2.claimed.term;
       claimed = source.1;
-      sorted = claim_sorted options.profile j.pairs before at_pair.last p at_pair.place j.ends.paired.faultless check.sat claim
+      sorted = claim_sorted options.profile j.pairs before at_pair.last p at_pair.place j.ends.paired.faultless
+          check.sat claim
           source.0 over.2.claimed.term source.1;
       false_in = λ z. closed_value laws z (structure_at options.profile over.0 before) over.2.claimed.term (Truth false)
           (is_false_value (known_over (structure_at options.profile over.0 before) over.2.claimed.term) over.2.passes);

@@ -1,4 +1,4 @@
--- What a session stands for: the lines of what it was told, and their verdict.
+-- What a session stands for: the lines of what it was told, and their summary.
 use Rattle.std.specs.Prelude.{◌≡◌, ◌<◌, ◌^◌, ℕ, List, ◌++◌, length, Bool, false, Option, Some, None}
 use Rattle.std.specs.List.{list_any}
 use Rattle.smt_dialogue.specs.History.{AreFirstDecided, AreDecided, History, IsLong, Told, of_side}
@@ -8,9 +8,10 @@ use Rattle.smt_dialogue.specs.declared.session.Failed.{Failed}
 use Rattle.smt_dialogue.specs.declared.session.Failed.TheVariants.{Long}
 use Rattle.smt_dialogue.specs.declared.session.Fed.{Fed}
 use Rattle.smt_dialogue.specs.declared.session.Session.{Session}
-use Rattle.smt_report.specs.Verdict.{IsVerdictOf}
+use Rattle.smt_report.specs.Verdict.{IsSummaryOf, IsVerdictOf}
 use Rattle.smt_report.specs.declared.line.Line.{Line}
 use Rattle.smt_report.specs.declared.line.Side.{Side}
+use Rattle.smt_report.specs.declared.summary.Summary.{Summary}
 use Rattle.smt_report.specs.declared.verdict.Verdict.{Verdict}
 
 -- the lines that are decided and were not taken
@@ -46,6 +47,11 @@ abbrev pub AreLines : Option Failed → History → List Line → Type 0
 AreLines None h ls = AreDecided h ls
 AreLines (Some failed) h ls = AreFirstDecided h ls
 
+-- the summary is that of the lines before the one that tells it, or no line does
+abbrev pub IsSummaryIn : Option Summary → List Line → Type 0
+IsSummaryIn None ls = list_any is_verdict_line ls ≡ false
+IsSummaryIn (Some summary) ls = IsSummaryOf summary ls
+
 -- the verdict is that of the line that tells it, or no line does
 abbrev pub IsVerdictIn : Option Verdict → List Line → Type 0
 IsVerdictIn None ls = list_any is_verdict_line ls ≡ false
@@ -63,9 +69,9 @@ pub record AreCounted (s : Session) (h : History) : Type 0 where
 -- the session was told this. How it goes on is said last, in the words of the code
 pub record StandsFor (s : Session) (h : History) : Type 0 where
   pub lines : AreLines (failure_of s) h (h.taken ++ lines_waiting s)
-  pub verdict : IsVerdictIn s.verdict (h.taken ++ lines_waiting s)
+  pub summary : IsSummaryIn s.summary (h.taken ++ lines_waiting s)
   pub script_ended : is_script_ended s ≡ h.script.ended
   pub answers_ended : is_answers_ended s ≡ h.answers.ended
   pub counted : failure_of s ≡ None → AreCounted s h
   pub long : failure_of s ≡ Some Long → IsLong h
-  pub goes_on : GoesOn s.verdict s.failure s.exchange h
+  pub goes_on : GoesOn s.summary s.failure s.exchange h

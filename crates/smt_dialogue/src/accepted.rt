@@ -17,7 +17,7 @@ ghost use Rattle.smt_dialogue.specs.InForce.{flaw_of_pair};
 ghost use Rattle.smt_dialogue.specs.Lines.{lines_in};
 ghost use Rattle.smt_dialogue.specs.Report.{lines_at_end, lines_of_end};
 ghost use Rattle.smt_dialogue.specs.SoFar.{IsBeginning, is_verdict_line};
-ghost use Rattle.smt_report.specs.Verdict.{verdict_of};
+ghost use Rattle.smt_report.specs.Verdict.{summary_of};
 ghost use Rattle.smt_dialogue.specs.Pairs.{Pair, numbered_if};
 ghost use Rattle.smt_dialogue.specs.Internal.AnswerView.{AreKnown, tree_of};
 ghost use Rattle.smt_dialogue.specs.Internal.LineQueueView.{IsFaultLine};
@@ -30,7 +30,7 @@ use crate::checks::{Checks, NewLines};
 use crate::line_queue::LineQueue;
 use crate::options::Options;
 use smt_eval::Memory;
-use smt_report::{Line, Verdict};
+use smt_report::{Line, Summary};
 use smt_script::{Command, CommandFault, Kind, Stack};
 use std::alloc::Global;
 
@@ -141,17 +141,17 @@ impl AcceptedPairs {
         Ok(())
     }
 
-    /// Ends the dialogue, and returns its verdict. Decides the line of the open window, then the line of the fault,
+    /// Ends the dialogue, and returns its summary. Decides the line of the open window, then the line of the fault,
     /// if there is one, and then the verdict line.
-    pub(crate) fn end(&mut self, fault: Option<Line>) -> Result<Verdict, Memory>
+    pub(crate) fn end(&mut self, fault: Option<Line>) -> Result<Summary, Memory>
         requires fault { IsFaultLine fault }
         requires few { self.old.checks.count < 2 ^ 64 }
-        ensures ended { IfOk result (λ verdict. (taken : List ReportLine) (early : Bool)
+        ensures ended { IfOk result (λ summary. (taken : List ReportLine) (early : Bool)
             (pairs : List Pair)
             → Fits early (state_behind taken self.old) pairs
             → (taken ++ self.new.decided.lines.items
             ≡ lines_at_end (profile_of self.old.stack) self.old.checks.limit.steps pairs fault)
-            × (verdict ≡ verdict_of (lines_in (profile_of self.old.stack) self.old.checks.limit.steps true []
+            × (summary ≡ summary_of (lines_in (profile_of self.old.stack) self.old.checks.limit.steps true []
             pairs [] ++ lines_of_end fault))) }
         ensures cut { OnErr result ((taken : List ReportLine) (early : Bool) (pairs : List Pair)
             → Fits early (state_behind taken self.old) pairs
@@ -161,8 +161,8 @@ impl AcceptedPairs {
         ensures kept { IsBeginning self.old.decided.lines.items self.new.decided.lines.items }
     {
         self.end_window()?;
-        let verdict = self.decided.end(fault)?;
-        Ok(verdict)
+        let summary = self.decided.end(fault)?;
+        Ok(summary)
     }
 
     /// Ends the window of the last check, and decides its line, if that was not decided before. The caller knows that

@@ -39,7 +39,9 @@ pub use options::{Limit, Options};
 pub use runs::{RunFault, run};
 pub use session::{Failed, Session};
 pub use smt_eval::Memory;
-pub use smt_report::{CheckAnswer, Claim, Line, Report, Side, Tally, Verdict};
+pub use smt_report::{
+    CheckAnswer, Claim, Line, LineVisitor, Report, Side, Summary, Tally, Verdict,
+};
 pub use smt_streams::{Device, Sink, Source};
 pub use smt_theory::Profile;
 pub use validation::validate;

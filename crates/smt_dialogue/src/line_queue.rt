@@ -7,12 +7,12 @@ ghost use Rattle.smt_dialogue.specs.Report.{lines_of_end};
 ghost use Rattle.smt_dialogue.specs.SoFar.{IsBeginning};
 ghost use Rattle.smt_dialogue.specs.Internal.ChecksState.{new_lines};
 ghost use Rattle.smt_dialogue.specs.Internal.LineQueueView.{IsFaultLine, IsPartOf};
-ghost use Rattle.smt_report.specs.Verdict.{is_fault_line, tally_of, verdict_of, with_verdict};
+ghost use Rattle.smt_report.specs.Verdict.{is_fault_line, tally_of, summary_of, with_verdict};
 ghost use Rattle.smt_report.specs.declared.line.Line.{Line as ReportLine};
 
 use crate::checks::NewLines;
 use smt_eval::Memory;
-use smt_report::{Line, Tally, Verdict};
+use smt_report::{Line, Summary, Tally};
 use std::alloc::Global;
 use std::mem;
 
@@ -66,15 +66,15 @@ impl LineQueue {
         Ok(())
     }
 
-    /// Adds the line of the fault, if there is one, and then the verdict line, and returns the verdict. Where memory
-    /// is refused, the line of the fault may have been added, and no verdict line.
-    pub(crate) fn end(&mut self, fault: Option<Line>) -> Result<Verdict, Memory>
+    /// Adds the line of the fault, if there is one, and then the verdict line, and returns what that says. Where
+    /// memory is refused, the line of the fault may have been added, and no verdict line.
+    pub(crate) fn end(&mut self, fault: Option<Line>) -> Result<Summary, Memory>
         requires { IsFaultLine fault }
-        ensures ended { IfOk result (λ verdict. (earlier : List ReportLine)
+        ensures ended { IfOk result (λ summary. (earlier : List ReportLine)
             → self.old.tally ≡ tally_of (earlier ++ self.old.lines.items)
             → list_any is_fault_line (earlier ++ self.old.lines.items) ≡ false
             → let all = (earlier ++ self.old.lines.items) ++ lines_of_end fault in
-            (earlier ++ self.new.lines.items ≡ with_verdict all) × (verdict ≡ verdict_of all)) }
+            (earlier ++ self.new.lines.items ≡ with_verdict all) × (summary ≡ summary_of all)) }
         ensures kept { OnErr result
             (IsPartOf self.old.lines.items (lines_of_end fault) self.new.lines.items) }
         ensures more { IsBeginning self.old.lines.items self.new.lines.items }
@@ -86,7 +86,7 @@ impl LineQueue {
             self.lines.push(line)?;
         }
         self.lines.push(Line::Verdict { verdict, tally })?;
-        Ok(verdict)
+        Ok(Summary { verdict, tally })
     }
 
     /// Returns the lines that wait, and keeps none. The tally stays.

@@ -20,7 +20,7 @@ use crate::options::Options;
 use crate::tree_queue::{Ahead, TreeQueue};
 use crate::turn::{Turn, refused, take_up, text_fault};
 use smt_eval::Memory;
-use smt_report::{Line, Side, Verdict};
+use smt_report::{Line, Side, Summary};
 use smt_script::{CommandFlaw, read_command};
 use smt_text::laws::{every_text_reads, read_trees_stay, trees_are_no_more_than_bytes};
 use smt_trees::OwnedTree;
@@ -40,8 +40,8 @@ fn trees_are_few()
 pub enum Advance {
     /// More turns may be left, and enough decided lines wait to be handed out first.
     Pauses,
-    /// As far as both texts have come, or to the end of the dialogue, which then has this verdict.
-    Rests(Option<Verdict>),
+    /// As far as both texts have come, or to the end of the dialogue, which then has this summary.
+    Rests(Option<Summary>),
 }
 
 /// Both texts so far, and the dialogue of the pairs accepted from them.
@@ -134,8 +134,8 @@ impl Pairing {
                     return Ok(Advance::Rests(None));
                 }
                 Turn::Ends(fault) => {
-                    let verdict = self.dialogue.end(fault)?;
-                    return Ok(Advance::Rests(Some(verdict)));
+                    let summary = self.dialogue.end(fault)?;
+                    return Ok(Advance::Rests(Some(summary)));
                 }
             }
         }

@@ -2,12 +2,13 @@
 //! decided. This file decides nothing.
 
 ghost use Rattle.std.specs.Prelude.{◌≡◌, ◌<◌, ◌++◌, List, [], None, Some, false, true, length};
-ghost use Rattle.std.specs.Prelude.{IfOk, MatchResult, OnErr};
+ghost use Rattle.std.specs.Prelude.{IfOk, IfSome, MatchResult, OnErr};
 ghost use Rattle.std.specs.Prelude.{nat_eq};
 ghost use Rattle.smt_dialogue.specs.History.{History, begun, with_answers, with_answers_end, with_script};
 ghost use Rattle.smt_dialogue.specs.History.{of_side, other_side, with_end, with_more, with_piece, with_script_end};
 ghost use Rattle.smt_dialogue.specs.History.{with_taken};
-ghost use Rattle.smt_dialogue.specs.Session.{IsVerdictIn, StandsFor, failure_of, is_answers_ended, is_script_ended};
+ghost use Rattle.smt_dialogue.specs.Session.{IsSummaryIn, IsVerdictIn, StandsFor, failure_of};
+ghost use Rattle.smt_dialogue.specs.Session.{is_answers_ended, is_script_ended};
 ghost use Rattle.smt_dialogue.specs.Session.{is_ended, is_verdict_waiting, lines_waiting};
 ghost use Rattle.smt_dialogue.specs.SoFar.{IsBeginning};
 ghost use Rattle.smt_dialogue.specs.Validity.{IsInvalid, IsValid};
@@ -19,7 +20,7 @@ use crate::options::Options;
 use crate::pairing::{Advance, Pairing};
 use smt_eval::Memory;
 use smt_eval::laws::{known_values_are_true, models_are_complete, models_give_structures};
-use smt_report::{Line, Side, Verdict};
+use smt_report::{Line, Side, Summary, Verdict};
 use smt_script::laws::{assertions_in_force_stand, names_in_force_are_introduced};
 use smt_text::laws::examples::forests;
 use smt_text::laws::{
@@ -54,7 +55,7 @@ pub struct Session {
     exchange: Pairing,
     script: Fed,
     answers: Fed,
-    verdict: Option<Verdict>,
+    summary: Option<Summary>,
     failure: Option<Failed>,
 }
 
@@ -85,7 +86,7 @@ impl Session {
             exchange: Pairing::new(alloc, options),
             script: nothing,
             answers: nothing,
-            verdict: None,
+            summary: None,
             failure: None,
         }
     }
@@ -197,6 +198,31 @@ impl Session {
         self.exchange.take_lines()
     }
 
+    /// What the verdict line says, once it is decided, whether `take_lines` has returned that line or not. Before that
+    /// it is `None`.
+    pub fn summary(&self) -> Option<Summary>
+        ensures told { (h : History) → StandsFor self.now h
+            → IsSummaryIn result (h.taken ++ lines_waiting self.now) }
+        ensures valid { (h : History) → StandsFor self.now h
+            → IfSome result (λ summary. summary.verdict ≡ Verdict.Valid
+            → IsValid h.options h.script.bytes h.answers.bytes) }
+        ensures invalid { (h : History) → StandsFor self.now h
+            → IfSome result (λ summary. summary.verdict ≡ Verdict.Invalid
+            → IsInvalid h.options h.script.bytes h.answers.bytes
+            (h.taken ++ lines_waiting self.now)) }
+    {
+        // Laws: the texts have no other trees. Models that are read are complete and give structures. Commands
+        // introduced the names in force, and the assertions in force are those that nothing has removed. What is
+        // known of a term is its value.
+        one_forest();
+        models_are_complete();
+        names_in_force_are_introduced();
+        assertions_in_force_stand();
+        models_give_structures();
+        known_values_are_true();
+        self.summary
+    }
+
     /// The verdict, once the verdict line is decided, whether `take_lines` has returned that line or not. Before
     /// that it is `None`.
     pub fn verdict(&self) -> Option<Verdict>
@@ -208,16 +234,10 @@ impl Session {
             → IsInvalid h.options h.script.bytes h.answers.bytes
             (h.taken ++ lines_waiting self.now) }
     {
-        // Laws: the texts have no other trees. Models that are read are complete and give structures. Commands
-        // introduced the names in force, and the assertions in force are those that nothing has removed. What is
-        // known of a term is its value.
-        one_forest();
-        models_are_complete();
-        names_in_force_are_introduced();
-        assertions_in_force_stand();
-        models_give_structures();
-        known_values_are_true();
-        self.verdict
+        match self.summary() {
+            Some(summary) => Some(summary.verdict),
+            None => None,
+        }
     }
 
     /// The text to feed next, whose end was not reported; `None` where both have ended. Of two open texts it is the
@@ -236,7 +256,7 @@ impl Session {
 
     // Whether the dialogue waits for more of the answers, where the end of neither text was reported.
     fn wants_answers(&self) -> bool {
-        if self.verdict.is_some() || self.failure.is_some() {
+        if self.summary.is_some() || self.failure.is_some() {
             self.answers.bytes < self.script.bytes
         } else {
             self.exchange.command.is_some()
@@ -263,7 +283,7 @@ impl Session {
         }
     }
 
-    // Accepts the next piece of a text. A session that has failed, or has a verdict, does not read it.
+    // Accepts the next piece of a text. A session that has failed, or has a summary, does not read it.
     fn take_in(&mut self, side: Side, piece: &[u8])
         requires stands { (h : History) × StandsFor self.old h }
         requires open { is_ended side self.old ≡ false }
@@ -286,13 +306,13 @@ impl Session {
             return;
         };
         self.count(side, bytes);
-        if self.verdict.is_some() {
+        if self.summary.is_some() {
             return;
         }
         self.exchange.feed(side, piece);
     }
 
-    // Accepts the end of a text. A session that has failed, or has a verdict, only notes it.
+    // Accepts the end of a text. A session that has failed, or has a summary, only notes it.
     fn take_end(&mut self, side: Side)
         requires stands { (h : History) × StandsFor self.old h }
         requires open { is_ended side self.old ≡ false }
@@ -311,7 +331,7 @@ impl Session {
         if self.failure.is_some() {
             return;
         }
-        if self.verdict.is_some() {
+        if self.summary.is_some() {
             return;
         }
         self.exchange.finish(side);
@@ -334,7 +354,7 @@ impl Session {
         ensures script_ended { is_script_ended self.new ≡ is_script_ended self.old }
         ensures answers_ended { is_answers_ended self.new ≡ is_answers_ended self.old }
         ensures exchange { self.new.exchange ≡ self.old.exchange }
-        ensures verdict { self.new.verdict ≡ self.old.verdict }
+        ensures summary { self.new.summary ≡ self.old.summary }
         ensures failure { self.new.failure ≡ self.old.failure }
     {
         match side {
@@ -352,7 +372,7 @@ impl Session {
         ensures answers_ended { is_answers_ended self.new
             ≡ of_side side (is_answers_ended self.old) true }
         ensures exchange { self.new.exchange ≡ self.old.exchange }
-        ensures verdict { self.new.verdict ≡ self.old.verdict }
+        ensures summary { self.new.summary ≡ self.old.summary }
         ensures failure { self.new.failure ≡ self.old.failure }
     {
         match side {
@@ -408,13 +428,13 @@ impl Session {
         if let Some(failed) = self.failure {
             return Err(failed);
         }
-        if self.verdict.is_some() {
+        if self.summary.is_some() {
             return Ok(false);
         }
         match self.exchange.advance(enough) {
             Ok(Advance::Pauses) => Ok(true),
-            Ok(Advance::Rests(verdict)) => {
-                self.verdict = verdict;
+            Ok(Advance::Rests(summary)) => {
+                self.summary = summary;
                 Ok(false)
             }
             Err(Memory) => {

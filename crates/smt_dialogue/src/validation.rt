@@ -55,10 +55,12 @@ fn tell(alloc: Global, session: &mut Session, script: &[u8], answers: &[u8]) -> 
 {
     let mut script = Pieces::new(script, PIECE);
     let mut answers = Pieces::new(answers, PIECE);
+    let mut visitor = ();
     let mut streams = Streams {
         script: &mut script,
         answers: &mut answers,
         lines: Kept,
+        visitor: &mut visitor,
     };
     follow(alloc, session, &mut streams)
 }

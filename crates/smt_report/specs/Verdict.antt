@@ -1,8 +1,10 @@
 -- What the lines of a report come to. These are this project's rules.
-use Rattle.std.specs.Prelude.{◌≡◌, ℕ, List, [], ◌∷◌, ◌++◌, Bool, true, false, count_by, if◌then◌else◌}
+use Rattle.std.specs.Prelude.{◌≡◌, ℕ, List, [], ◌∷◌, ◌++◌, Bool, true, false, ◌&&◌, count_by, nat_eq, nat_lt}
+use Rattle.std.specs.Prelude.{if◌then◌else◌}
 use Rattle.std.specs.List.{list_any}
 use Rattle.smt_report.specs.declared.line.Line.{Line}
 use Rattle.smt_report.specs.declared.line.Line.TheVariants as lines
+use Rattle.smt_report.specs.declared.summary.Summary.{Summary}
 use Rattle.smt_report.specs.declared.verdict.Tally.{Tally}
 use Rattle.smt_report.specs.declared.verdict.Verdict.{Verdict}
 use Rattle.smt_report.specs.declared.verdict.Verdict.TheVariants as verdicts
@@ -57,6 +59,13 @@ verdict_of ls =
 abbrev pub with_verdict : List Line → List Line
 with_verdict ls = ls ++ lines.Verdict (verdict_of ls) (tally_of ls) ∷ []
 
+abbrev pub summary_of : List Line → Summary
+summary_of ls = record { verdict = verdict_of ls; tally = tally_of ls }
+
+-- the last line is that of the verdict, and this is the summary of those before it
+abbrev pub IsSummaryOf : Summary → List Line → Type 0
+IsSummaryOf summary ls = (before : List Line) × (ls ≡ with_verdict before) × (summary ≡ summary_of before)
+
 -- the last line is that of the verdict
 abbrev pub IsVerdictOf : Verdict → List Line → Type 0
 IsVerdictOf verdict ls =
@@ -73,3 +82,12 @@ status_of verdicts.Refused = 3
 abbrev pub strict_status_of : Verdict → (all_confirmed : Bool) → ℕ
 strict_status_of verdicts.Valid false = 2
 strict_status_of verdict _ = status_of verdict
+
+-- there is a check, and every check is confirmed
+abbrev pub are_all_confirmed : Tally → Bool
+are_all_confirmed t = nat_lt 0 t.confirmed && nat_eq t.refuted 0 && nat_eq t.undecided 0 && nat_eq t.unchecked 0
+
+-- the exit status for a report with this summary
+abbrev pub exit_status_of : (strict : Bool) → Summary → ℕ
+exit_status_of strict summary =
+    if strict then strict_status_of summary.verdict (are_all_confirmed summary.tally) else status_of summary.verdict

@@ -1,11 +1,14 @@
 //! Laws: theorems about the definitions that the contracts cite. They lead from the texts of a report to their
 //! meaning. Each is the contract of an empty function.
 
-ghost use Rattle.std.specs.Prelude.{◌≡◌, ◌↔◌, ℕ, List, [], ◌∷◌, All, codes};
+ghost use Rattle.std.specs.List.{list_any};
+ghost use Rattle.std.specs.Prelude.{◌≡◌, ◌↔◌, ℕ, List, [], ◌∷◌, All, codes, false, true};
 ghost use Rattle.smt_faults.specs.declared.command_flaw.CommandFlaw.TheVariants as commands;
 ghost use Rattle.smt_faults.specs.declared.term_flaw.TermFlaw.TheVariants as terms;
 ghost use Rattle.smt_faults.specs.declared.text_flaw.TextFlaw.TheVariants as texts;
 ghost use Rattle.smt_report.specs.LineText.{text_of, text_of_answer, text_of_side, text_of_verdict};
+ghost use Rattle.smt_report.specs.Verdict.{exit_status_of, summary_of};
+ghost use Rattle.smt_report.specs.Verdict as tests;
 ghost use Rattle.smt_report.specs.declared.claim.Claim.TheVariants as claims;
 ghost use Rattle.smt_report.specs.declared.line.CheckAnswer.{CheckAnswer};
 ghost use Rattle.smt_report.specs.declared.line.CheckAnswer.TheVariants as answers;
@@ -60,4 +63,19 @@ pub fn lines_are_written_so()
     ensures verdict { text_of (lines.Verdict verdicts.Valid
         record { confirmed = 1; refuted = 2; undecided = 3; unchecked = 4 })
         ≡ codes "verdict: valid, confirmed 1, refuted 2, undecided 3, unchecked 4" }
+{}
+
+/// Where the exit status of a strict program is 0, a line reports a confirmed check, and no line reports another check
+/// or a fault.
+pub fn strictly_valid_is_all_confirmed()
+    ensures some { (lines : List Line) → exit_status_of true (summary_of lines) ≡ 0
+        → list_any tests.is_confirmed_line lines ≡ true }
+    ensures unchecked { (lines : List Line) → exit_status_of true (summary_of lines) ≡ 0
+        → list_any tests.is_unchecked_line lines ≡ false }
+    ensures undecided { (lines : List Line) → exit_status_of true (summary_of lines) ≡ 0
+        → list_any tests.is_undecided_line lines ≡ false }
+    ensures refuted { (lines : List Line) → exit_status_of true (summary_of lines) ≡ 0
+        → list_any tests.is_refuted_line lines ≡ false }
+    ensures fault { (lines : List Line) → exit_status_of true (summary_of lines) ≡ 0
+        → list_any tests.is_fault_line lines ≡ false }
 {}

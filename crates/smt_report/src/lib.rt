@@ -17,9 +17,13 @@ mod claim;
 pub mod laws;
 mod line;
 mod report;
+mod summary;
 mod verdict;
+mod visitor;
 
 pub use claim::Claim;
 pub use line::{CheckAnswer, Line, Side};
 pub use report::Report;
+pub use summary::Summary;
 pub use verdict::{Tally, Verdict};
+pub use visitor::LineVisitor;

@@ -61,6 +61,13 @@ impl Tally {
             Verdict::Valid
         }
     }
+
+    /// Whether there is a check, and each check is confirmed.
+    pub fn confirms_all(self) -> bool
+        ensures { result ≡ verdicts.are_all_confirmed self }
+    {
+        self.confirmed > 0 && self.refuted == 0 && self.undecided == 0 && self.unchecked == 0
+    }
 }
 
 fn confirmed_in(lines: &[Line]) -> u64

@@ -1,3 +1,4 @@
+pub mod ExitStatus
+pub mod LineNotes
 pub mod Noted
 pub mod Recorded
-pub mod Watched

@@ -1,12 +1,13 @@
 //! The program's work on files. This file knows no word of the command line, and judges nothing.
 
-ghost use Rattle.std.specs.Prelude.{◌<◌, ◌-◌, ◌^◌};
+ghost use Rattle.std.specs.Prelude.{◌<◌, ◌-◌, ◌^◌, None, IfOk};
+ghost use Rattle.smtcheck.specs.ExitStatus.{IsSummaryOn};
 
 use crate::hints::{Hint, confirmed, takes};
 use crate::inputs::{Noted, STANDARD_INPUT, closed_input, open};
+use crate::line_notes::LineNotes;
 use crate::recorded::Recorded;
-use crate::watched::Watched;
-use smt_dialogue::{Limit, Line, Options, Profile, RunFault, Verdict, validate};
+use smt_dialogue::{Limit, Line, Options, Profile, RunFault, Summary, validate};
 use smt_explain::{Texts, explain};
 use smt_streams::{Device, Source, put_all};
 use smtcheck_command_line::Settings;
@@ -20,9 +21,7 @@ const BEGINNING: usize = 4096;
 /// The outcome of a run.
 #[derive(Clone, Copy)]
 pub(crate) struct Ran {
-    pub(crate) verdict: Verdict,
-    /// Whether there is a check, and each check is confirmed.
-    pub(crate) all_confirmed: bool,
+    pub(crate) summary: Summary,
     /// The usual mistake that a line of the report looks like.
     pub(crate) hint: Option<Hint>,
     /// The first line that refuses something which another profile may take.
@@ -31,7 +30,7 @@ pub(crate) struct Ran {
     pub(crate) unexplained: bool,
 }
 
-/// Why there is no verdict.
+/// Why there is no summary.
 #[derive(Clone, Copy)]
 pub(crate) struct Failure {
     pub(crate) fault: RunFault,
@@ -49,6 +48,7 @@ pub(crate) fn run<R: Files + Input + AllocGlobal + Print>(
     hints: bool,
 ) -> Result<Ran, Failure>
     requires { settings.steps < 2 ^ 64 - 1 }
+    ensures { IfOk result (λ ran. IsSummaryOn settings.entry None None ran.summary) }
 {
     let closed = if settings.script == STANDARD_INPUT || settings.answers == STANDARD_INPUT {
         closed_input(rt)
@@ -86,6 +86,7 @@ fn run_noted<R: AllocGlobal + Print, S: Read + Drop, A: Read + Drop>(
     settings: Settings,
 ) -> Result<Ran, Failure>
     requires { settings.steps < 2 ^ 64 - 1 }
+    ensures { IfOk result (λ ran. IsSummaryOn settings.entry None None ran.summary) }
 {
     let mut script = script;
     let mut answers = answers;
@@ -189,6 +190,8 @@ fn run_open<R: AllocGlobal + Print, S: Read, A: Read, W: Write>(
     settings: Settings,
 ) -> Result<Ran, RunFault>
     requires { settings.steps < 2 ^ 64 - 1 }
+    ensures { IfOk result (λ ran.
+        IsSummaryOn settings.entry (S.remaining script.old) (A.remaining answers.old) ran.summary) }
 {
     let options = Options {
         print_success: settings.print_success,
@@ -199,15 +202,22 @@ fn run_open<R: AllocGlobal + Print, S: Read, A: Read, W: Write>(
     };
     let mut script = Recorded::new(rt.alloc(), Device::new(script), settings.explain);
     let mut answers = Recorded::new(rt.alloc(), Device::new(answers), settings.explain);
-    let mut out = Watched::new(rt.alloc(), Device::new(out), settings.explain);
-    let verdict = smt_dialogue::run(rt.alloc(), &mut script, &mut answers, &mut out, options)?;
+    let mut out = Device::new(out);
+    let mut notes = LineNotes::new(rt.alloc(), settings.explain);
+    let summary = smt_dialogue::run(
+        rt.alloc(),
+        &mut script,
+        &mut answers,
+        &mut out,
+        &mut notes,
+        options,
+    )?;
     let unexplained = settings.explain
-        && tell(rt, script.bytes(), answers.bytes(), out.lines(), settings).is_err();
+        && tell(rt, script.bytes(), answers.bytes(), notes.lines(), settings).is_err();
     Ok(Ran {
-        verdict,
-        all_confirmed: out.confirms_all(),
-        hint: out.hint(),
-        refused: out.refused(),
+        summary,
+        hint: notes.hint(),
+        refused: notes.refused(),
         unexplained,
     })
 }

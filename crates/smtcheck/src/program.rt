@@ -1,7 +1,8 @@
 //! The program: from the words of the command line to the exit status. This file opens no file, and knows no
 //! verdict.
 
-ghost use Rattle.std.specs.Prelude.{◌≡◌, ◌<◌, ◌-◌, ◌^◌};
+ghost use Rattle.std.specs.Prelude.{◌≡◌, ◌<◌, ◌-◌, ◌^◌, ◌⊎◌};
+ghost use Rattle.smtcheck.specs.ExitStatus.{IsStatusOfReport};
 
 use crate::files::{Failure, Ran, run};
 use crate::inputs::STANDARD_INPUT;
@@ -61,16 +62,13 @@ fn run_settings<R: Files + Input + AllocGlobal + Print + Eprint>(
     on_terminal: bool,
 ) -> u8
     requires { settings.steps < 2 ^ 64 - 1 }
+    ensures { (result ≡ 4) ⊎ IsStatusOfReport settings.entry result }
 {
     let hints = settings.hints.unwrap_or(settings.explain || on_terminal);
     match run(rt, settings, hints) {
         Ok(ran) => {
             tell_beside(rt, ran);
-            if settings.strict {
-                ran.verdict.strict_status(ran.all_confirmed)
-            } else {
-                ran.verdict.status()
-            }
+            ran.summary.status(settings.strict)
         }
         Err(failure) => tell_failure(rt, failure, settings),
     }
@@ -78,7 +76,9 @@ fn run_settings<R: Files + Input + AllocGlobal + Print + Eprint>(
 
 // Writes on standard error why there is no report, and then which text it was and what the system says of it. Returns
 // the status for that.
-fn tell_failure<R: Eprint>(rt: &R, failure: Failure, settings: Settings) -> u8 {
+fn tell_failure<R: Eprint>(rt: &R, failure: Failure, settings: Settings) -> u8
+    ensures { result ≡ 4 }
+{
     let status = tell_fault(rt, failure.fault);
     if let Some(reason) = failure.reason {
         let name = match failure.fault {

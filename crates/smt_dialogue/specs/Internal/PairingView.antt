@@ -28,10 +28,10 @@ use Rattle.smt_dialogue.specs.declared.tree_queue.TreeQueue.{TreeQueue}
 use Rattle.smt_dialogue.specs.declared.options.Options.{Options}
 use Rattle.smt_dialogue.specs.declared.turn.Turn.{Turn}
 use Rattle.smt_dialogue.specs.declared.turn.Turn.TheVariants as turns
-use Rattle.smt_report.specs.Verdict.{verdict_of}
+use Rattle.smt_report.specs.Verdict.{summary_of}
 use Rattle.smt_report.specs.declared.line.Line.{Line}
 use Rattle.smt_report.specs.declared.line.Side.{Side}
-use Rattle.smt_report.specs.declared.verdict.Verdict.{Verdict}
+use Rattle.smt_report.specs.declared.summary.Summary.{Summary}
 
 -- the bytes of both texts so far, what is read of them, and the lines that were handed out
 pub record Texts : Type 0 where
@@ -155,30 +155,30 @@ abbrev pub waiting : Pairing → List Line
 waiting x = x.dialogue.decided.lines.items
 
 -- the turns came to rest: the dialogue waits behind pairs, with the lines that are decided, or has ended behind
--- some, with all lines and this verdict
-abbrev pub HasRested : Option Verdict → Options → Pairing → Texts → Type 0
+-- some, with all lines and this summary
+abbrev pub HasRested : Option Summary → Options → Pairing → Texts → Type 0
 HasRested None options new texts =
     (closed : Bool) × (pairs : List Pair) × (later : Sexps) × (rest : Sexps)
     × IsUnderWay new texts pairs later rest × (options_of new.dialogue ≡ options)
     × (turn_of new texts pairs later rest ≡ first_fault.Waits closed)
     × (texts.taken ++ waiting new ≡ lines_at options.profile options.limit.steps pairs (first_fault.Waits closed))
-HasRested (Some verdict) options new texts =
+HasRested (Some summary) options new texts =
     (fault : Option Line) × (pairs : List Pair)
     × IsTurn (start_by options) texts.script texts.answers pairs (first_fault.Ends fault)
     × (texts.taken ++ waiting new ≡ lines_at_end options.profile options.limit.steps pairs fault)
-    × (verdict ≡ verdict_of (lines_in options.profile options.limit.steps true [] pairs [] ++ lines_of_end fault))
+    × (summary ≡ summary_of (lines_in options.profile options.limit.steps true [] pairs [] ++ lines_of_end fault))
 
 -- turns were taken: more are left, since lines are to be handed out before; or they came to rest
 abbrev pub HasAdvanced : Advance → Options → Pairing → Texts → Type 0
 HasAdvanced advances.Pauses options new texts =
     (pairs : List Pair) × (later : Sexps) × (rest : Sexps) × IsUnderWay new texts pairs later rest
     × (options_of new.dialogue ≡ options)
-HasAdvanced (advances.Rests verdict) options new texts = HasRested verdict options new texts
+HasAdvanced (advances.Rests summary) options new texts = HasRested summary options new texts
 
 -- turns are left only where this was asked for, and a command was taken up
 abbrev pub IsAdvance : Advance → Option ℕ → (before after : ℕ) → Type 0
 IsAdvance advances.Pauses enough before after = (is_some enough ≡ true) × (before < after) × (after < 2 ^ 64)
-IsAdvance (advances.Rests verdict) enough before after = Unit {0}
+IsAdvance (advances.Rests summary) enough before after = Unit {0}
 
 -- what is decided where memory was refused: the first of the lines so far, and not the verdict
 abbrev pub IsCut : Options → List Line → Texts → Type 0

@@ -1,5 +1,5 @@
 -- One step of a run.
-use Rattle.std.specs.Prelude.{◌≡◌, ℕ, List, [], Bool, Option, Some, None, Result, Ok, Err, true, false}
+use Rattle.std.specs.Prelude.{◌≡◌, ℕ, List, ◌++◌, Bool, Option, Some, None, Result, Ok, Err, true, false}
 use Rattle.std.specs.Io.KnownBytes.{Appends, IsAtEnd}
 use Rattle.smt_dialogue.specs.History.{History, of_side}
 use Rattle.smt_dialogue.specs.Run.{ArePulled, Devices, HasStopped, Tap, text_of_lines}
@@ -24,26 +24,37 @@ history options now script answers taken = record {
   taken = taken;
 }
 
--- so far this holds of what was pulled and of the lines that were put
-pub record IsRunningBy (holds : History → Type 0) (options : Options) (before now : Devices) : Type 0 where
+-- what may hold of lines
+abbrev pub OfLines : Type 1
+OfLines = List Line → Type 0
+
+-- these lines were visited behind any others
+abbrev pub IsVisiting : (before after : OfLines) → List Line → Type 0
+IsVisiting before after ls = (first : List Line) → before first → after (first ++ ls)
+
+-- so far this holds of what was pulled and of the lines that were put and visited
+pub record IsRunningBy (visited : OfLines) (holds : History → Type 0) (options : Options)
+    (before now : Devices) : Type 0 where
   pub script : List ℕ
   pub answers : List ℕ
   pub taken : List Line
   pub pulled : ArePulled before now script answers
   pub written : Appends before.out now.out (text_of_lines taken)
+  pub visits : visited taken
   pub stands : holds (history options now script answers taken)
 
 -- the session was told what was pulled, and the lines that were taken of it were put
-abbrev pub IsRunning : Options → (before now : Devices) → Session → Type 0
-IsRunning options before now s = IsRunningBy (StandsFor s) options before now
+abbrev pub IsRunning : (visited : OfLines) → Options → (before now : Devices) → Session → Type 0
+IsRunning visited options before now s = IsRunningBy visited (StandsFor s) options before now
 
 -- the same, and turns may be left to take
-abbrev pub IsFedRun : Options → (before now : Devices) → Session → Type 0
-IsFedRun options before now s = IsRunningBy (IsFed s) options before now
+abbrev pub IsFedRun : (visited : OfLines) → Options → (before now : Devices) → Session → Type 0
+IsFedRun visited options before now s = IsRunningBy visited (IsFed s) options before now
 
 -- the same, and turns are left to take or are not
-abbrev pub IsPutRun : (more : Bool) → Options → (before now : Devices) → Session → Type 0
-IsPutRun more options before now s = IsRunningBy (IsLeftOpen more s) options before now
+abbrev pub IsPutRun : (visited : OfLines) → (more : Bool) → Options → (before now : Devices) → Session
+    → Type 0
+IsPutRun visited more options before now s = IsRunningBy visited (IsLeftOpen more s) options before now
 
 -- no call of the session has failed, and no line of it is left to put
 pub record IsAtRest (is_done : Session → Type 0) (s : Session) : Type 0 where
@@ -64,21 +75,25 @@ pub record AreAtEnd (now : Devices) : Type 0 where
   pub answers_end : IsAtEnd now.answers.to_come
 
 -- turns were taken as far as both texts have come, or a fault stops the run
-abbrev pub HasSettled : Result Unit RunFault → Options → (before now : Devices) → Session → Type 0
-HasSettled (Ok unit) options before now s = IsRunning options before now s
-HasSettled (Err fault) options before now s = HasStopped options before now fault
+abbrev pub HasSettled : (visited : OfLines) → Result Unit RunFault → Options → (before now : Devices)
+    → Session → Type 0
+HasSettled visited (Ok unit) options before now s = IsRunning visited options before now s
+HasSettled visited (Err fault) options before now s = HasStopped options before now visited fault
 
 -- a fault stops the run: where a source has failed the session is as it was, and at rest
-abbrev pub IsCutOff : (is_done : Session → Type 0) → RunFault → Options → (before now : Devices) → Session → Type 0
-IsCutOff is_done faults.Script options before now s = IsRunning options before now s × IsAtRest is_done s
-IsCutOff is_done faults.Answers options before now s = IsRunning options before now s × IsAtRest is_done s
-IsCutOff is_done fault options before now s = HasStopped options before now fault
+abbrev pub IsCutOff : (visited : OfLines) → (is_done : Session → Type 0) → RunFault → Options
+    → (before now : Devices) → Session → Type 0
+IsCutOff visited is_done faults.Script options before now s =
+    IsRunning visited options before now s × IsAtRest is_done s
+IsCutOff visited is_done faults.Answers options before now s =
+    IsRunning visited options before now s × IsAtRest is_done s
+IsCutOff visited is_done fault options before now s = HasStopped options before now visited fault
 
 -- steps of a run come to this
-abbrev pub HasStepped : (is_done : Session → Type 0) → Result Unit RunFault → Options → (before now : Devices)
-    → Session → Type 0
-HasStepped is_done (Ok unit) options before now s = IsRunning options before now s
-HasStepped is_done (Err fault) options before now s = IsCutOff is_done fault options before now s
+abbrev pub HasStepped : (visited : OfLines) → (is_done : Session → Type 0) → Result Unit RunFault
+    → Options → (before now : Devices) → Session → Type 0
+HasStepped visited is_done (Ok unit) options before now s = IsRunning visited options before now s
+HasStepped visited is_done (Err fault) options before now s = IsCutOff visited is_done fault options before now s
 
 -- with another source on this side, and with another sink
 abbrev pub with_tap : Side → Tap → (out : Option (List ℕ)) → Devices → Devices

@@ -12,25 +12,25 @@ use Rattle.smt_dialogue.specs.declared.session.Failed.{Failed}
 use Rattle.smt_dialogue.specs.declared.session.Fed.{Fed}
 use Rattle.smt_dialogue.specs.declared.session.Session.{Session}
 use Rattle.smt_report.specs.declared.line.Side.{Side}
-use Rattle.smt_report.specs.declared.verdict.Verdict.{Verdict}
+use Rattle.smt_report.specs.declared.summary.Summary.{Summary}
 
 -- the session was told this, and has turns to take
 pub record IsGoingOn (s : Session) (h : History) : Type 0 where
   pub failure : failure_of s ≡ None
-  pub verdict : s.verdict ≡ None
+  pub summary : s.summary ≡ None
   pub script_ended : is_script_ended s ≡ h.script.ended
   pub answers_ended : is_answers_ended s ≡ h.answers.ended
   pub counted : AreCounted s h
   pub open' : IsOpen s.exchange h
 
 -- the session was told this, and turns may be left to take: none are where it has ended or failed
-abbrev pub IsFedBy : Option Verdict → Option Failed → Session → History → Type 0
-IsFedBy (Some verdict) failure s h = StandsFor s h
+abbrev pub IsFedBy : Option Summary → Option Failed → Session → History → Type 0
+IsFedBy (Some summary) failure s h = StandsFor s h
 IsFedBy None (Some failed) s h = StandsFor s h
 IsFedBy None None s h = IsGoingOn s h
 
 abbrev pub IsFed : Session → History → Type 0
-IsFed s h = IsFedBy s.verdict (failure_of s) s h
+IsFed s h = IsFedBy s.summary (failure_of s) s h
 
 -- turns are left to take, or none are
 abbrev pub IsLeftOpen : (more : Bool) → Session → History → Type 0

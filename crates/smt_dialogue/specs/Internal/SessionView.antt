@@ -12,9 +12,9 @@ use Rattle.smt_dialogue.specs.Internal.AcceptedState.{options_of}
 use Rattle.smt_dialogue.specs.Internal.PairingView.{AreLimited, IsUnderWay, Texts, waiting}
 use Rattle.smt_dialogue.specs.declared.pairing.Pairing.{Pairing}
 use Rattle.smt_dialogue.specs.declared.session.Failed.{Failed}
-use Rattle.smt_report.specs.Verdict.{verdict_of}
+use Rattle.smt_report.specs.Verdict.{summary_of}
 use Rattle.smt_report.specs.declared.line.Line.{Line}
-use Rattle.smt_report.specs.declared.verdict.Verdict.{Verdict}
+use Rattle.smt_report.specs.declared.summary.Summary.{Summary}
 
 -- this is read of a text, in which lists may nest so deep
 abbrev pub IsToldText : ℕ → Told → TextSoFar → Type 0
@@ -46,8 +46,8 @@ pub record IsOpen (exchange : Pairing) (h : History) : Type 0 where
   pub start : options_of exchange.dialogue ≡ h.options
   pub limits : AreLimited (max_depth_of h.options.profile) exchange
 
--- it has ended with these lines and this verdict
-pub record HasEnded (verdict : Verdict) (h : History) (ls : List Line) : Type 0 where
+-- it has ended with these lines and this summary
+pub record HasEnded (summary : Summary) (h : History) (ls : List Line) : Type 0 where
   pub script : TextSoFar
   pub answers : TextSoFar
   pub read : AreRead h script answers
@@ -55,11 +55,11 @@ pub record HasEnded (verdict : Verdict) (h : History) (ls : List Line) : Type 0 
   pub fault : Option Line
   pub ends : IsTurn (start_by h.options) script answers pairs (Ends fault)
   pub lines_are : ls ≡ lines_at_end h.options.profile h.options.limit.steps pairs fault
-  pub verdict_is : verdict
-      ≡ verdict_of (lines_in h.options.profile h.options.limit.steps true [] pairs [] ++ lines_of_end fault)
+  pub summary_is : summary
+      ≡ summary_of (lines_in h.options.profile h.options.limit.steps true [] pairs [] ++ lines_of_end fault)
 
 -- it has ended, or is under way; or a call has failed before, and it goes no further
-abbrev pub GoesOn : Option Verdict → Option Failed → Pairing → History → Type 0
-GoesOn (Some verdict) failure exchange h = HasEnded verdict h (h.taken ++ waiting exchange)
+abbrev pub GoesOn : Option Summary → Option Failed → Pairing → History → Type 0
+GoesOn (Some summary) failure exchange h = HasEnded summary h (h.taken ++ waiting exchange)
 GoesOn None None exchange h = IsOpen exchange h
 GoesOn None (Some failed) exchange h = Unit {0}

@@ -38,8 +38,10 @@ loop-next-preserved-in-Some-true c = record {
       (claims_left c.loop-next.left) (claims_left c.next.new.self) c.in-Some.next c.in-Some.ensures
       c.loop-next.invariant.terms;
   enough = λ script definitions stands holds.
-      let term = term_left (terms_of c.args.library.now) (claims_left c.loop-next.left) (claims_left c.next.new.self) c.in-Some.next c.in-Some.ensures c.loop-next.invariant.terms in
-      cost_rest (terms_of c.args.library.now) (claims_left c.loop-next.left) (claims_left c.next.new.self) c.in-Some.next (structure_of script definitions) _ _ term.0 c.in-Some.ensures
+      let term = term_left (terms_of c.args.library.now) (claims_left c.loop-next.left)
+      (claims_left c.next.new.self) c.in-Some.next c.in-Some.ensures c.loop-next.invariant.terms in
+      cost_rest (terms_of c.args.library.now) (claims_left c.loop-next.left)
+      (claims_left c.next.new.self) c.in-Some.next (structure_of script definitions) _ _ term.0 c.in-Some.ensures
       (c.loop-next.invariant.enough script definitions stands holds) term.1
       (c.in_ok-value.ensures.paid script definitions term.0 stands holds term.1);
   judged = λ script definitions all stands holds assertions.
@@ -59,8 +61,10 @@ loop-next-preserved c = record {
       (claims_left c.loop-next.left) (claims_left c.next.new.self) c.in-Some.next c.in-Some.ensures
       c.loop-next.invariant.terms;
   enough = λ script definitions stands holds.
-      let term = term_left (terms_of c.args.library.now) (claims_left c.loop-next.left) (claims_left c.next.new.self) c.in-Some.next c.in-Some.ensures c.loop-next.invariant.terms in
-      cost_rest (terms_of c.args.library.now) (claims_left c.loop-next.left) (claims_left c.next.new.self) c.in-Some.next (structure_of script definitions) _ _ term.0 c.in-Some.ensures
+      let term = term_left (terms_of c.args.library.now) (claims_left c.loop-next.left)
+      (claims_left c.next.new.self) c.in-Some.next c.in-Some.ensures c.loop-next.invariant.terms in
+      cost_rest (terms_of c.args.library.now) (claims_left c.loop-next.left)
+      (claims_left c.next.new.self) c.in-Some.next (structure_of script definitions) _ _ term.0 c.in-Some.ensures
       (c.loop-next.invariant.enough script definitions stands holds) term.1
       (c.in_ok-value.ensures.paid script definitions term.0 stands holds term.1);
   judged = λ script definitions all stands holds assertions.
@@ -101,8 +105,10 @@ loop-next-preserved-then-is_none c = record {
       (claims_left c.loop-next.left) (claims_left c.next.new.self) c.in-Some.next c.in-Some.ensures
       c.loop-next.invariant.terms;
   enough = λ script definitions stands holds.
-      let term = term_left (terms_of c.args.library.now) (claims_left c.loop-next.left) (claims_left c.next.new.self) c.in-Some.next c.in-Some.ensures c.loop-next.invariant.terms in
-      cost_rest (terms_of c.args.library.now) (claims_left c.loop-next.left) (claims_left c.next.new.self) c.in-Some.next (structure_of script definitions) _ _ term.0 c.in-Some.ensures
+      let term = term_left (terms_of c.args.library.now) (claims_left c.loop-next.left)
+      (claims_left c.next.new.self) c.in-Some.next c.in-Some.ensures c.loop-next.invariant.terms in
+      cost_rest (terms_of c.args.library.now) (claims_left c.loop-next.left)
+      (claims_left c.next.new.self) c.in-Some.next (structure_of script definitions) _ _ term.0 c.in-Some.ensures
       (c.loop-next.invariant.enough script definitions stands holds) term.1
       (c.in_ok-value.ensures.paid script definitions term.0 stands holds term.1);
   judged = λ script definitions all stands holds assertions.

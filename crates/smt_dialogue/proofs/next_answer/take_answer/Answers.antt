@@ -18,7 +18,8 @@ returns-in-Tree-clause-taken c = λ bytes text rest h.
     let next = c.look.new.self.next in
     let looked = c.in_ok-look-in-Optional.ensures.ahead bytes text rest h in
     let ahead = subst (λ (a : Ahead). IsAhead a next text rest) c.in-Tree.is looked.1 in
-    subst (λ (n : Need). IsTaken (found.Takes c.take_if.result) n text rest bytes c.take_if.new.answers) (sym c.in-Optional.is)
+    subst (λ (n : Need). IsTaken (found.Takes c.take_if.result) n text rest bytes c.take_if.new.answers)
+    (sym c.in-Optional.is)
     (optional_ready c.in-Optional.form c.take_if.result next text rest bytes c.take_if.new.answers ahead
     (c.take_if.ensures.taken bytes text rest looked.0))
 
@@ -43,7 +44,8 @@ returns-in-Some-clause-taken c = λ bytes text rest h.
     let next = c.look-in-Needed.new.self.next in
     let looked = c.in_ok-look-in-Needed.ensures.ahead bytes text rest h in
     let ahead = subst (λ (a : Ahead). IsAhead a next text rest) c.in-Tree-2.is looked.1 in
-    subst (λ (n : Need). IsTaken (found.Takes (Some c.in-Some.answer)) n text rest bytes c.take_if-in-Tree-2.new.answers) (sym c.in-Needed.is)
+    subst (λ (n : Need). IsTaken
+    (found.Takes (Some c.in-Some.answer)) n text rest bytes c.take_if-in-Tree-2.new.answers) (sym c.in-Needed.is)
     (needed_taken c.in-Needed.form c.in-Some.answer next text rest bytes c.take_if-in-Tree-2.new.answers ahead
     (c.in-Some.ensures.taken bytes text rest looked.0))
 
@@ -52,7 +54,8 @@ returns-in-None-clause-taken c = λ bytes text rest h.
     let next = c.look-in-Needed.new.self.next in
     let looked = c.in_ok-look-in-Needed.ensures.ahead bytes text rest h in
     let ahead = subst (λ (a : Ahead). IsAhead a next text rest) c.in-Tree-2.is looked.1 in
-    subst (λ (n : Need). IsTaken (found.Unexpected) n text rest bytes c.take_if-in-Tree-2.new.answers) (sym c.in-Needed.is)
+    subst (λ (n : Need). IsTaken (found.Unexpected) n text rest bytes c.take_if-in-Tree-2.new.answers)
+    (sym c.in-Needed.is)
     (needed_unfit c.in-Needed.form next text rest bytes c.take_if-in-Tree-2.new.answers ahead
     (c.in-None.ensures.taken bytes text rest looked.0))
 
@@ -69,5 +72,6 @@ returns-in-End-2-clause-taken c = λ bytes text rest h.
     let next = c.look-in-Needed.new.self.next in
     let looked = c.in_ok-look-in-Needed.ensures.ahead bytes text rest h in
     let ahead = subst (λ (a : Ahead). IsAhead a next text rest) c.in-End-2.is looked.1 in
-    subst (λ (n : Need). IsTaken (found.Missing c.in-End-2.fault) n text rest bytes c.look-in-Needed.new.self) (sym c.in-Needed.is)
+    subst (λ (n : Need). IsTaken (found.Missing c.in-End-2.fault) n text rest bytes c.look-in-Needed.new.self)
+    (sym c.in-Needed.is)
     (needed_missing c.in-Needed.form c.in-End-2.fault next text rest bytes c.look-in-Needed.new.self ahead looked.0)

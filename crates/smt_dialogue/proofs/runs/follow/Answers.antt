@@ -11,10 +11,12 @@ loop-side-init g c =
     record {
       rest = c.requires.rest;
       sound = sound;
-      references = record { script = refl; answers = refl; lines = refl };
+      references = record { script = refl; answers = refl; lines = refl; visitor = refl };
       running = λ options k.
-          running_new options (devices_of g.R1.Source g.R2.Source g.L.Outlet c.args.streams.now) c.args.session.now
-          (sym sound.script.ended ∙ k.script_ended) (sym sound.answers.ended ∙ k.answers_ended) k;
+          running_new (g.V.LineVisitor.has_visited c.args.streams.now.visitor.now) options
+          (devices_of g.R1.Source g.R2.Source g.L.Outlet c.args.streams.now) c.args.session.now
+          (sym sound.script.ended ∙ k.script_ended) (sym sound.answers.ended ∙ k.answers_ended)
+          c.requires.fresh k;
     }
 
 pub step-requires-clause-stands : goal.step-requires-clause-stands

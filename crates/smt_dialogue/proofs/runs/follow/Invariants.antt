@@ -12,7 +12,8 @@ invariant-loop-side g l = record {
   rest : IsAtRest g.L.Outlet.is_done l.session;
   sound : AreSound g.R1.Source g.R2.Source g.L.Outlet l.session l.streams;
   references : SameReferences g.L.Outlet l.fn.streams l.streams;
-  running : (options : Options) → StandsFor l.fn.session (begun options) → IsRunning options
+  running : (options : Options) → StandsFor l.fn.session (begun options)
+      → IsRunning (g.V.LineVisitor.has_visited l.streams.visitor.now) options
       (devices_of g.R1.Source g.R2.Source g.L.Outlet l.fn.streams)
       (devices_of g.R1.Source g.R2.Source g.L.Outlet l.streams) l.session;
 }

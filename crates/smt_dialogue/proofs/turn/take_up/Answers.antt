@@ -51,7 +51,8 @@ returns-in-Waits-clause-turn c = λ bytes text rest taken early pairs h stands c
     (c.need_of-need.ensures
     ∙ ap (λ p. need_of_kind p c.print_success.result c.kind-kind.result) c.profile.ensures
     ∙ ap (need_of_kind (profile_of dialogue.stack) c.print_success.result) c.kind-kind.ensures)
-    (c.print_success.ensures (effective_commands pairs) stands.stack) (c.is_check.ensures ∙ ap asks_check c.kind-kind.ensures)
+    (c.print_success.ensures (effective_commands pairs) stands.stack)
+    (c.is_check.ensures ∙ ap asks_check c.kind-kind.ensures)
     (subst (λ (a : NextAnswer). IsTaken a c.need_of-need.result text rest bytes c.take_answer.new.answers) c.in-Waits.is
     (c.in_ok-answer.ensures.taken bytes text rest h)) stands
 

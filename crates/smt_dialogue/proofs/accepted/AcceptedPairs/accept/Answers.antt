@@ -31,7 +31,8 @@ returns-in-Err-clause-refused c = λ flaw told taken early pairs stands.
     let s = state_behind taken c.args.self.now in
     let t = record s { stack = c.apply_if.new.stack } in
     let commands = effective_commands pairs in
-    refused_fault early s t (s.commands + 1) pairs (command_view c.args.command.now) (option_map tree_of c.args.answer.now)
+    refused_fault early s t (s.commands + 1) pairs (command_view c.args.command.now)
+    (option_map tree_of c.args.answer.now)
     c.in-Err.fault flaw refl stands (c.in-Err.ensures.refused commands stands.stack) told
     (refused_stands early s t pairs stands c.apply_if.ensures.start (c.in-Err.ensures.unchanged.0 commands stands.stack)
     c.in-Err.ensures.unchanged.1 refl refl refl refl refl)

@@ -9,7 +9,7 @@ use Rattle.smt_dialogue.specs.Report.{lines_of_end}
 use Rattle.smt_dialogue.specs.SoFar.{is_verdict_line}
 use Rattle.smt_dialogue.specs.declared.options.Options.{Options}
 use Rattle.std.specs.List.{list_any}
-use Rattle.smt_report.specs.Verdict.{tally_of, verdict_of, with_verdict}
+use Rattle.smt_report.specs.Verdict.{summary_of, tally_of, verdict_of, with_verdict}
 use Rattle.smt_report.specs.declared.line.Line.{Line}
 use Rattle.smt_report.specs.declared.line.Line.TheVariants as lines
 use Rattle.smt_dialogue.proofs.accepted.AcceptedPairs.end.Goals as goal
@@ -23,8 +23,8 @@ returns-in_err-end_window-clause-cut c = on_err c.from_residual.result (λ taken
       ap (list_any is_verdict_line) same ∙ lines_silent early s pairs stands,
     ))
 
-pub returns-in_err-verdict-clause-cut : goal.returns-in_err-verdict-clause-cut
-returns-in_err-verdict-clause-cut c = on_err c.from_residual-in_err-verdict.result (λ taken early pairs stands.
+pub returns-in_err-summary-clause-cut : goal.returns-in_err-summary-clause-cut
+returns-in_err-summary-clause-cut c = on_err c.from_residual-in_err-summary.result (λ taken early pairs stands.
     let e = c.end_window.new.self in
     let u = state_behind taken e in
     let on = c.in_ok-end_window.ensures.stands taken early pairs stands in
@@ -35,10 +35,10 @@ returns-in_err-verdict-clause-cut c = on_err c.from_residual-in_err-verdict.resu
     let all = lines_in (profile_of c.args.self.now.stack) c.args.self.now.checks.limit.steps true [] pairs []
     ++ lines_of_end c.args.fault in (
       part_begins taken e.decided.lines.items (lines_of_end c.args.fault) c.end.new.self.lines.items all
-          (lines.Verdict (verdict_of all) (tally_of all) ∷ []) c.in_err-verdict.ensures.kept
+          (lines.Verdict (verdict_of all) (tally_of all) ∷ []) c.in_err-summary.ensures.kept
           (ap (λ xs. xs ++ lines_of_end c.args.fault) here),
       decided_silent taken e.decided.lines.items c.end.new.self.lines.items c.args.fault c.requires.fault
-          c.in_err-verdict.ensures.kept (lines_silent true u pairs on),
+          c.in_err-summary.ensures.kept (lines_silent true u pairs on),
     ))
 
 pub returns-clause-ended : goal.returns-clause-ended
@@ -49,9 +49,9 @@ returns-clause-ended c = λ taken early pairs stands.
     ≡ u.lines =
     sym (ap (λ (o : Options). lines_in o.profile o.limit.steps true [] pairs []) c.end_window.ensures.start)
     ∙ closed_lines true u pairs c.end_window.ensures.ended on in
-    let told = c.in_ok-verdict.ensures.ended taken on.tally (lines_faultless true u pairs on) in
+    let told = c.in_ok-summary.ensures.ended taken on.tally (lines_faultless true u pairs on) in
     let same = ap (λ xs. xs ++ lines_of_end c.args.fault) (sym here) in
-    (told.0 ∙ ap with_verdict same, told.1 ∙ ap verdict_of same)
+    (told.0 ∙ ap with_verdict same, told.1 ∙ ap summary_of same)
 
 pub returns-clause-kept : goal.returns-clause-kept
 returns-clause-kept c =

@@ -19,7 +19,8 @@ loop-self-preserved g c =
       reference = i.reference;
       runs = λ options before now r.
           let after : Devices = record now { out = g.W.Sink.taken c.put_some.new.out } in
-          more_fed options before after c.put_some.new.session c.in-Ok-true.field-0 c.in-Ok-true.field-0-test
+          more_fed (g.V.LineVisitor.has_visited c.put_some.new.visitor) options before after c.put_some.new.session
+          c.in-Ok-true.field-0 c.in-Ok-true.field-0-test
           (c.in-Ok-true.ensures.put options before now (i.runs options before now r));
     }
 

@@ -15,8 +15,10 @@ invariant-loop-self g l = record {
   stays : StaysFailed l.fn.session l.session;
   reference : l.self.out.ghost_name ≡ l.fn.self.out.ghost_name;
   runs : (options : Options) (before now : Devices)
-      → IsFedRun options before (record now { out = g.W.Sink.taken l.fn.self.out.now }) l.fn.session
-      → IsFedRun options before (record now { out = g.W.Sink.taken l.self.out.now }) l.session;
+      → IsFedRun (g.V.LineVisitor.has_visited l.fn.visitor) options before
+      (record now { out = g.W.Sink.taken l.fn.self.out.now }) l.fn.session
+      → IsFedRun (g.V.LineVisitor.has_visited l.visitor) options before
+      (record now { out = g.W.Sink.taken l.self.out.now }) l.session;
 }
 
 abbrev pub decreases-loop-self : goal.decreases-loop-self

@@ -12,7 +12,7 @@ use Rattle.smt_dialogue.specs.Internal.AcceptedState.{options_of}
 use Rattle.smt_dialogue.specs.Internal.PairingView.{IsTurned, waiting}
 use Rattle.smt_dialogue.specs.declared.options.Options.{Options}
 use Rattle.smt_dialogue.specs.declared.turn.Turn.{Turn}
-use Rattle.smt_report.specs.Verdict.{verdict_of}
+use Rattle.smt_report.specs.Verdict.{summary_of}
 use Rattle.smt_dialogue.proofs.pairing.Pairing.advance.Goals as goal
 
 pub take_turn-requires : goal.take_turn-requires
@@ -149,16 +149,16 @@ end-requires-clause-few c =
       c.requires.script_room,
     )
 
-pub returns-in_err-verdict-in-Ends-clause-cut : goal.returns-in_err-verdict-in-Ends-clause-cut
-returns-in_err-verdict-in-Ends-clause-cut c =
-    on_err c.from_residual-in_err-verdict-in-Ends.result (λ texts pairs later rest first.
+pub returns-in_err-summary-in-Ends-clause-cut : goal.returns-in_err-summary-in-Ends-clause-cut
+returns-in_err-summary-in-Ends-clause-cut c =
+    on_err c.from_residual-in_err-summary-in-Ends.result (λ texts pairs later rest first.
     let x = c.loop-closed.self in
     let y = c.take_turn.new.self in
     let start = options_of c.args.self.now.dialogue in
     let h = c.loop-closed.invariant.way texts pairs later rest first in
     let t = subst (λ (turn : Turn). IsTurned turn x y texts h.0 h.1 h.2) c.in-Ends.is
     (c.in_ok-take_turn.ensures.turn texts h.0 h.1 h.2 h.3) in
-    let cut = c.in_err-verdict-in-Ends.ensures.cut texts.taken t.0 h.0 t.1 in
+    let cut = c.in_err-summary-in-Ends.ensures.cut texts.taken t.0 h.0 t.1 in
     cut_ended texts h.0 c.in-Ends.fault c.end.new.self.decided.lines.items start
     (ends_at x y texts h.0 h.1 h.2 start c.in-Ends.fault c.loop-closed.invariant.start h.3 t) (
       subst (λ (o : Options). IsBeginning (texts.taken ++ c.end.new.self.decided.lines.items)
@@ -175,13 +175,13 @@ returns-in-Ends-clause-advanced c = λ texts pairs later rest first.
     let h = c.loop-closed.invariant.way texts pairs later rest first in
     let t = subst (λ (turn : Turn). IsTurned turn x y texts h.0 h.1 h.2) c.in-Ends.is
     (c.in_ok-take_turn.ensures.turn texts h.0 h.1 h.2 h.3) in
-    let done = c.in_ok-verdict-in-Ends.ensures.ended texts.taken t.0 h.0 t.1 in
+    let done = c.in_ok-summary-in-Ends.ensures.ended texts.taken t.0 h.0 t.1 in
     let same = c.in_ok-take_turn.ensures.start ∙ c.loop-closed.invariant.start in (
       c.in-Ends.fault,
       h.0,
       ends_at x y texts h.0 h.1 h.2 start c.in-Ends.fault c.loop-closed.invariant.start h.3 t,
       done.0 ∙ ap (λ (o : Options). lines_at_end o.profile o.limit.steps h.0 c.in-Ends.fault) same,
-      done.1 ∙ ap (λ (o : Options). verdict_of
+      done.1 ∙ ap (λ (o : Options). summary_of
           (lines_in o.profile o.limit.steps true [] h.0 [] ++ lines_of_end c.in-Ends.fault))
           same,
     )

@@ -17,4 +17,5 @@ returns-in-Answers-clause-way c =
     let x = c.args.self.now in
     let y : Pairing = record x { answers = c.finish-in-Answers.new.self } in
     subst (λ side. (texts : Texts) → GoesOnWith side x y texts true (bytes_at side texts)) (sym c.in-Answers.is)
-    (λ texts. goes_on_with Answers x y texts true _ refl refl refl (c.finish-in-Answers.ensures.goes_on texts.answers_bytes))
+    (λ texts. goes_on_with Answers x y texts true _ refl refl refl
+    (c.finish-in-Answers.ensures.goes_on texts.answers_bytes))

@@ -26,7 +26,8 @@ unreachable-requires-in_default-read_command c =
     let m = c.next_command.new.self in
     let h = (next_there c.in_ok-instead.field-0 c.args.self.now m way.0 way.1 way.2 way.3 c.in_default.is
     c.in_ok-instead.ensures.next way.4).0 in
-    let turn = subst (λ o. IsInTurn (profile_of m.dialogue.stack) o way.1 way.2 h.left) c.in-Some-command.is h.in_turn in
+    let turn = subst (λ o. IsInTurn (profile_of m.dialogue.stack) o way.1 way.2 h.left) c.in-Some-command.is h.in_turn
+    in
     unread c.read_command.result c.profile.result (view.sexp_of c.view.result) turn.0
     c.in_default-read_command.not-Ok c.read_command.ensures
     (read_again c.profile.result (profile_of m.dialogue.stack) (view.sexp_of c.view.result)
@@ -38,8 +39,10 @@ take_up-requires-clause-commands c =
     let m = c.next_command.new.self in
     let h = (next_there c.in_ok-instead.field-0 c.args.self.now m way.0 way.1 way.2 way.3 c.in_default.is
     c.in_ok-instead.ensures.next way.4).0 in
-    let turn = subst (λ o. IsInTurn (profile_of m.dialogue.stack) o way.1 way.2 h.left) c.in-Some-command.is h.in_turn in
-    let most = room_for_one c.requires.room.few m way.0 way.1 (sexp_of c.in-Some-command.tree) h.left way.2 way.3 turn.1 h in
+    let turn = subst (λ o. IsInTurn (profile_of m.dialogue.stack) o way.1 way.2 h.left) c.in-Some-command.is h.in_turn
+    in
+    let most = room_for_one c.requires.room.few m way.0 way.1
+    (sexp_of c.in-Some-command.tree) h.left way.2 way.3 turn.1 h in
     omega (arith, most, c.next_command.ensures.fed.script, c.requires.room.script)
 
 pub take_up-requires-clause-answers : goal.take_up-requires-clause-answers
@@ -48,8 +51,10 @@ take_up-requires-clause-answers c =
     let m = c.next_command.new.self in
     let h = (next_there c.in_ok-instead.field-0 c.args.self.now m way.0 way.1 way.2 way.3 c.in_default.is
     c.in_ok-instead.ensures.next way.4).0 in
-    let turn = subst (λ o. IsInTurn (profile_of m.dialogue.stack) o way.1 way.2 h.left) c.in-Some-command.is h.in_turn in
-    let most = room_for_one c.requires.room.few m way.0 way.1 (sexp_of c.in-Some-command.tree) h.left way.2 way.3 turn.1 h in
+    let turn = subst (λ o. IsInTurn (profile_of m.dialogue.stack) o way.1 way.2 h.left) c.in-Some-command.is h.in_turn
+    in
+    let most = room_for_one c.requires.room.few m way.0 way.1
+    (sexp_of c.in-Some-command.tree) h.left way.2 way.3 turn.1 h in
     omega (
       arith,
       most,
@@ -64,8 +69,10 @@ take_up-requires-clause-checks c =
     let m = c.next_command.new.self in
     let h = (next_there c.in_ok-instead.field-0 c.args.self.now m way.0 way.1 way.2 way.3 c.in_default.is
     c.in_ok-instead.ensures.next way.4).0 in
-    let turn = subst (λ o. IsInTurn (profile_of m.dialogue.stack) o way.1 way.2 h.left) c.in-Some-command.is h.in_turn in
-    let most = room_for_one c.requires.room.few m way.0 way.1 (sexp_of c.in-Some-command.tree) h.left way.2 way.3 turn.1 h in
+    let turn = subst (λ o. IsInTurn (profile_of m.dialogue.stack) o way.1 way.2 h.left) c.in-Some-command.is h.in_turn
+    in
+    let most = room_for_one c.requires.room.few m way.0 way.1
+    (sexp_of c.in-Some-command.tree) h.left way.2 way.3 turn.1 h in
     omega (
       arith,
       most,
@@ -84,15 +91,19 @@ take_up-requires-clause-stands c =
       h.early,
       way.1,
       h.stands,
-      λ e. subst (λ o. IsClosing (profile_of c.next_command.new.self.dialogue.stack) o way.0 way.2) c.in-Some-command.is (h.closing e)
-          (command_view c.in-Ok.command) (read_again (profile_of c.next_command.new.self.dialogue.stack) c.profile.result (sexp_of c.in-Some-command.tree)
+      λ e. subst (λ o. IsClosing (profile_of c.next_command.new.self.dialogue.stack) o way.0 way.2) c.in-Some-command.is
+          (h.closing e)
+          (command_view c.in-Ok.command)
+          (read_again (profile_of c.next_command.new.self.dialogue.stack) c.profile.result
+          (sexp_of c.in-Some-command.tree)
           (view.sexp_of c.view.result) _ c.profile.ensures c.view.ensures c.in-Ok.ensures),
     )
 
 pub take_up-requires-clause-front : goal.take_up-requires-clause-front
 take_up-requires-clause-front c =
     let way = c.requires.room.way in
-    let h = (next_there c.in_ok-instead.field-0 c.args.self.now c.next_command.new.self way.0 way.1 way.2 way.3 c.in_default.is
+    let h = (next_there c.in_ok-instead.field-0 c.args.self.now c.next_command.new.self way.0 way.1 way.2 way.3
+    c.in_default.is
     c.in_ok-instead.ensures.next way.4).0 in
     (way.0.answers_bytes, way.0.answers, way.3, h.answers_front)
 
@@ -108,11 +119,13 @@ returns-in-GoesOn-clause-turn c = λ texts pairs later rest way.
     let h = (next_there c.in_ok-instead.field-0 c.args.self.now m texts pairs later rest c.in_default.is
     c.in_ok-instead.ensures.next way).0 in
     turned_behind c.in_ok-turn.turn c.args.self.now m _ texts pairs later rest c.next_command.ensures.dialogue
-    (taken_up c.in_ok-turn.turn m _ texts pairs later rest c.in-Some-command.tree (command_view c.in-Ok.command) c.in-Some-command.is
+    (taken_up c.in_ok-turn.turn m _ texts pairs later rest c.in-Some-command.tree
+    (command_view c.in-Ok.command) c.in-Some-command.is
     (read_again (profile_of m.dialogue.stack) c.profile.result (sexp_of c.in-Some-command.tree)
     (view.sexp_of c.view.result) _ c.profile.ensures c.view.ensures c.in-Ok.ensures) refl
     c.in_ok-turn.ensures.start (λ e. refl) (λ closed e. absurd (cc))
-    (λ early stands check. c.in_ok-turn.ensures.turn texts.answers_bytes texts.answers rest texts.taken early pairs h.answers_front
+    (λ early stands check. c.in_ok-turn.ensures.turn texts.answers_bytes texts.answers rest texts.taken early pairs
+    h.answers_front
     stands check) h)
 
 pub returns-in_default-turn-clause-turn : goal.returns-in_default-turn-clause-turn
@@ -121,9 +134,11 @@ returns-in_default-turn-clause-turn c = λ texts pairs later rest way.
     let h = (next_there c.in_ok-instead.field-0 c.args.self.now m texts pairs later rest c.in_default.is
     c.in_ok-instead.ensures.next way).0 in
     turned_behind c.in_ok-turn.turn c.args.self.now m _ texts pairs later rest c.next_command.ensures.dialogue
-    (taken_up c.in_ok-turn.turn m _ texts pairs later rest c.in-Some-command.tree (command_view c.in-Ok.command) c.in-Some-command.is
+    (taken_up c.in_ok-turn.turn m _ texts pairs later rest c.in-Some-command.tree
+    (command_view c.in-Ok.command) c.in-Some-command.is
     (read_again (profile_of m.dialogue.stack) c.profile.result (sexp_of c.in-Some-command.tree)
     (view.sexp_of c.view.result) _ c.profile.ensures c.view.ensures c.in-Ok.ensures) refl
     c.in_ok-turn.ensures.start (λ e. absurd (c.in_default-turn.not-GoesOn e)) (λ closed e. c.in-Some-command.is)
-    (λ early stands check. c.in_ok-turn.ensures.turn texts.answers_bytes texts.answers rest texts.taken early pairs h.answers_front
+    (λ early stands check. c.in_ok-turn.ensures.turn texts.answers_bytes texts.answers rest texts.taken early pairs
+    h.answers_front
     stands check) h)

@@ -13,7 +13,7 @@ returns-then-is_some-clause-fed c = λ h k.
     let failed = some_by m.failure c.if-is_some.ensures in
     fed_failed m (with_end side h) failed.0 failed.1
     (failed_stands c.text_laws.ensures s m h (with_end side h) failed.0 (sym c.close.ensures.failure ∙ failed.1)
-    c.close.ensures.failure c.close.ensures.verdict c.close.ensures.exchange
+    c.close.ensures.failure c.close.ensures.summary c.close.ensures.exchange
     (told_end side s m h c.close.ensures.script_ended c.close.ensures.answers_ended k)
     (end_grows side s h c.requires.open k) refl k)
 
@@ -24,10 +24,10 @@ returns-then-is_some-2-clause-fed c = λ h k.
     let side = c.args.side in
     let unset = none_by m.failure c.if-is_some.ensures in
     let none = sym c.close.ensures.failure ∙ unset in
-    let v = some_by m.verdict c.if-is_some-2.ensures in
+    let v = some_by m.summary c.if-is_some-2.ensures in
     fed_ended m (with_end side h) v.0 v.1
-    (ended_stands c.text_laws.ensures s m h (with_end side h) v.0 (sym c.close.ensures.verdict ∙ v.1) none unset
-    c.close.ensures.verdict c.close.ensures.exchange
+    (ended_stands c.text_laws.ensures s m h (with_end side h) v.0 (sym c.close.ensures.summary ∙ v.1) none unset
+    c.close.ensures.summary c.close.ensures.exchange
     (told_end side s m h c.close.ensures.script_ended c.close.ensures.answers_ended k)
     (end_grows side s h c.requires.open k) refl (end_counted side s m h c.close.ensures.fed (k.counted none)) k)
 

@@ -1,5 +1,6 @@
 use Rattle.std.proofs.Common.{◌∙◌, arith, length, refl, sym}
-use Rattle.smt_dialogue.proofs.SessionFeedLemmas.{left_piece, piece_counted, piece_fed, piece_grows, piece_long, told_piece}
+use Rattle.smt_dialogue.proofs.SessionFeedLemmas.{left_piece, piece_counted, piece_fed, piece_grows, piece_long}
+use Rattle.smt_dialogue.proofs.SessionFeedLemmas.{told_piece}
 use Rattle.smt_dialogue.proofs.SessionGrowthLemmas.{ended_stands, failed_stands, stopped_stands}
 use Rattle.smt_dialogue.proofs.SessionTurnLemmas.{fed_ended, fed_failed, going_fed, none_by, some_by}
 use Rattle.smt_dialogue.specs.History.{with_piece}
@@ -34,10 +35,10 @@ returns-then-is_some-2-clause-fed c = λ h k.
     let side = c.args.side in
     let piece = c.args.piece.now in
     let none = none_by s.failure c.if-is_some.ensures in
-    let v = some_by m.verdict c.if-is_some-2.ensures in
+    let v = some_by m.summary c.if-is_some-2.ensures in
     fed_ended m (with_piece side h piece) v.0 v.1
-    (ended_stands c.text_laws.ensures s m h (with_piece side h piece) v.0 (sym c.count.ensures.verdict ∙ v.1) none
-    (c.count.ensures.failure ∙ none) c.count.ensures.verdict c.count.ensures.exchange
+    (ended_stands c.text_laws.ensures s m h (with_piece side h piece) v.0 (sym c.count.ensures.summary ∙ v.1) none
+    (c.count.ensures.failure ∙ none) c.count.ensures.summary c.count.ensures.exchange
     (told_piece side s m h piece c.count.ensures.script_ended c.count.ensures.answers_ended k)
     (piece_grows side s h piece c.requires.open k) refl
     (piece_counted side s m h piece c.in-Some.bytes c.count.ensures.fed (k.counted none)
@@ -58,10 +59,12 @@ returns-clause-fed c = λ h k.
 
 pub returns-then-is_some-2-clause-smaller : goal.returns-then-is_some-2-clause-smaller
 returns-then-is_some-2-clause-smaller c = λ none some.
-    left_piece c.args.side c.args.self.now c.count.new.self c.in-Some.bytes (length c.args.piece.now) c.count.ensures.fed
+    left_piece c.args.side c.args.self.now c.count.new.self c.in-Some.bytes
+    (length c.args.piece.now) c.count.ensures.fed
     (omega (arith, c.in-Some.ensures.1, c.bytes.ensures)) (omega (arith, c.in-Some.ensures)) some
 
 pub returns-clause-smaller : goal.returns-clause-smaller
 returns-clause-smaller c = λ none some.
-    left_piece c.args.side c.args.self.now c.count.new.self c.in-Some.bytes (length c.args.piece.now) c.count.ensures.fed
+    left_piece c.args.side c.args.self.now c.count.new.self c.in-Some.bytes
+    (length c.args.piece.now) c.count.ensures.fed
     (omega (arith, c.in-Some.ensures.1, c.bytes.ensures)) (omega (arith, c.in-Some.ensures)) some

@@ -1,5 +1,6 @@
 use Rattle.std.proofs.Common.{◌∙◌}
-use Rattle.smt_dialogue.proofs.SessionFeedLemmas.{ended_now, ended_same, more_end, more_piece, none_there, other_same, some_there}
+use Rattle.smt_dialogue.proofs.SessionFeedLemmas.{ended_now, ended_same, more_end, more_piece, none_there, other_same}
+use Rattle.smt_dialogue.proofs.SessionFeedLemmas.{some_there}
 use Rattle.smt_dialogue.proofs.session.Session.take_next.Goals as goal
 
 pub returns-then-is_empty-clause-fed : goal.returns-then-is_empty-clause-fed

@@ -11,7 +11,7 @@ returns-in-Ok-Pauses-clause-turned c = λ h k.
     let on = open_fed s h c.in_default.is c.if-is_some.ensures k in
     let o = on.open' in
     let texts = texts_of h o.script o.answers in
-    paused_going s _ h on on.failure on.verdict (record { script = on.script_ended; answers = on.answers_ended })
+    paused_going s _ h on on.failure on.summary (record { script = on.script_ended; answers = on.answers_ended })
     refl refl (limited_on s.exchange c.advance.new.self _ c.advance.ensures.limits o.limits)
     (subst (λ a. HasAdvanced a h.options c.advance.new.self texts) c.in-Ok-Pauses.field-0-is
     (subst (λ b. HasAdvanced c.in-Ok-Pauses.field-0 b c.advance.new.self texts) o.start
@@ -27,7 +27,7 @@ returns-in-Ok-Rests-clause-turned c = λ h k.
     let on = open_fed s h c.in_default.is c.if-is_some.ensures k in
     let o = on.open' in
     let texts = texts_of h o.script o.answers in
-    rests_stands s _ h c.in-Ok-Rests.verdict on on.failure refl
+    rests_stands s _ h c.in-Ok-Rests.summary on on.failure refl
     (record { script = on.script_ended; answers = on.answers_ended }) refl refl
     (limited_on s.exchange c.advance.new.self _ c.advance.ensures.limits o.limits)
     (subst (λ a. HasAdvanced a h.options c.advance.new.self texts) c.in-Ok-Rests.field-0-is
@@ -39,7 +39,7 @@ returns-in-Err-clause-turned c = λ h k.
     let s = c.args.self.now in
     let on = open_fed s h c.in_default.is c.if-is_some.ensures k in
     let o = on.open' in
-    cut_stands s _ h on refl on.verdict
+    cut_stands s _ h on refl on.summary
     (record { script = on.script_ended; answers = on.answers_ended })
     (subst (λ b. IsCut b c.advance.new.self.dialogue.decided.lines.items (texts_of h o.script o.answers)) o.start
     (c.in-Err.ensures.cut (texts_of h o.script o.answers) o.pairs o.later o.rest o.way))

@@ -18,6 +18,7 @@ returns-clause-goes_on c = λ bytes text grown rest h read.
     c.read_faults_stay.ensures.stay (depth_limit f.reader) false bytes false more text grown g
     (read_open f bytes text rest c.requires.open h) read in (
       s,
-      front_more f _ bytes more text grown rest s refl c.feed.ensures.limit (λ taken stands. c.feed.ensures.stands bytes taken stands)
+      front_more f _ bytes more text grown rest s refl c.feed.ensures.limit
+          (λ taken stands. c.feed.ensures.stands bytes taken stands)
           (read_now (depth_limit f.reader) c.feed.new.self false more grown c.feed.ensures.finished read) h,
     )

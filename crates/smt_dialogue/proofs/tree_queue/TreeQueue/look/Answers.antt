@@ -17,7 +17,8 @@ returns-in-Wait-clause-ahead c = λ bytes text rest h.
     let none = none_there front.next c.if-is_some.ensures in
     let found = looked_none c.one_reading.ensures.one front _ bytes text rest None none none
     c.in-Wait.ensures.finished c.in-Wait.ensures.limit
-    (λ fed taken s. reads_at (depth_limit front.reader) false (is_finished front.reader) fed taken None (c.in-Wait.ensures.right fed taken s))
+    (λ fed taken s. reads_at (depth_limit front.reader) false (is_finished front.reader) fed taken None
+    (c.in-Wait.ensures.right fed taken s))
     c.in-Wait.ensures.stands h in
     let told = (c.in-Wait.ensures.right bytes h.taken (stands_open front bytes text rest none h)).0 in
     (found.0, (found.1, open_text text (h.told ∙ told) found.2))
@@ -28,7 +29,8 @@ returns-in-End-clause-ahead c = λ bytes text rest h.
     let none = none_there front.next c.if-is_some.ensures in
     let found = looked_none c.one_reading.ensures.one front _ bytes text rest None none none
     c.in-End.ensures.finished c.in-End.ensures.limit
-    (λ fed taken s. reads_at (depth_limit front.reader) true (is_finished front.reader) fed taken None (c.in-End.ensures.right fed taken s))
+    (λ fed taken s. reads_at (depth_limit front.reader) true (is_finished front.reader) fed taken None
+    (c.in-End.ensures.right fed taken s))
     c.in-End.ensures.stands h in
     let told = (c.in-End.ensures.right bytes h.taken (stands_open front bytes text rest none h)).0 in
     (found.0, (found.1, found.2, ended_text text (h.told ∙ told)))

@@ -1,13 +1,12 @@
 use Rattle.std.proofs.Common.{◌++◌}
-use Rattle.smt_dialogue.proofs.SessionVerdictLemmas.{ended_invalid, ended_valid, has_ended}
+use Rattle.smt_dialogue.proofs.SessionVerdictLemmas.{ended_invalid, ended_valid, has_ended, if_some}
 use Rattle.smt_dialogue.specs.Session.{lines_waiting}
-use Rattle.smt_report.specs.declared.verdict.Verdict.TheVariants.{Invalid, Valid}
-use Rattle.smt_dialogue.proofs.session.Session.verdict.Goals as goal
+use Rattle.smt_dialogue.proofs.session.Session.summary.Goals as goal
 
 pub returns-clause-valid : goal.returns-clause-valid
-returns-clause-valid c = λ h k is.
+returns-clause-valid c = λ h k.
     let s = c.args.self.now in
-    ended_valid (record {
+    if_some s.summary (λ v some is. ended_valid (record {
       complete = c.models_are_complete.ensures;
       known = c.known_values_are_true.ensures;
       introduced = c.names_in_force_are_introduced.ensures;
@@ -15,12 +14,12 @@ returns-clause-valid c = λ h k is.
       stand = c.assertions_in_force_stand.ensures.stands;
       found = c.assertions_in_force_stand.ensures.found;
     })
-    c.one_forest.ensures.one h (h.taken ++ lines_waiting s) (has_ended s h Valid is k)
+    c.one_forest.ensures.one v h (h.taken ++ lines_waiting s) is (has_ended s h v some k))
 
 pub returns-clause-invalid : goal.returns-clause-invalid
-returns-clause-invalid c = λ h k is.
+returns-clause-invalid c = λ h k.
     let s = c.args.self.now in
-    ended_invalid (record {
+    if_some s.summary (λ v some is. ended_invalid (record {
       complete = c.models_are_complete.ensures;
       known = c.known_values_are_true.ensures;
       introduced = c.names_in_force_are_introduced.ensures;
@@ -28,4 +27,4 @@ returns-clause-invalid c = λ h k is.
       stand = c.assertions_in_force_stand.ensures.stands;
       found = c.assertions_in_force_stand.ensures.found;
     })
-    h (h.taken ++ lines_waiting s) (has_ended s h Invalid is k)
+    v h (h.taken ++ lines_waiting s) is (has_ended s h v some k))
