@@ -1,6 +1,6 @@
 -- What is known over definitions, one step at a time.
 use Rattle.std.proofs.Common.{◌≡◌, ℕ, zero, suc, ◌<◌, Bool, true, false, cond, List, [], ◌∷◌, ◌++◌}
-use Rattle.std.proofs.Common.{length, take, slice_get, Option, Some, None, Result, Ok, IfOk, refl, ap}
+use Rattle.std.proofs.Common.{length, take, slice_get, Option, Some, None, Result, IfOk, refl, ap}
 use Rattle.std.proofs.Common.{sym, ◌∙◌, subst, arith}
 use Rattle.std.proofs.Math.Seq.{take-length}
 use Rattle.std.proofs.lemmas.List.{map-append}
@@ -16,7 +16,7 @@ use Rattle.smt_theory.specs.Operators.{op_by}
 use Rattle.smt_theory.specs.Words.{look_up}
 use Rattle.smt_values.specs.Element.{Element, known_element}
 use Rattle.smt_values.specs.declared.value.Value.{Value}
-use Rattle.smt_forms.specs.Identifier.{Plain, Indexed, all_indexes, applied, indexed}
+use Rattle.smt_forms.specs.Identifier.{Plain, Indexed, applied}
 use Rattle.smt_forms.specs.ScopeView.{scope_view}
 use Rattle.smt_terms.specs.Signature.{AreDistinct, Entry, Signature, entry_named}
 use Rattle.smt_forms.specs.declared.variable.Variable.{Variable}
@@ -116,10 +116,6 @@ pub not_defined : (d : Signature) (n : ℕ) (x : List ℕ) (args : List (Option 
     → entry_named (take n d.entries) x ≡ None
     → known_in (first n d) (Plain x) args ≡ known_of_op (op_by d.theories x []) (Plain x) args
 not_defined d n x args none = known_absent (known_operators d.theories) (take n d.entries) x args none
-
-    never : (ps : Sexps) → indexed ps ≡ Ok (Plain x) → ⊥
-    never (Cons (Atom Symbol y) (Cons t ts)) h = by x y (all_indexes (Cons t ts)) h
-    never _ h = cc
 
 -- ---- variables
 
