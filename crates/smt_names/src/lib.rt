@@ -16,11 +16,15 @@
 //! A name is found by a hash, or, where too many names share one, by their order. No contract says which.
 #![tactic(auto)]
 
-mod chains;
+mod crowd;
+mod hasher;
 mod keys;
+mod late;
 pub mod laws;
 mod map;
+mod name;
 mod names;
+mod table;
 
 pub use map::NameMap;
 pub use names::Names;

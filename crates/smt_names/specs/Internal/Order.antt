@@ -1,5 +1,5 @@
 -- The places of names in a map by their order.
-use Rattle.std.specs.Prelude.{◌≡◌, ℕ, List, Option, Some, None, bytes_eq}
+use Rattle.std.specs.Prelude.{◌≡◌, ◌≤◌, ℕ, List, length, Option, Some, bytes_eq}
 use Rattle.std.specs.Global.{Vec}
 use Rattle.std.specs.Ordering.{nat_cmp}
 use Rattle.std.specs.Cmp.Lexicographic.{slice_cmp}
@@ -18,14 +18,15 @@ place_in map name = get_by (λ k. slice_cmp nat_cmp name k.items) map
 abbrev pub HasPlaces : List (List ℕ) → PlaceMap → Type 0
 HasPlaces names map = (name : List ℕ) → place_in map name ≡ place_of names name
 
-abbrev pub HasPlacesIfAny : List (List ℕ) → Option PlaceMap → Type 0
-HasPlacesIfAny names None = Unit {0}
-HasPlacesIfAny names (Some map) = HasPlaces names map
-
--- no name stands twice, and a map, if there is one, has their places
-pub record IsIndexed (names : List (List ℕ)) (map : Option PlaceMap) : Type 0 where
+-- no name stands twice, and a map has their places
+pub record IsIndexed (names : List (List ℕ)) (map : PlaceMap) : Type 0 where
   pub distinct : AreDistinct names
-  pub places : HasPlacesIfAny names map
+  pub places : HasPlaces names map
+
+-- no name stands twice, and each place has 32 bits
+pub record ArePlaced (names : List (List ℕ)) : Type 0 where
+  pub distinct : AreDistinct names
+  pub few : length names ≤ 4294967295
 
 -- the second map has this place of the name, and those that the first has of others
 abbrev pub HasPlace : List ℕ → ℕ → (old new : PlaceMap) → Type 0
