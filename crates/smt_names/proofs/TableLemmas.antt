@@ -1,10 +1,16 @@
 -- The names of a table, which are those of the library's map and the late ones.
-use Rattle.std.proofs.Common.{◌≡◌, ℕ, zero, suc, ◌-◌, ◌<◌, ◌≤◌, List, [], ◌∷◌, ◌++◌, length, take, None}
+use Rattle.std.proofs.Common.{◌≡◌, ℕ, zero, suc, ◌-◌, ◌<◌, ◌≤◌, List, [], ◌∷◌, ◌++◌, length, take, drop, get_or, set}
+use Rattle.std.proofs.Common.{Bool, true, false, cond, Option, None, Some, inl, inr}
 use Rattle.std.proofs.Common.{refl, ap, sym, ◌∙◌, subst, arith}
-use Rattle.std.proofs.lemmas.List.{append-nil, append_assoc, length-append, length-take, take_all}
+use Rattle.std.proofs.lemmas.List.{append-nil, append_assoc, length-append, length-take, take-append-drop}
+use Rattle.std.proofs.lemmas.List.{get_or-set_same, get_or-set_other, length-set}
+use Rattle.std.proofs.lemmas.Bool.{true≢false}
+use Rattle.std.proofs.lemmas.Bool.Decides.{eqb_tells}
+use Rattle.std.specs.Cmp.Lexicographic.{same_text}
+use Rattle.std.specs.Prelude.{bytes_eq}
 use Rattle.smt_names.specs.Places.{AreDistinct, place_of}
-use Rattle.smt_names.specs.Internal.Order.{ArePlaced}
-use Rattle.smt_names.proofs.PlaceLemmas.{distinct-push, distinct-take}
+use Rattle.smt_names.specs.Internal.Order.{AreKept}
+use Rattle.smt_names.proofs.PlaceLemmas.{distinct-push, distinct-take, place-front, place-push}
 
 abbrev Names : Type 0
 Names = List (List ℕ)
@@ -36,17 +42,65 @@ pub cut_both : (n : ℕ) (xs ys front behind names : Names) → xs ++ ys ≡ nam
 cut_both n xs ys front behind names all first rest =
     ap (λ ns. ns ++ behind) first ∙ ap (λ ns. take n xs ++ ns) rest ∙ sym (split n xs ys) ∙ ap (λ ns. take n ns) all
 
-pub placed-push : (names new : Names) (name : List ℕ) → ArePlaced names → place_of names name ≡ None
-    → length names < 4294967295 → new ≡ names ++ name ∷ [] → ArePlaced new
-placed-push names new name placed none few grown =
-    subst ArePlaced (sym grown) (record {
-      distinct = distinct-push names name placed.distinct none;
-      few = omega (arith, few, length-append names (name ∷ []));
-    })
+-- ## First bytes
 
-pub placed-take : (n : ℕ) (names new : Names) → ArePlaced names → new ≡ take n names → ArePlaced new
-placed-take n names new placed less =
-    subst ArePlaced (sym less) (record {
-      distinct = distinct-take n names placed.distinct;
-      few = omega (arith, placed.few, length-take n names);
+-- where no name begins with the byte, the name is none of them
+pub unbegun : (names : Names) (name : List ℕ) (begun : List Bool) (at : ℕ) → AreKept names begun → at ≡ get_or name 0 0
+    → get_or begun at false ≡ false → None ≡ place_of names name
+unbegun names name begun at kept is unseen = by (place_of names name) refl
+  where
+    by : (o : Option ℕ) → place_of names name ≡ o → None ≡ o
+    by None e = refl
+    by (Some k) e =
+        absurd (true≢false (sym (kept.noted name k e) ∙ ap (λ i. get_or begun i false) (sym is) ∙ unseen))
+
+still : (begun : List Bool) (at i : ℕ) → get_or begun i false ≡ true → get_or (set begun at true) i false ≡ true
+still begun at i seen = elim (eqb_tells i at) as (λ _. get_or (set begun at true) i false ≡ true) [
+  | inl w ↦
+      let inside : i < length begun = within begun i seen in
+      ap (λ k. get_or (set begun k true) i false) (sym w.1) ∙ get_or-set_same begun i true false inside
+  | inr w ↦ get_or-set_other begun at i true false w.1 ∙ seen
+]
+  where
+    within : (bs : List Bool) (k : ℕ) → get_or bs k false ≡ true → k < length bs
+    within [] k h = cc
+    within (b ∷ bs) zero h = omega arith
+    within (b ∷ bs) (suc k) h = omega (arith, within bs k h)
+
+-- ## A name more, or fewer
+
+pub kept-push : (names new : Names) (name : List ℕ) (begun : List Bool) (at : ℕ) → AreKept names begun
+    → place_of names name ≡ None → length names < 4294967295 → at ≡ get_or name 0 0 → at < 256
+    → new ≡ names ++ name ∷ [] → AreKept new (set begun at true)
+kept-push names new name begun at kept none few is l grown =
+    subst (λ ns. AreKept ns (set begun at true)) (sym grown) (record {
+      distinct = distinct-push names name kept.distinct none;
+      few = omega (arith, few, length-append names (name ∷ []));
+      each_byte = omega (arith, kept.each_byte, length-set begun at true);
+      noted = λ other k place.
+          by other k (bytes_eq other name) refl (sym (place-push names name other) ∙ place);
     })
+  where
+    by : (other : List ℕ) (k : ℕ) (b : Bool) → bytes_eq other name ≡ b
+        → cond b (Some (length names)) (place_of names other) ≡ Some k
+        → get_or (set begun at true) (get_or other 0 0) false ≡ true
+    by other k true same e =
+        ap (λ i. get_or (set begun at true) i false) (ap (λ n. get_or n 0 0) (same_text other name (sym same)) ∙ sym is)
+        ∙ get_or-set_same begun at true false (omega (arith, kept.each_byte))
+    by other k false differ e = still begun at (get_or other 0 0) (kept.noted other k e)
+
+pub kept-take : (n : ℕ) (names new : Names) (begun : List Bool) → AreKept names begun → new ≡ take n names
+    → AreKept new begun
+kept-take n names new begun kept less =
+    subst (λ ns. AreKept ns begun) (sym less) (record {
+      distinct = distinct-take n names kept.distinct;
+      few = omega (arith, kept.few, length-take n names);
+      each_byte = kept.each_byte;
+      noted = λ name k place.
+          kept.noted name k
+          (sym (ap (λ ns. place_of ns name) all)
+          ∙ place-front (take n names) (drop n names) name k (subst AreDistinct (sym all) kept.distinct) place);
+    })
+  where
+    all : take n names ++ drop n names ≡ names
+    all = take-append-drop n names

@@ -107,10 +107,10 @@ fn add_all(starts: &mut [u8], blocks: &mut [u16], names: &[Name]) -> usize
     let mut over = 0;
     for name in names {
         let start = start_of(name.key(), starts.len());
-        let of_start = starts[start].saturating_add(1);
+        let of_start = starts[start].wrapping_add(1);
         starts[start] = of_start;
         let block = start / BLOCK;
-        let of_block = blocks[block].saturating_add(1);
+        let of_block = blocks[block].wrapping_add(1);
         blocks[block] = of_block;
         if of_start > MOST_OF_START || of_block > MOST_OF_BLOCK {
             over += 1;
@@ -128,10 +128,10 @@ fn remove_all(starts: &mut [u8], blocks: &mut [u16], names: &[Name]) -> usize
     for name in names {
         let start = start_of(name.key(), starts.len());
         let of_start = starts[start];
-        starts[start] = of_start.saturating_sub(1);
+        starts[start] = of_start.wrapping_sub(1);
         let block = start / BLOCK;
         let of_block = blocks[block];
-        blocks[block] = of_block.saturating_sub(1);
+        blocks[block] = of_block.wrapping_sub(1);
         if of_start > MOST_OF_START || of_block > MOST_OF_BLOCK {
             over += 1;
         }

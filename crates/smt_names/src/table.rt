@@ -2,7 +2,7 @@
 //! come from then on are kept by their order, so that names chosen to meet cost no more than others.
 
 ghost use Rattle.std.specs.Prelude.{◌≡◌, ◌<◌, ◌∷◌, ◌++◌, [], length, take, Some, None, OnOk, OnErr, IfOk};
-ghost use Rattle.std.specs.Prelude.{slice_index_or};
+ghost use Rattle.std.specs.Prelude.{slice_index, slice_index_or};
 ghost use Rattle.smt_names.specs.Places.{AreDistinct, place_of};
 
 use crate::crowd::Crowd;
@@ -23,6 +23,8 @@ const MOST: usize = 4_294_967_295;
 pub(crate) struct Table {
     // (the look-ups of an `IndexSet`, which is this map, are not in line)
     names: IndexMap<Name, (), BuildHasherDefault<KeyHasher>>,
+    // Whether there was a name that begins with this byte.
+    begun: [bool; 256],
     crowd: Crowd,
     // The names that came since too many met.
     late: Late,
@@ -31,13 +33,13 @@ pub(crate) struct Table {
 impl Model for Table {
     ghost use Rattle.std.specs.Prelude.{ℕ, List, ◌++◌};
     ghost use Rattle.indexmap.specs.IndexMap.{keys};
-    ghost use Rattle.smt_names.specs.Internal.Order.{ArePlaced};
+    ghost use Rattle.smt_names.specs.Internal.Order.{AreKept};
 
     ghost Value = { List (List ℕ) };
 
     ghost view = { λ t. keys t.names ++ t.late };
 
-    ghost invariant = { λ t. ArePlaced (keys t.names ++ t.late) };
+    ghost invariant = { λ t. AreKept (keys t.names ++ t.late) t.begun };
 }
 
 impl Table {
@@ -47,6 +49,7 @@ impl Table {
     {
         Table {
             names: IndexMap::with_hasher(alloc, BuildHasherDefault::new()),
+            begun: [false; 256],
             crowd: Crowd::new(alloc),
             late: Late::new(alloc),
         }
@@ -61,12 +64,24 @@ impl Table {
     }
 
     /// The place of a name, from 0; `None` where it is none of them.
-    #[inline(never)]
+    #[inline(always)]
     pub(crate) fn find(&self, name: &[u8]) -> Option<u32>
         ensures place { result ≡ place_of self.now name.now }
         ensures distinct { AreDistinct self.now }
     {
-        // (what finds a short name calls nothing, and needs no frame)
+        // Most names that are none of these begin with another byte.
+        if !self.begun[first_of(name)] {
+            return None;
+        }
+        self.find_begun(name)
+    }
+
+    #[inline(never)]
+    fn find_begun(&self, name: &[u8]) -> Option<u32>
+        ensures place { result ≡ place_of self.now name.now }
+        ensures distinct { AreDistinct self.now }
+    {
+        // What finds a short name calls nothing, and needs no frame.
         if name.len() > 8 {
             return self.find_long(name);
         }
@@ -107,13 +122,15 @@ impl Table {
         if place >= MOST {
             return Err(Memory);
         }
-        let name = Name::new(alloc, name)?;
+        let kept = Name::new(alloc, name)?;
         let is_dense = self.crowd.is_dense(self.names.keys().as_slice())?;
         if is_dense || self.late.len() > 0 {
-            self.late.add(alloc, name)?;
+            self.late.add(alloc, kept)?;
+            self.begun[first_of(name)] = true;
             return Ok(place as u32);
         }
-        self.names.insert(name, ())?;
+        self.names.insert(kept, ())?;
+        self.begun[first_of(name)] = true;
         Ok(place as u32)
     }
 
@@ -140,5 +157,17 @@ impl Table {
             self.crowd.forget(self.names.keys().as_slice(), len);
             self.names.truncate(len);
         }
+    }
+}
+
+// The first byte of a name, 0 where it has none.
+#[inline(always)]
+fn first_of(name: &[u8]) -> usize
+    ensures value { result ≡ slice_index name.now 0 }
+    ensures byte { result < 256 }
+{
+    match name.first() {
+        Some(byte) => usize::from(*byte),
+        None => 0,
     }
 }

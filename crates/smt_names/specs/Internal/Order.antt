@@ -1,5 +1,6 @@
 -- The places of names in a map by their order.
-use Rattle.std.specs.Prelude.{◌≡◌, ◌≤◌, ℕ, List, length, Option, Some, bytes_eq}
+use Rattle.std.specs.Prelude.{◌≡◌, ◌≤◌, ℕ, Bool, true, false, List, length, Option, Some, bytes_eq}
+use Rattle.std.specs.Prelude.{slice_index, slice_index_or}
 use Rattle.std.specs.Global.{Vec}
 use Rattle.std.specs.Ordering.{nat_cmp}
 use Rattle.std.specs.Cmp.Lexicographic.{slice_cmp}
@@ -23,10 +24,13 @@ pub record IsIndexed (names : List (List ℕ)) (map : PlaceMap) : Type 0 where
   pub distinct : AreDistinct names
   pub places : HasPlaces names map
 
--- no name stands twice, and each place has 32 bits
-pub record ArePlaced (names : List (List ℕ)) : Type 0 where
+-- no name stands twice, each place has 32 bits, and of each name it is noted that one begins with its first byte
+pub record AreKept (names : List (List ℕ)) (begun : List Bool) : Type 0 where
   pub distinct : AreDistinct names
   pub few : length names ≤ 4294967295
+  pub each_byte : length begun ≡ 256
+  pub noted : (name : List ℕ) (place : ℕ) → place_of names name ≡ Some place
+      → slice_index_or begun (slice_index name 0) false ≡ true
 
 -- the second map has this place of the name, and those that the first has of others
 abbrev pub HasPlace : List ℕ → ℕ → (old new : PlaceMap) → Type 0

@@ -2,7 +2,7 @@ use Rattle.std.proofs.Common.{◌≡◌, ◌++◌, ◌-◌, length, take, ap, sy
 use Rattle.std.proofs.lemmas.List.{length-map, take-map, take_all}
 use Rattle.std.specs.Map.{keys_of}
 use Rattle.indexmap.specs.IndexMap.{keys}
-use Rattle.smt_names.proofs.TableLemmas.{cut_both, placed-take}
+use Rattle.smt_names.proofs.TableLemmas.{cut_both, kept-take}
 use Rattle.smt_names.proofs.table.Table.cut.Goals as goal
 
 pub returns-then-len : goal.returns-then-len
@@ -15,8 +15,8 @@ returns-then-len c =
 
 pub invariant_of-self : goal.invariant_of-self
 invariant_of-self c =
-    placed-take c.args.len (keys c.self.inside.names ++ c.self.inside.late)
-    (keys c.truncate.new.self ++ c.cut.new.self) c.self.invariant
+    kept-take c.args.len (keys c.self.inside.names ++ c.self.inside.late)
+    (keys c.truncate.new.self ++ c.cut.new.self) c.self.inside.begun c.self.invariant
     (returns-then-len c ∙ ap (λ ns. take c.args.len ns) (sym c.self.view_is))
 
 pub returns-else-len : goal.returns-else-len
@@ -29,5 +29,5 @@ returns-else-len c =
 
 pub invariant_of-self-else-len : goal.invariant_of-self-else-len
 invariant_of-self-else-len c =
-    placed-take c.args.len (keys c.self.inside.names ++ c.self.inside.late) (keys c.self.inside.names ++ c.cut.new.self)
-    c.self.invariant (returns-else-len c ∙ ap (λ ns. take c.args.len ns) (sym c.self.view_is))
+    kept-take c.args.len (keys c.self.inside.names ++ c.self.inside.late) (keys c.self.inside.names ++ c.cut.new.self)
+    c.self.inside.begun c.self.invariant (returns-else-len c ∙ ap (λ ns. take c.args.len ns) (sym c.self.view_is))
