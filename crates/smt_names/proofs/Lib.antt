@@ -1,5 +1,5 @@
 pub mod KeyLemmas
 pub mod PlaceLemmas
-pub mod TableLemmas
 pub mod OrderLemmas
+pub mod TableLemmas
 pub mod EntryLemmas

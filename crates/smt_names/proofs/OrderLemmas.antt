@@ -10,9 +10,9 @@ use Rattle.std.specs.Map.{KeepsOthers, update}
 use Rattle.std.specs.Ordering.{is_eq, nat_cmp}
 use Rattle.std.specs.Prelude.{bytes_eq, Result, Ok, Err, OnOk}
 use Rattle.std.specs.Result.{is_err}
-use Rattle.smt_names.specs.Places.{AreDistinct, place_of}
-use Rattle.smt_names.specs.Internal.Order.{HasPlace, HasPlaces, IsIndexed, PlaceMap, place_in}
-use Rattle.smt_names.proofs.PlaceLemmas.{distinct-pop, distinct-push, last_alone, place-push}
+use Rattle.smt_names.specs.Places.{place_of}
+use Rattle.smt_names.specs.Internal.Order.{HasPlace, HasPlaces, PlaceMap, place_in}
+use Rattle.smt_names.proofs.PlaceLemmas.{place-push}
 
 -- a key that is one name is no other
 apart : (name other key : List ℕ) → bytes_eq name other ≡ false → is_eq (slice_cmp nat_cmp name key) ≡ true
@@ -40,7 +40,7 @@ pub places-none : (map : PlaceMap) → map.entries ≡ [] → HasPlaces [] map
 places-none map none name = grind (arith, none)
 
 -- one more
-places-push : (names : List (List ℕ)) (name : List ℕ) (place : ℕ) (old new : PlaceMap)
+pub places-push : (names : List (List ℕ)) (name : List ℕ) (place : ℕ) (old new : PlaceMap)
     → place ≡ length names → HasPlaces names old → HasPlace name place old new
     → HasPlaces (names ++ name ∷ []) new
 places-push names name place old new at has noted other =
@@ -50,8 +50,17 @@ places-push names name place old new at has noted other =
     ∙ ap (λ k. cond (bytes_eq other name) (Some k) (place_of names other)) at
     ∙ sym (place-push names name other)
 
+-- the first names, and the next
+pub places-next : (names : List (List ℕ)) (k place : ℕ) (name : List ℕ) (old new : PlaceMap) → k < length names
+    → place ≡ k → name ≡ get_or names k [] → HasPlaces (take k names) old → HasPlace name place old new
+    → HasPlaces (take (k + 1) names) new
+places-next names k place name old new l at is has noted =
+    subst (λ ns. HasPlaces ns new)
+    (ap (λ x. take k names ++ x ∷ []) is ∙ sym (take_more names k [] l))
+    (places-push (take k names) name place old new (omega (arith, length-take k names)) has noted)
+
 -- the last goes
-places-pop : (names : List (List ℕ)) (name : List ℕ) (old new : PlaceMap) → place_of names name ≡ None
+pub places-pop : (names : List (List ℕ)) (name : List ℕ) (old new : PlaceMap) → place_of names name ≡ None
     → HasPlaces (names ++ name ∷ []) old
     → ((other : List ℕ) → place_in new other ≡ update bytes_eq (place_in old) name None other)
     → HasPlaces names new
@@ -62,29 +71,3 @@ places-pop names name old new none has gone other = gone other ∙ by (bytes_eq 
     by false differ =
         has other ∙ place-push names name other
         ∙ ap (λ b. cond b (Some (length names)) (place_of names other)) (nat_list_eq_equiv.symm other name ∙ differ)
-
-pub index-push : (names new : List (List ℕ)) (name key : List ℕ) (place : ℕ) (old map : PlaceMap) → IsIndexed names old
-    → place_of names name ≡ None → place ≡ length names → key ≡ name → HasPlace key place old map
-    → new ≡ names ++ name ∷ [] → IsIndexed new map
-index-push names new name key place old map is none at same noted grown =
-    subst (λ ns. IsIndexed ns map) (sym grown) (record {
-      distinct = distinct-push names name is.distinct none;
-      places =
-          places-push names name place old map at is.places (subst (λ n. HasPlace n place old map) same noted);
-    })
-
-pub index-pop : (names rest : List (List ℕ)) (name key : List ℕ) (old map : PlaceMap) → IsIndexed names old
-    → names ≡ rest ++ name ∷ [] → key ≡ name
-    → UpdatesBy (λ x y. slice_cmp nat_cmp x.items y.items) (λ k. slice_cmp nat_cmp key k.items) old map None
-    → IsIndexed rest map
-index-pop names rest name key old map is ends same updates =
-    let distinct = subst AreDistinct ends is.distinct in
-    let gone : (other : List ℕ) → place_in map other ≡ update bytes_eq (place_in old) name None other =
-    subst (λ n. (other : List ℕ) → place_in map other ≡ update bytes_eq (place_in old) n None other) same
-    (changed old map key None updates) in
-    record {
-      distinct = distinct-pop rest name distinct;
-      places =
-          places-pop rest name old map (last_alone rest name distinct)
-          (subst (λ ns. HasPlaces ns old) ends is.places) gone;
-    }

@@ -164,7 +164,7 @@ none_in_front xs ys name none =
     by None r h = h
     by (Some k) r h = cc
 
-pub none_behind : (xs ys : Names) (name : List ℕ) → place_of (xs ++ ys) name ≡ None → place_of ys name ≡ None
+none_behind : (xs ys : Names) (name : List ℕ) → place_of (xs ++ ys) name ≡ None → place_of ys name ≡ None
 none_behind xs ys name none =
     by (place_of ys name) (sym (place-behind xs ys name (none_in_front xs ys name none)) ∙ none)
   where
@@ -234,24 +234,8 @@ position-place xs name distinct =
         let l : length xs ≤ m = ltb-false m (length xs) is in
         sym (absent_everywhere 0 xs name (λ k h. fails_before_first (λ x. bytes_eq name x) xs k [] (omega (arith, h, l))))
 
--- what a search of the first names says of all
-pub found_in_front : (xs ys names : Names) (sought name : List ℕ) (k : ℕ) → AreDistinct (xs ++ ys)
-    → xs ++ ys ≡ names → sought ≡ name → position (λ x. bytes_eq sought x) xs ≡ Some k
-    → Some k ≡ place_of names name
-found_in_front xs ys names sought name k distinct all same is =
-    sym (place-front xs ys sought k distinct (sym (position-place xs sought (distinct-front xs ys distinct)) ∙ is))
-    ∙ ap (λ ns. place_of ns sought) all ∙ ap (λ n. place_of names n) same
-
-pub missed_in_front : (xs ys names : Names) (sought name : List ℕ) → AreDistinct (xs ++ ys)
-    → xs ++ ys ≡ names → sought ≡ name → position (λ x. bytes_eq sought x) xs ≡ None
-    → option_map (λ k. length xs + k) (place_of ys name) ≡ place_of names name
-missed_in_front xs ys names sought name distinct all same is =
-    let none : place_of xs name ≡ None =
-    sym (ap (λ n. place_of xs n) same) ∙ sym (position-place xs sought (distinct-front xs ys distinct)) ∙ is in
-    sym (place-behind xs ys name none) ∙ ap (λ ns. place_of ns name) all
-
 -- a new name goes behind the names of a map
-pub keys-insert : {V : Type 0} (es : List (List ℕ × V)) (name : List ℕ) (v : V)
+keys-insert : {V : Type 0} (es : List (List ℕ × V)) (name : List ℕ) (v : V)
     → place_of (keys_of es) name ≡ None → keys_of (insert_entry bytes_eq es name v) ≡ keys_of es ++ name ∷ []
 keys-insert es name v none = from 0 es name v none
   where
@@ -263,6 +247,13 @@ keys-insert es name v none = from 0 es name v none
         let apart = none_of (place_from (suc at) (keys_of es) name) (bytes_eq name e.0) at none in
         ap (λ b. keys_of (cond b ((e.0, v) ∷ es) (e ∷ insert_entry bytes_eq es name v))) apart.1
         ∙ ap (λ ns. e.0 ∷ ns) (from (suc at) es name v apart.0)
+
+pub inserted : {V : Type 0} (es fs : List (List ℕ × V)) (late : Names) (kept name : List ℕ) (v : V)
+    → fs ≡ insert_entry bytes_eq es kept v → kept ≡ name → place_of (keys_of es ++ late) name ≡ None
+    → keys_of fs ≡ keys_of es ++ name ∷ []
+inserted es fs late kept name v more same new =
+    ap keys_of more ∙ ap (λ n. keys_of (insert_entry bytes_eq es n v)) same
+    ∙ keys-insert es name v (none_in_front (keys_of es) late name new)
 
 -- ## Distinct names
 

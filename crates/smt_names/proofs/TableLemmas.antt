@@ -7,10 +7,12 @@ use Rattle.std.proofs.lemmas.List.{get_or-set_same, get_or-set_other, length-set
 use Rattle.std.proofs.lemmas.Bool.{true≢false}
 use Rattle.std.proofs.lemmas.Bool.Decides.{eqb_tells}
 use Rattle.std.specs.Cmp.Lexicographic.{same_text}
-use Rattle.std.specs.Prelude.{bytes_eq}
+use Rattle.std.specs.Prelude.{bytes_eq, is_some, IfNone}
+use Rattle.std.proofs.Math.Seq.{take-append_seam}
 use Rattle.smt_names.specs.Places.{AreDistinct, place_of}
-use Rattle.smt_names.specs.Internal.Order.{AreKept}
-use Rattle.smt_names.proofs.PlaceLemmas.{distinct-push, distinct-take, place-front, place-push}
+use Rattle.smt_names.specs.Internal.Order.{AreKept, HasPlace, HasPlaces, HasPlacesIfAny, IsTable, PlaceMap}
+use Rattle.smt_names.proofs.OrderLemmas.{places-push}
+use Rattle.smt_names.proofs.PlaceLemmas.{distinct-push, distinct-take, last_alone, place-front, place-push}
 
 abbrev Names : Type 0
 Names = List (List ℕ)
@@ -104,3 +106,91 @@ kept-take n names new begun kept less =
   where
     all : take n names ++ drop n names ≡ names
     all = take-append-drop n names
+
+-- ## The table
+
+take_none : (n : ℕ) → take {A = List ℕ} n [] ≡ []
+take_none zero = refl
+take_none (suc n) = refl
+
+pub names_front : (names rest : Names) (name : List ℕ) → names ≡ rest ++ name ∷ [] → rest ≡ take (length names - 1) names
+names_front names rest name is =
+    let long : length names ≡ suc (length rest) = ap length is ∙ length-append rest (name ∷ []) ∙ omega arith in
+    let size : length names - 1 ≡ length rest = omega arith in
+    sym (ap (λ i. take i names) size ∙ ap (λ ms. take (length rest) ms) is ∙ take-append_seam rest (name ∷ []))
+
+pub no_map : (map : Option PlaceMap) → is_some map ≡ false → map ≡ None
+no_map None h = refl
+no_map (Some m) h = cc
+
+-- where there is no map, what then holds
+pub without : {P : Type 0} (map : Option PlaceMap) → IfNone map P → map ≡ None → P
+without None h e = h
+without (Some m) h e = cc
+
+pub if_none : {P : Type 0} (map : Option PlaceMap) → (map ≡ None → P) → IfNone map P
+if_none None h = h refl
+if_none (Some m) h = tt
+
+-- with no map, the first names
+pub cut_front : (n : ℕ) (names late front : Names) (begun : List Bool) (map : Option PlaceMap)
+    → IsTable names late begun map → map ≡ None → front ≡ take n names → front ++ late ≡ take n (names ++ late)
+cut_front n names late front begun map is none first =
+    let no_late = without map is.late_none none in
+    cut_both n names late front late (names ++ late) refl first
+    (no_late ∙ sym (take_none (n - length names)) ∙ ap (λ ns. take (n - length names) ns) (sym no_late))
+
+pub table-take : (n : ℕ) (names late front : Names) (begun : List Bool) (map : Option PlaceMap)
+    → IsTable names late begun map → map ≡ None → front ≡ take n names → IsTable front late begun map
+table-take n names late front begun map is none first =
+    record {
+      kept =
+          kept-take n (names ++ late) (front ++ late) begun is.kept (cut_front n names late front begun map is none first);
+      placed = subst (λ m. HasPlacesIfAny (front ++ late) m) (sym none) tt;
+      late_none = is.late_none;
+    }
+
+-- the last goes
+pub table-pop : (names late front rest : Names) (name : List ℕ) (begun : List Bool) (old map : Option PlaceMap)
+    → IsTable names late begun old → names ++ late ≡ (front ++ rest) ++ name ∷ [] → (late ≡ [] → rest ≡ [])
+    → ((ns : Names) → place_of ns name ≡ None → HasPlacesIfAny (ns ++ name ∷ []) old → HasPlacesIfAny ns map)
+    → (map ≡ None → old ≡ None) → IsTable front rest begun map
+table-pop names late front rest name begun old map is ends none forgets stays =
+    let less = names_front (names ++ late) (front ++ rest) name ends in
+    let distinct = subst AreDistinct ends is.kept.distinct in
+    record {
+      kept = kept-take (length (names ++ late) - 1) (names ++ late) (front ++ rest) begun is.kept less;
+      placed =
+          forgets (front ++ rest) (last_alone (front ++ rest) name distinct)
+          (subst (λ ns. HasPlacesIfAny ns old) ends is.placed);
+      late_none = if_none map (λ e. none (without old is.late_none (stays e)));
+    }
+
+-- a new name in the library's map
+pub table-insert : (names late more : Names) (name : List ℕ) (begun : List Bool) (at : ℕ) (map : Option PlaceMap)
+    → IsTable names late begun map → map ≡ None → more ≡ names ++ name ∷ [] → place_of (names ++ late) name ≡ None
+    → length (names ++ late) < 4294967295 → at ≡ get_or name 0 0 → at < 256 → IsTable more late (set begun at true) map
+table-insert names late more name begun at map is none grown new few first byte =
+    let no_late = without map is.late_none none in
+    record {
+      kept =
+          kept-push (names ++ late) (more ++ late) name begun at is.kept new few first byte
+          (grown_in_front names more late name no_late grown);
+      placed = subst (λ m. HasPlacesIfAny (more ++ late) m) (sym none) tt;
+      late_none = if_none map (λ _. no_late);
+    }
+
+-- a late name
+pub table-push : (names late more : Names) (name : List ℕ) (begun : List Bool) (at place : ℕ) (old map : PlaceMap)
+    → IsTable names late begun (Some old) → more ≡ late ++ name ∷ [] → place_of (names ++ late) name ≡ None
+    → length (names ++ late) < 4294967295 → at ≡ get_or name 0 0 → at < 256 → place ≡ length (names ++ late)
+    → HasPlace name place old map → IsTable names more (set begun at true) (Some map)
+table-push names late more name begun at place old map is grown new few first byte next noted = record {
+  kept =
+      kept-push (names ++ late) (names ++ more) name begun at is.kept new few first byte
+      (grown_behind names late more name grown);
+  placed =
+      subst (λ ns. HasPlaces ns map) (sym (grown_behind names late more name grown))
+      (places-push (names ++ late) name place old map next is.placed noted);
+  late_none = tt;
+}

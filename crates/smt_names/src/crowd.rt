@@ -1,7 +1,7 @@
-//! How many names start at one place of the library's table, and how many near it, by the bits of the hash that
-//! the library uses. This file keeps no name.
+//! How many names lie close together in the library's table, by the bits of the hash that the library uses. This
+//! file keeps no name.
 
-ghost use Rattle.std.specs.Prelude.{◌≡◌, ◌<◌, ◌≤◌, ◌*◌, length, OnOk};
+ghost use Rattle.std.specs.Prelude.{◌≡◌, ◌<◌, ◌≤◌, length};
 
 use crate::hasher::hash_of;
 use crate::name::Name;
@@ -11,48 +11,42 @@ use std::alloc::Global;
 // So many new names are counted together.
 const AT_ONCE: usize = 64;
 
-// The library's table has at least one group for so many names.
-const GROUP_LOAD: usize = 9;
+// Groups that are counted together. The library's search goes from a full group to the next.
+const BLOCK: u64 = 32;
 
-// The least number of groups that are counted. The library's table may have fewer.
-const FIRST: usize = 16;
+// The library's table has at least one block for so many names.
+const LOAD: usize = 288;
 
-// The most names that start at one group. By chance, at nine a group, one group in 10^13 has more.
-const MOST_OF_START: u8 = 40;
+// The most names that one block has room for. By chance one block in 10^7 gets more.
+const MOST: u16 = 384;
 
-// The number of groups of a block. A full group's names go to the next ones, so that neighbours count too.
-const BLOCK: usize = 64;
-
-// The most names that start in one block, which has room for so many. By chance one block in 10^13 has more.
-const MOST_OF_BLOCK: u16 = 768;
-
-/// The counts of the names so far, but for the last few.
+/// For each block of groups, how many names begin there, of the names so far but for the last few.
 #[derive(Drop)]
 pub(crate) struct Crowd {
-    starts: Vec<u8>,
     blocks: Vec<u16>,
+    // How many names there are when they are counted next.
+    next: usize,
     // The number of names that are counted.
     counted: usize,
-    // How many of them came to a start or to a block that had the most already.
+    // How many of them came to a block that was full.
     over: usize,
-    ghost sized: { length starts.items ≤ 64 * length blocks.items },
 }
 
 impl Crowd {
     pub(crate) fn new(alloc: Global) -> Self {
         Crowd {
-            starts: Vec::new(alloc),
             blocks: Vec::new(alloc),
+            next: LOAD,
             counted: 0,
             over: 0,
         }
     }
 
-    /// Whether more of these names start together than by chance. They are those of the last call, less those
-    /// that were forgotten since, and some new ones.
+    /// Whether more of these names lie close together than by chance. They are those of the last call, less
+    /// those that were forgotten since, and some new ones.
     #[inline(always)]
     pub(crate) fn is_dense(&mut self, names: &[Name]) -> Result<bool, Memory> {
-        if names.len().saturating_sub(self.counted) >= AT_ONCE {
+        if names.len() >= self.next {
             self.count(names)?;
         }
         Ok(self.over > 0)
@@ -60,26 +54,25 @@ impl Crowd {
 
     #[inline(never)]
     fn count(&mut self, names: &[Name]) -> Result<(), Memory> {
-        if names.len() / GROUP_LOAD >= self.starts.len() {
+        if names.len() / LOAD >= self.blocks.len() {
             self.begin_anew()?;
         }
-        let starts = self.starts.as_mut_slice();
+        let blocks = self.blocks.as_mut_slice();
         if let Some(new) = names.get(self.counted..)
-            && !starts.is_empty()
+            && !blocks.is_empty()
         {
-            let over = add_all(starts, self.blocks.as_mut_slice(), new);
+            let over = add_all(blocks, new);
             self.over = self.over.saturating_add(over);
             self.counted = names.len();
+            self.next = names.len().saturating_add(AT_ONCE);
         }
         Ok(())
     }
 
     // Counts none of the names, of which there may be twice as many.
     fn begin_anew(&mut self) -> Result<(), Memory> {
-        let size = self.starts.len().saturating_mul(2).max(FIRST);
-        self.blocks.resize(size / BLOCK + 1, 0)?;
-        self.starts.resize(size, 0)?;
-        self.starts.as_mut_slice().fill(0);
+        let size = self.blocks.len().saturating_mul(2).max(2);
+        self.blocks.resize(size, 0)?;
         self.blocks.as_mut_slice().fill(0);
         self.counted = 0;
         self.over = 0;
@@ -88,63 +81,52 @@ impl Crowd {
 
     /// Takes back the counts of the names from a place on.
     pub(crate) fn forget(&mut self, names: &[Name], len: usize) {
-        let starts = self.starts.as_mut_slice();
+        let blocks = self.blocks.as_mut_slice();
         if let Some(gone) = names.get(len..self.counted)
-            && !starts.is_empty()
+            && !blocks.is_empty()
         {
-            let over = remove_all(starts, self.blocks.as_mut_slice(), gone);
+            let over = remove_all(blocks, gone);
             self.over = self.over.saturating_sub(over);
             self.counted = len;
+            self.next = len.saturating_add(AT_ONCE);
         }
     }
 }
 
-// Counts names, and returns how many of them came to where there were the most already.
-fn add_all(starts: &mut [u8], blocks: &mut [u16], names: &[Name]) -> usize
-    requires some { 0 < length starts.old }
-    requires sized { length starts.old ≤ 64 * length blocks.old }
+// Counts names, and returns how many of them came to a full block. (Few come to one, so no count wraps.)
+fn add_all(blocks: &mut [u16], names: &[Name]) -> usize
+    requires { 0 < length blocks.old }
 {
     let mut over = 0;
     for name in names {
-        let start = start_of(name.key(), starts.len());
-        let of_start = starts[start].wrapping_add(1);
-        starts[start] = of_start;
-        let block = start / BLOCK;
-        let of_block = blocks[block].wrapping_add(1);
-        blocks[block] = of_block;
-        if of_start > MOST_OF_START || of_block > MOST_OF_BLOCK {
-            over += 1;
-        }
+        let block = block_of(name.key(), blocks.len());
+        let count = blocks[block].wrapping_add(1);
+        blocks[block] = count;
+        over += usize::from(count > MOST);
     }
     over
 }
 
-// Takes back the counts of names, and returns how many of them were where there were more than the most.
-fn remove_all(starts: &mut [u8], blocks: &mut [u16], names: &[Name]) -> usize
-    requires some { 0 < length starts.old }
-    requires sized { length starts.old ≤ 64 * length blocks.old }
+// Takes back the counts of names, and returns how many of them were in a block that was more than full.
+fn remove_all(blocks: &mut [u16], names: &[Name]) -> usize
+    requires { 0 < length blocks.old }
 {
     let mut over = 0;
     for name in names {
-        let start = start_of(name.key(), starts.len());
-        let of_start = starts[start];
-        starts[start] = of_start.wrapping_sub(1);
-        let block = start / BLOCK;
-        let of_block = blocks[block];
-        blocks[block] = of_block.wrapping_sub(1);
-        if of_start > MOST_OF_START || of_block > MOST_OF_BLOCK {
-            over += 1;
-        }
+        let block = block_of(name.key(), blocks.len());
+        let count = blocks[block];
+        blocks[block] = count.wrapping_sub(1);
+        over += usize::from(count > MOST);
     }
     over
 }
 
-// The group where the library's search for a name begins, of so many groups.
+// The block where the library's search for a name begins, of so many blocks.
 #[inline(always)]
-fn start_of(key: u64, size: usize) -> usize
+fn block_of(key: u64, size: usize) -> usize
     requires { 0 < size }
     ensures { result < size }
 {
     let hash = hash_of(key);
-    ((hash ^ (hash >> 32)) & (size as u64 - 1)) as usize
+    ((hash ^ (hash >> 32)) / BLOCK & (size as u64 - 1)) as usize
 }

@@ -19,11 +19,11 @@
 mod crowd;
 mod hasher;
 mod keys;
-mod late;
 pub mod laws;
 mod map;
 mod name;
 mod names;
+mod order;
 mod table;
 
 pub use map::NameMap;

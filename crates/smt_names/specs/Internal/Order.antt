@@ -1,5 +1,6 @@
 -- The places of names in a map by their order.
-use Rattle.std.specs.Prelude.{◌≡◌, ◌≤◌, ℕ, Bool, true, false, List, length, Option, Some, bytes_eq}
+use Rattle.std.specs.Prelude.{◌≡◌, ◌≤◌, ℕ, Bool, true, false, List, length, Option, None, Some, bytes_eq}
+use Rattle.std.specs.Prelude.{[], ◌++◌, IfNone}
 use Rattle.std.specs.Prelude.{slice_index, slice_index_or}
 use Rattle.std.specs.Global.{Vec}
 use Rattle.std.specs.Ordering.{nat_cmp}
@@ -19,10 +20,9 @@ place_in map name = get_by (λ k. slice_cmp nat_cmp name k.items) map
 abbrev pub HasPlaces : List (List ℕ) → PlaceMap → Type 0
 HasPlaces names map = (name : List ℕ) → place_in map name ≡ place_of names name
 
--- no name stands twice, and a map has their places
-pub record IsIndexed (names : List (List ℕ)) (map : PlaceMap) : Type 0 where
-  pub distinct : AreDistinct names
-  pub places : HasPlaces names map
+abbrev pub HasPlacesIfAny : List (List ℕ) → Option PlaceMap → Type 0
+HasPlacesIfAny names None = Unit {0}
+HasPlacesIfAny names (Some map) = HasPlaces names map
 
 -- no name stands twice, each place has 32 bits, and of each name it is noted that one begins with its first byte
 pub record AreKept (names : List (List ℕ)) (begun : List Bool) : Type 0 where
@@ -31,6 +31,12 @@ pub record AreKept (names : List (List ℕ)) (begun : List Bool) : Type 0 where
   pub each_byte : length begun ≡ 256
   pub noted : (name : List ℕ) (place : ℕ) → place_of names name ≡ Some place
       → slice_index_or begun (slice_index name 0) false ≡ true
+
+-- these names are kept, a map, if there is one, has the places of all, and without a map none is late
+pub record IsTable (names late : List (List ℕ)) (begun : List Bool) (places : Option PlaceMap) : Type 0 where
+  pub kept : AreKept (names ++ late) begun
+  pub placed : HasPlacesIfAny (names ++ late) places
+  pub late_none : IfNone places (late ≡ [])
 
 -- the second map has this place of the name, and those that the first has of others
 abbrev pub HasPlace : List ℕ → ℕ → (old new : PlaceMap) → Type 0

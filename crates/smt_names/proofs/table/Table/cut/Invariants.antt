@@ -1,5 +1,5 @@
 use Rattle.std.proofs.Common.{◌≡◌, length, take}
-use Rattle.smt_names.proofs.late.Late.cut.Given as goal
+use Rattle.smt_names.proofs.table.Table.cut.Given as goal
 
 abbrev pub invariant-loop-self : goal.invariant-loop-self
 invariant-loop-self l = take l.len l.self ≡ take l.len l.fn.self

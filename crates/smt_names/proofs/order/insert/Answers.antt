@@ -3,7 +3,7 @@ use Rattle.std.specs.Map.{update}
 use Rattle.std.specs.Prelude.{bytes_eq}
 use Rattle.smt_names.specs.Internal.Order.{place_in}
 use Rattle.smt_names.proofs.OrderLemmas.{changed}
-use Rattle.smt_names.proofs.late.insert.Goals as goal
+use Rattle.smt_names.proofs.order.insert.Goals as goal
 
 pub returns-clause-noted : goal.returns-clause-noted
 returns-clause-noted c other =
