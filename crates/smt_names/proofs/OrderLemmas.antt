@@ -8,8 +8,7 @@ use Rattle.std.specs.BTreeMap.{UpdatesBy}
 use Rattle.std.specs.Cmp.Lexicographic.{same_text, slice_cmp}
 use Rattle.std.specs.Map.{KeepsOthers, update}
 use Rattle.std.specs.Ordering.{is_eq, nat_cmp}
-use Rattle.std.specs.Prelude.{bytes_eq, Result, Ok, Err, OnOk}
-use Rattle.std.specs.Result.{is_err}
+use Rattle.std.specs.Prelude.{bytes_eq}
 use Rattle.smt_names.specs.Places.{place_of}
 use Rattle.smt_names.specs.Internal.Order.{HasPlace, HasPlaces, PlaceMap, place_in}
 use Rattle.smt_names.proofs.PlaceLemmas.{place-push}

@@ -1,5 +1,5 @@
 -- Places in lists of names, one name more and fewer.
-use Rattle.std.proofs.Common.{◌≡◌, ℕ, zero, suc, ◌+◌, ◌-◌, ◌<◌, ◌≤◌, Bool, true, false, cond, List, [], ◌∷◌}
+use Rattle.std.proofs.Common.{◌≡◌, ℕ, zero, suc, ◌+◌, ◌<◌, ◌≤◌, Bool, true, false, cond, List, [], ◌∷◌}
 use Rattle.std.proofs.Common.{length, take, drop, slice_get, nat_lt, position, get_or, refl, ap, sym, subst, ◌∙◌, arith, ◌++◌, Option, Some, None}
 use Rattle.std.proofs.Common.{add-zero, zero-add, inl, inr, Result, Ok, Err, OnOk, IfOk}
 use Rattle.std.proofs.lemmas.List.{take_all, take-append-drop, length-take, length-append, get_or_append_left}
@@ -12,7 +12,7 @@ use Rattle.std.proofs.lemmas.Cmp.{nat_list_eq_equiv}
 use Rattle.std.specs.Cmp.Lexicographic.{same_text}
 use Rattle.std.specs.List.{position_or_len}
 use Rattle.std.specs.Map.{keys_of}
-use Rattle.std.specs.Option.{option_or, option_map}
+use Rattle.std.specs.Option.{option_or}
 use Rattle.indexmap.specs.IndexMap.{insert_entry}
 use Rattle.std.specs.Prelude.{bytes_eq, if◌then◌else◌}
 use Rattle.smt_names.specs.Places.{AreDistinct, place_from, place_of}
@@ -125,37 +125,7 @@ place_at names name k distinct at =
 
 -- ## One list of names behind another
 
--- where the first answer is none, the second
-second : (o r : Option ℕ) → o ≡ None → option_or o r ≡ r
-second None r is = refl
-second (Some k) r is = cc
-
-shifted : (n at : ℕ) (ys : Names) (name : List ℕ)
-    → place_from (n + at) ys name ≡ option_map (λ k. n + k) (place_from at ys name)
-shifted n at [] name = refl
-shifted n at (y ∷ ys) name =
-    let next : suc (n + at) ≡ n + suc at = omega arith in
-    ap (λ m. option_or (place_from m ys name) (cond (bytes_eq name y) (Some (n + at)) None)) next
-    ∙ ap (λ o. option_or o (cond (bytes_eq name y) (Some (n + at)) None)) (shifted n (suc at) ys name)
-    ∙ by (place_from (suc at) ys name) (bytes_eq name y)
-  where
-    by : (o : Option ℕ) (b : Bool) → option_or (option_map (λ k. n + k) o) (cond b (Some (n + at)) None)
-        ≡ option_map (λ k. n + k) (option_or o (cond b (Some at) None))
-    by (Some k) b = refl
-    by None true = refl
-    by None false = refl
-
--- a name that is none of the first ones has its place among the others
-pub place-behind : (xs ys : Names) (name : List ℕ) → place_of xs name ≡ None
-    → place_of (xs ++ ys) name ≡ option_map (λ k. length xs + k) (place_of ys name)
-place-behind xs ys name none =
-    place-append 0 xs ys name
-    ∙ ap (λ o. option_or (place_from (0 + length xs) ys name) o) none
-    ∙ or_none (place_from (0 + length xs) ys name)
-    ∙ ap (λ n. place_from n ys name) (let same : 0 + length xs ≡ length xs + 0 = omega arith in same)
-    ∙ shifted (length xs) 0 ys name
-
--- what is none of all is none of the first ones, and none of the others
+-- what is none of all is none of the first ones
 pub none_in_front : (xs ys : Names) (name : List ℕ) → place_of (xs ++ ys) name ≡ None → place_of xs name ≡ None
 none_in_front xs ys name none =
     by (place_from (0 + length xs) ys name) (place_of xs name) (sym (place-append 0 xs ys name) ∙ none)
@@ -163,14 +133,6 @@ none_in_front xs ys name none =
     by : (o r : Option ℕ) → option_or o r ≡ None → r ≡ None
     by None r h = h
     by (Some k) r h = cc
-
-none_behind : (xs ys : Names) (name : List ℕ) → place_of (xs ++ ys) name ≡ None → place_of ys name ≡ None
-none_behind xs ys name none =
-    by (place_of ys name) (sym (place-behind xs ys name (none_in_front xs ys name none)) ∙ none)
-  where
-    by : (o : Option ℕ) → option_map (λ k. length xs + k) o ≡ None → o ≡ None
-    by None h = refl
-    by (Some k) h = cc
 
 -- the first of distinct names are distinct
 pub distinct-front : (xs ys : Names) → AreDistinct (xs ++ ys) → AreDistinct xs
@@ -202,9 +164,6 @@ place-front xs ys name k distinct is =
     ap (λ x. place_of (xs ++ ys) x)
     (sym (get_or_from_slice_get xs k name [] at) ∙ sym (get_or_append_left xs ys [] k inside))
     ∙ distinct k longer
-
-pub place-within : (xs : Names) (name : List ℕ) (k : ℕ) → place_of xs name ≡ Some k → k < length xs
-place-within xs name k is = slice_get_within xs k name (stands_at xs name k is)
 
 -- ## The library's words
 
@@ -312,19 +271,6 @@ distinct-push names name before none k l =
         absurd (none-some k (sym none ∙ ap (λ x. place_of names x)
         (sym (same_text (get_or names k []) name (sym e))) ∙ own))
     by k own false e = own
-
-pub distinct-pop : (names : Names) (name : List ℕ) → AreDistinct (names ++ name ∷ []) → AreDistinct names
-distinct-pop names name before k l =
-    let longer : k < length (names ++ name ∷ []) = omega (arith, length-append names (name ∷ [])) in
-    by (bytes_eq (get_or names k []) name)
-    (sym (place-push names name (get_or names k []))
-    ∙ ap (λ x. place_of (names ++ name ∷ []) x) (sym (get_or_append_left names (name ∷ []) [] k l))
-    ∙ before k longer)
-  where
-    by : (t : Bool) → cond t (Some (length names)) (place_of names (get_or names k [])) ≡ Some k
-        → place_of names (get_or names k []) ≡ Some k
-    by true e = let same : length names ≡ k = cc in absurd (omega arith)
-    by false e = e
 
 pub placed : {E : Type 0} (r : Result ℕ E) (old new : Names) (name : List ℕ) → None ≡ place_of old name
     → OnOk r (new ≡ old ++ name ∷ []) → IfOk r (λ i. i ≡ length old) → IfOk r (λ i. place_of new name ≡ Some i)

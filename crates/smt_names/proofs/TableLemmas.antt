@@ -1,10 +1,9 @@
 -- The names of a table, which are those of the library's map and the late ones.
-use Rattle.std.proofs.Common.{◌≡◌, ℕ, zero, suc, ◌-◌, ◌<◌, ◌≤◌, List, [], ◌∷◌, ◌++◌, length, take, drop, get_or, set}
+use Rattle.std.proofs.Common.{◌≡◌, ℕ, zero, suc, ◌-◌, ◌<◌, List, [], ◌∷◌, ◌++◌, length, take, drop, get_or, set}
 use Rattle.std.proofs.Common.{Bool, true, false, cond, Option, None, Some, inl, inr}
 use Rattle.std.proofs.Common.{refl, ap, sym, ◌∙◌, subst, arith}
 use Rattle.std.proofs.lemmas.List.{append-nil, append_assoc, length-append, length-take, take-append-drop}
 use Rattle.std.proofs.lemmas.List.{get_or-set_same, get_or-set_other, length-set}
-use Rattle.std.proofs.lemmas.Bool.{true≢false}
 use Rattle.std.proofs.lemmas.Bool.Decides.{eqb_tells}
 use Rattle.std.specs.Cmp.Lexicographic.{same_text}
 use Rattle.std.specs.Prelude.{bytes_eq, is_some, IfNone}
@@ -17,11 +16,7 @@ use Rattle.smt_names.proofs.PlaceLemmas.{distinct-push, distinct-take, last_alon
 abbrev Names : Type 0
 Names = List (List ℕ)
 
-pub empty : (xs : Names) → length xs ≤ 0 → xs ≡ []
-empty [] h = refl
-empty (x ∷ xs) h = absurd (omega arith)
-
-pub grown_behind : (xs ys new : Names) (name : List ℕ) → new ≡ ys ++ name ∷ []
+grown_behind : (xs ys new : Names) (name : List ℕ) → new ≡ ys ++ name ∷ []
     → xs ++ new ≡ (xs ++ ys) ++ name ∷ []
 grown_behind xs ys new name more = ap (λ ns. xs ++ ns) more ∙ sym (append_assoc xs ys (name ∷ []))
 
@@ -39,22 +34,12 @@ split (suc n) (x ∷ xs) ys =
     ap (λ ns. x ∷ ns) (split n xs ys)
     ∙ ap (λ m. (x ∷ take n xs) ++ take m ys) (let same : n - length xs ≡ suc n - suc (length xs) = omega arith in same)
 
-pub cut_both : (n : ℕ) (xs ys front behind names : Names) → xs ++ ys ≡ names → front ≡ take n xs
+cut_both : (n : ℕ) (xs ys front behind names : Names) → xs ++ ys ≡ names → front ≡ take n xs
     → behind ≡ take (n - length xs) ys → front ++ behind ≡ take n names
 cut_both n xs ys front behind names all first rest =
     ap (λ ns. ns ++ behind) first ∙ ap (λ ns. take n xs ++ ns) rest ∙ sym (split n xs ys) ∙ ap (λ ns. take n ns) all
 
 -- ## First bytes
-
--- where no name begins with the byte, the name is none of them
-pub unbegun : (names : Names) (name : List ℕ) (begun : List Bool) (at : ℕ) → AreKept names begun → at ≡ get_or name 0 0
-    → get_or begun at false ≡ false → None ≡ place_of names name
-unbegun names name begun at kept is unseen = by (place_of names name) refl
-  where
-    by : (o : Option ℕ) → place_of names name ≡ o → None ≡ o
-    by None e = refl
-    by (Some k) e =
-        absurd (true≢false (sym (kept.noted name k e) ∙ ap (λ i. get_or begun i false) (sym is) ∙ unseen))
 
 still : (begun : List Bool) (at i : ℕ) → get_or begun i false ≡ true → get_or (set begun at true) i false ≡ true
 still begun at i seen = elim (eqb_tells i at) as (λ _. get_or (set begun at true) i false ≡ true) [
@@ -71,7 +56,7 @@ still begun at i seen = elim (eqb_tells i at) as (λ _. get_or (set begun at tru
 
 -- ## A name more, or fewer
 
-pub kept-push : (names new : Names) (name : List ℕ) (begun : List Bool) (at : ℕ) → AreKept names begun
+kept-push : (names new : Names) (name : List ℕ) (begun : List Bool) (at : ℕ) → AreKept names begun
     → place_of names name ≡ None → length names < 4294967295 → at ≡ get_or name 0 0 → at < 256
     → new ≡ names ++ name ∷ [] → AreKept new (set begun at true)
 kept-push names new name begun at kept none few is l grown =
@@ -91,7 +76,7 @@ kept-push names new name begun at kept none few is l grown =
         ∙ get_or-set_same begun at true false (omega (arith, kept.each_byte))
     by other k false differ e = still begun at (get_or other 0 0) (kept.noted other k e)
 
-pub kept-take : (n : ℕ) (names new : Names) (begun : List Bool) → AreKept names begun → new ≡ take n names
+kept-take : (n : ℕ) (names new : Names) (begun : List Bool) → AreKept names begun → new ≡ take n names
     → AreKept new begun
 kept-take n names new begun kept less =
     subst (λ ns. AreKept ns begun) (sym less) (record {
@@ -113,7 +98,7 @@ take_none : (n : ℕ) → take {A = List ℕ} n [] ≡ []
 take_none zero = refl
 take_none (suc n) = refl
 
-pub names_front : (names rest : Names) (name : List ℕ) → names ≡ rest ++ name ∷ [] → rest ≡ take (length names - 1) names
+names_front : (names rest : Names) (name : List ℕ) → names ≡ rest ++ name ∷ [] → rest ≡ take (length names - 1) names
 names_front names rest name is =
     let long : length names ≡ suc (length rest) = ap length is ∙ length-append rest (name ∷ []) ∙ omega arith in
     let size : length names - 1 ≡ length rest = omega arith in
@@ -128,7 +113,7 @@ pub without : {P : Type 0} (map : Option PlaceMap) → IfNone map P → map ≡ 
 without None h e = h
 without (Some m) h e = cc
 
-pub if_none : {P : Type 0} (map : Option PlaceMap) → (map ≡ None → P) → IfNone map P
+if_none : {P : Type 0} (map : Option PlaceMap) → (map ≡ None → P) → IfNone map P
 if_none None h = h refl
 if_none (Some m) h = tt
 

@@ -28,7 +28,7 @@ pub(crate) struct Crowd {
     next: usize,
     // The number of names that are counted.
     counted: usize,
-    // How many of them came to a block that was full.
+    // How many of them came to a block that had the most already.
     over: usize,
 }
 
@@ -93,7 +93,8 @@ impl Crowd {
     }
 }
 
-// Counts names, and returns how many of them came to a full block. (Few come to one, so no count wraps.)
+// Counts names, and returns how many of them came to a block that had the most already. (At most 64 do, so that
+// no count wraps.)
 fn add_all(blocks: &mut [u16], names: &[Name]) -> usize
     requires { 0 < length blocks.old }
 {

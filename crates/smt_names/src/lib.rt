@@ -13,7 +13,7 @@
 //! names.find(b"z")      // None
 //! ```
 //!
-//! A name is found by a hash, or, where too many names share one, by their order. No contract says which.
+//! A name is found by a hash, or, where too many hashes lie close together, by its order. No contract says which.
 #![tactic(auto)]
 
 mod crowd;

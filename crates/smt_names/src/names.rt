@@ -11,9 +11,8 @@ use std::marker::Model;
 
 /// Names, each once, in the order in which they came. A contract sees their list.
 ///
-/// There are at most 2^32 - 1 names, of as many bytes in all. Finding a name or adding one takes time in
-/// proportion to the name's length, and at worst to the logarithm of the number of names, whatever the names
-/// are.
+/// There are at most 2^32 - 1 names. Finding a name or adding one takes time in proportion to the name's
+/// length, and at worst to the logarithm of the number of names, whatever the names are.
 #[derive(Drop)]
 pub struct Names {
     alloc: Global,

@@ -1,4 +1,4 @@
-use Rattle.std.proofs.Common.{◌≡◌, ◌∙◌, ap, sym, length}
+use Rattle.std.proofs.Common.{◌∙◌, ap, sym, length}
 use Rattle.std.proofs.lemmas.Bool.{le-leb}
 use Rattle.smt_names.specs.Internal.Keys.{key_of}
 use Rattle.smt_names.proofs.KeyLemmas.{key-same, other_names, same_names}

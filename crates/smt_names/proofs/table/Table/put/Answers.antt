@@ -1,4 +1,4 @@
-use Rattle.std.proofs.Common.{◌≡◌, ◌++◌, ◌∷◌, [], ◌<◌, List, ℕ, length, get_or, ap, sym, ◌∙◌, subst, arith}
+use Rattle.std.proofs.Common.{◌++◌, ◌∷◌, [], length, ap, sym, ◌∙◌, subst, arith}
 use Rattle.indexmap.specs.IndexMap.{keys}
 use Rattle.smt_names.specs.Places.{place_of}
 use Rattle.smt_names.specs.Internal.Order.{IsTable}
