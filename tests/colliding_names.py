@@ -3,7 +3,7 @@
 python3 tests/colliding_names.py PROGRAM [N] [TIMES]: for declared names, abbreviations of sorts, variables of one `let`, labels, and items of a
 model, N of each kind (64,000), the seconds of the processor: of names drawn at random, of names that have one key, and of names with a few keys
 that begin at one group of the library's table. It ends with 1 where the chosen ones take over TIMES (3) times as long as the drawn ones, and a
-tenth of a second more.
+tenth of a second more. With --script in place of PROGRAM it prints a script that declares N names of one key.
 """
 import os
 import random
@@ -15,6 +15,8 @@ FACTOR = 11_400_714_819_323_198_485
 ALL = (1 << 64) - 1
 LENGTH = 24
 THIRD = int.from_bytes(b"thirdone", "little")
+# The number of names of one key.
+ONE = [0x4142434445464748]
 # What stands in bars: printable, but no bar and no backslash.
 BYTES = [byte for byte in [*range(0x20, 0x7F), *range(0x80, 0x100)] if byte not in b"|\\"]
 
@@ -96,7 +98,7 @@ def seconds(program, script, answers):
 def main(program, count="64000", times="3"):
     """Prints the table, and answers whether each kind is within the bound."""
     within, count = True, int(count)
-    named = [drawn(count, 1), chosen(count, 1, [0x4142434445464748]), chosen(count, 1, at_one_group(count))]
+    named = [drawn(count, 1), chosen(count, 1, ONE), chosen(count, 1, at_one_group(count))]
     with tempfile.TemporaryDirectory() as folder:
         script, answers = os.path.join(folder, "script"), os.path.join(folder, "answers")
         for kind, texts in KINDS.items():
@@ -112,5 +114,7 @@ def main(program, count="64000", times="3"):
     return within
 
 
-if __name__ == "__main__":
+if __name__ == "__main__" and sys.argv[1] == "--script":
+    sys.stdout.buffer.write(KINDS["declared names"](chosen(int(sys.argv[2]), 1, ONE))[0])
+elif __name__ == "__main__":
     sys.exit(0 if main(*sys.argv[1:]) else 1)
