@@ -1,8 +1,9 @@
-"""Compares what names take that all have one key in `smt_names`, and so share its lists, with what names take that were drawn at random.
+"""Compares what names take that were chosen to meet in `smt_names` with what names take that were drawn at random.
 
 python3 tests/colliding_names.py PROGRAM [N] [TIMES]: for declared names, abbreviations of sorts, variables of one `let`, labels, and items of a
-model, N of each kind (64,000), the seconds of the processor of both, and the ratio. It ends with 1 where the colliding ones take over TIMES (3)
-times as long, and a tenth of a second more.
+model, N of each kind (64,000), the seconds of the processor: of names drawn at random, of names that have one key, and of names with a few keys
+that begin at one group of the library's table. It ends with 1 where the chosen ones take over TIMES (3) times as long as the drawn ones, and a
+tenth of a second more. With --script in place of PROGRAM it prints a script that declares N names of one key.
 """
 import os
 import random
@@ -13,6 +14,9 @@ import tempfile
 FACTOR = 11_400_714_819_323_198_485
 ALL = (1 << 64) - 1
 LENGTH = 24
+THIRD = int.from_bytes(b"thirdone", "little")
+# The number of names of one key.
+ONE = [0x4142434445464748]
 # What stands in bars: printable, but no bar and no backslash.
 BYTES = [byte for byte in [*range(0x20, 0x7F), *range(0x80, 0x100)] if byte not in b"|\\"]
 
@@ -31,14 +35,35 @@ def drawn(count, seed):
     return sorted(names)
 
 
-def colliding(count, seed):
-    """So many names of one key: of three pieces of eight bytes the second brings the hash of the first to one number, and the third is one."""
+def table_hash(middle):
+    """What the library's table sees of a name that `chosen` makes with this number: `key` of keys.rt, `hash_of` of hasher.rt, and both halves in one."""
+    key = mixed(mixed(mixed(middle) ^ THIRD) ^ THIRD)
+    spread = mixed(mixed(key))
+    return (spread ^ (spread >> 32)) & 0xFFFF_FFFF
+
+
+def at_one_group(count):
+    """Sixteen numbers whose names begin at one group of the library's table of so many names."""
+    groups = 1
+    while groups * 9 < count:
+        groups *= 2
+    maker, found = random.Random(1), []
+    while len(found) < 16:
+        middle = maker.getrandbits(64)
+        if table_hash(middle) % groups == 0:
+            found.append(middle)
+    return found
+
+
+def chosen(count, seed, middles):
+    """So many names with these numbers in turn: of three pieces of eight bytes the second brings the hash of the first to the number, and the third
+    is one."""
     maker, names, allowed = random.Random(seed), set(), set(BYTES)
     while len(names) < count:
         first = bytes(maker.choice(BYTES) for _ in range(8))
-        second = (mixed(LENGTH ^ int.from_bytes(first, "little")) ^ 0x4142434445464748).to_bytes(8, "little")
+        second = (mixed(LENGTH ^ int.from_bytes(first, "little")) ^ middles[len(names) % len(middles)]).to_bytes(8, "little")
         if allowed.issuperset(second):
-            names.add(first + second + b"thirdone")
+            names.add(first + second + THIRD.to_bytes(8, "little"))
     return sorted(names)
 
 
@@ -72,20 +97,24 @@ def seconds(program, script, answers):
 
 def main(program, count="64000", times="3"):
     """Prints the table, and answers whether each kind is within the bound."""
-    within = True
+    within, count = True, int(count)
+    named = [drawn(count, 1), chosen(count, 1, ONE), chosen(count, 1, at_one_group(count))]
     with tempfile.TemporaryDirectory() as folder:
         script, answers = os.path.join(folder, "script"), os.path.join(folder, "answers")
         for kind, texts in KINDS.items():
             taken = []
-            for maker in (drawn, colliding):
-                for path, text in zip((script, answers), texts(maker(int(count), 1))):
+            for names in named:
+                for path, text in zip((script, answers), texts(names)):
                     with open(path, "wb") as file:
                         file.write(text)
                 taken.append(seconds(program, script, answers))
-            print("%-14s  %.2f s drawn  %.2f s colliding  %.1f times" % (kind, *taken, taken[1] / max(taken[0], 0.001)))
-            within = within and taken[1] <= float(times) * taken[0] + 0.1
+            most = max(taken[1:])
+            print("%-14s  %.2f s drawn  %.2f s of one key  %.2f s at one group  %.1f times" % (kind, *taken, most / max(taken[0], 0.001)))
+            within = within and most <= float(times) * taken[0] + 0.1
     return within
 
 
-if __name__ == "__main__":
+if __name__ == "__main__" and sys.argv[1] == "--script":
+    sys.stdout.buffer.write(KINDS["declared names"](chosen(int(sys.argv[2]), 1, ONE))[0])
+elif __name__ == "__main__":
     sys.exit(0 if main(*sys.argv[1:]) else 1)

@@ -234,4 +234,12 @@ tests/chain.sh 1000 1 >"$work/script"
 echo 'sat ()' >"$work/answers"
 copies 'every command' 150 "$top/tests/every_command.smt2" "$top/tests/every_command.txt"
 copies 'a chain of 1,000 functions' 5000 --print-success off "$work/script" "$work/answers"
+# (names that were chosen to meet are kept by their order from some hundreds on)
+if command -v python3 >"$work/python"; then
+    PYTHONDONTWRITEBYTECODE=1 python3 tests/colliding_names.py --script 500 >"$work/script"
+    : >"$work/answers"
+    copies '500 names that meet' 1000 --print-success off "$work/script" "$work/answers"
+else
+    echo 'refused memory: names that meet skipped, no python3' >&2
+fi
 wait "$reader"

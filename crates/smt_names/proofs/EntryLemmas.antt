@@ -1,16 +1,17 @@
 -- Names with what each stands for, as they are found, more and fewer.
-use Rattle.std.proofs.Common.{◌≡◌, ℕ, zero, suc, ◌+◌, ◌<◌, ◌≤◌, Bool, true, false, cond, List, [], ◌∷◌, ◌++◌}
+use Rattle.std.proofs.Common.{◌≡◌, ℕ, zero, suc, ◌+◌, ◌<◌, Bool, true, false, cond, List, [], ◌∷◌, ◌++◌}
 use Rattle.std.proofs.Common.{length, take, slice_get, set, Option, Some, None, refl, ap, sym, ◌∙◌, arith, get_or, add-zero, zero-add}
 use Rattle.std.proofs.lemmas.Bool.{false_from_ne_true, true≢false}
 use Rattle.std.proofs.lemmas.Cmp.{nat_list_eq_equiv}
 use Rattle.std.proofs.lemmas.List.{length-append}
-use Rattle.std.proofs.lemmas.Option.{get_or_from_slice_get, slice_get_within}
+use Rattle.std.proofs.lemmas.Option.{slice_get_within}
 use Rattle.std.specs.Cmp.Lexicographic.{same_text}
 use Rattle.std.specs.Option.{option_or}
 use Rattle.std.specs.Prelude.{bytes_eq, Result, Ok, Err, OnErr}
 use Rattle.smt_theory.specs.Words.{look_up}
 use Rattle.smt_names.specs.Entries.{paired, with_value}
 use Rattle.smt_names.specs.Places.{AreDistinct, place_from, place_of}
+use Rattle.smt_names.proofs.PlaceLemmas.{none_of, later, first_here, stands_at}
 
 abbrev Names : Type 0
 Names = List (List ℕ)
@@ -19,66 +20,6 @@ Names = List (List ℕ)
 pub on_err : {A E P : Type 0} (r : Result A E) → P → OnErr r P
 on_err (Ok a) h = tt
 on_err (Err e) h = h
-
--- a first answer that is none, and a test that fails
-none_of : (o : Option ℕ) (b : Bool) (at : ℕ) → option_or o (cond b (Some at) None) ≡ None → (o ≡ None) × (b ≡ false)
-none_of (Some k) b at h = cc
-none_of None true at h = cc
-none_of None false at h = (refl, refl)
-
--- where the test fails the answer is the first
-later : (o : Option ℕ) (b : Bool) (at k : ℕ) → b ≡ false → option_or o (cond b (Some at) None) ≡ Some k → o ≡ Some k
-later (Some n) b at k f h = h
-later None true at k f h = cc
-later None false at k f h = h
-
-pub place_least : (at : ℕ) (xs : Names) (name : List ℕ) (k : ℕ) → place_from at xs name ≡ Some k → at ≤ k
-place_least at [] name k is = cc
-place_least at (x ∷ xs) name k is = by (place_from (suc at) xs name) (bytes_eq name x) is (place_least (suc at) xs name k)
-  where
-    by : (o : Option ℕ) (b : Bool) → option_or o (cond b (Some at) None) ≡ Some k → (o ≡ Some k → suc at ≤ k) → at ≤ k
-    by (Some n) b h rest = omega (arith, rest h)
-    by None true h rest = let same : at ≡ k = cc in omega (arith, same)
-    by None false h rest = cc
-
--- the first place is that of the first name
-first_here : (at : ℕ) (xs : Names) (name : List ℕ) (b : Bool) (o : Option ℕ) → place_from (suc at) xs name ≡ o
-    → option_or o (cond b (Some at) None) ≡ Some at → b ≡ true
-first_here at xs name true o is h = refl
-first_here at xs name false None is h = cc
-first_here at xs name false (Some n) is h =
-    let same : n ≡ at = cc in
-    absurd (omega (arith, same, place_least (suc at) xs name n is))
-
--- ## Where a name stands
-
-stands_from : (at : ℕ) (xs : Names) (name : List ℕ) (k : ℕ) → place_from at xs name ≡ Some (at + k)
-    → slice_get xs k ≡ Some name
-stands_from at [] name k is = cc
-stands_from at (x ∷ xs) name zero is =
-    let here = first_here at xs name (bytes_eq name x) (place_from (suc at) xs name) refl
-    (is ∙ ap (λ n. Some n) (add-zero at)) in
-    ap (λ n. Some n) (sym (same_text name x (sym here)))
-stands_from at (x ∷ xs) name (suc k) is =
-    stands_from (suc at) xs name k
-    (behind (place_from (suc at) xs name) (bytes_eq name x) at k is
-    ∙ ap (λ n. Some n) (let same : at + suc k ≡ suc at + k = omega arith in same))
-  where
-    behind : (o : Option ℕ) (b : Bool) (at k : ℕ) → option_or o (cond b (Some at) None) ≡ Some (at + suc k)
-        → o ≡ Some (at + suc k)
-    behind (Some n) b at k h = h
-    behind None true at k h = let same : at ≡ at + suc k = cc in absurd (omega (arith, same))
-    behind None false at k h = h
-
-pub stands_at : (names : Names) (name : List ℕ) (k : ℕ) → place_of names name ≡ Some k
-    → slice_get names k ≡ Some name
-stands_at names name k is = stands_from 0 names name k (is ∙ ap (λ n. Some n) (sym (zero-add k)))
-
-pub place_at : (names : Names) (name : List ℕ) (k : ℕ) → AreDistinct names → slice_get names k ≡ Some name
-    → place_of names name ≡ Some k
-place_at names name k distinct at =
-    ap (λ x. place_of names x) (sym (get_or_from_slice_get names k name [] at))
-    ∙ distinct k (slice_get_within names k name at)
 
 -- and at no other place
 alone : (names : Names) (name : List ℕ) (k : ℕ) → AreDistinct names → place_of names name ≡ Some k → (j : ℕ)

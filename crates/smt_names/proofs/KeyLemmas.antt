@@ -7,8 +7,6 @@ use Rattle.std.proofs.lemmas.Bool.{lt-ltb, le-leb, lt-leb, ltb-true, ltb-false}
 use Rattle.std.proofs.lemmas.Cmp.{nat_list_eq_equiv}
 use Rattle.std.specs.Cmp.Lexicographic.{same_text}
 use Rattle.std.proofs.lemmas.List.{drop-drop}
-use Rattle.smt_names.specs.declared.chains.Slot.{Slot}
-use Rattle.smt_names.specs.Internal.Chains.{name_in}
 use Rattle.std.specs.Prelude.{bytes_eq, bit_xor}
 use Rattle.std.proofs.Math.Dec.{ltb}
 use Rattle.std.specs.Int.{w32, w64, from_le_bytes}
@@ -188,38 +186,14 @@ hash-done name left hash last (k, (l, d, e)) h is =
     ∙ ap (λ n. mixed_of (bit_xor (hash_after name n) last)) all
     ∙ ap (λ n. mixed_of (bit_xor (hash_after name (length name / 8)) n)) is
 
--- ## Whether a slot has a name
+-- ## Whether two names are the same
 
-length-name : (bytes : List ℕ) (s : Slot) → s.start + s.length ≤ length bytes → length (name_in bytes s) ≡ s.length
-length-name bytes s h = omega (arith, length-take s.length (drop s.start bytes), length-drop s.start bytes)
+pub same_names : (a b : List ℕ) → a ≡ b → true ≡ bytes_eq a b
+same_names a b e = sym (ap (λ x. bytes_eq a x) (sym e) ∙ nat_list_eq_equiv.refl a)
 
-pub name-bytes : (bytes : List ℕ) (s : Slot) → AreBytes bytes → AreBytes (name_in bytes s)
-name-bytes bytes s p = take-bytes s.length (drop s.start bytes) (drop-bytes s.start bytes p)
-
-pub named-yes : (a b : List ℕ) → a ≡ b → true ≡ bytes_eq a b
-named-yes a b e = sym (ap (λ x. bytes_eq a x) (sym e) ∙ nat_list_eq_equiv.refl a)
-
-pub named-differ : (a b : List ℕ) → (a ≡ b → ⊥) → false ≡ bytes_eq a b
-named-differ a b differ = by (bytes_eq a b) refl
+pub other_names : (a b : List ℕ) → (a ≡ b → ⊥) → false ≡ bytes_eq a b
+other_names a b differ = by (bytes_eq a b) refl
   where
     by : (t : Bool) → t ≡ bytes_eq a b → false ≡ t
     by true e = absurd (differ (same_text a b e))
     by false e = refl
-
-pub other-key : (bytes : List ℕ) (s : Slot) (name : List ℕ) (wanted : ℕ) → s.key ≡ key_of (name_in bytes s)
-    → wanted ≡ key_of name → (s.key ≡ wanted → ⊥) → false ≡ bytes_eq name (name_in bytes s)
-other-key bytes s name wanted k w differ =
-    named-differ name (name_in bytes s) (λ e. differ (k ∙ ap (λ m. key_of m) (sym e) ∙ sym w))
-
-pub other-length : (bytes : List ℕ) (s : Slot) (name : List ℕ) → s.start + s.length ≤ length bytes
-    → (s.length ≡ length name → ⊥) → false ≡ bytes_eq name (name_in bytes s)
-other-length bytes s name h differ =
-    named-differ name (name_in bytes s) (λ e. differ (sym (length-name bytes s h) ∙ ap length (sym e)))
-
-pub same-key : (bytes : List ℕ) (s : Slot) (name : List ℕ) (wanted : ℕ) → AreBytes bytes → AreBytes name
-    → s.start + s.length ≤ length bytes → s.key ≡ key_of (name_in bytes s) → wanted ≡ key_of name
-    → s.key ≡ wanted → s.length ≡ length name → length name ≤ 8 → true ≡ bytes_eq name (name_in bytes s)
-same-key bytes s name wanted p q h k w e l t =
-    named-yes name (name_in bytes s)
-    (key-same name (name_in bytes s) q (name-bytes bytes s p) (sym l ∙ sym (length-name bytes s h)) t
-    (sym w ∙ sym e ∙ k))

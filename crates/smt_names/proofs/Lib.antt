@@ -1,4 +1,5 @@
 pub mod KeyLemmas
-pub mod ChainLemmas
+pub mod PlaceLemmas
 pub mod OrderLemmas
+pub mod TableLemmas
 pub mod EntryLemmas

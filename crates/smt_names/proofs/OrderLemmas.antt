@@ -8,11 +8,10 @@ use Rattle.std.specs.BTreeMap.{UpdatesBy}
 use Rattle.std.specs.Cmp.Lexicographic.{same_text, slice_cmp}
 use Rattle.std.specs.Map.{KeepsOthers, update}
 use Rattle.std.specs.Ordering.{is_eq, nat_cmp}
-use Rattle.std.specs.Prelude.{bytes_eq, Result, Ok, Err, OnOk}
-use Rattle.std.specs.Result.{is_err}
+use Rattle.std.specs.Prelude.{bytes_eq}
 use Rattle.smt_names.specs.Places.{place_of}
 use Rattle.smt_names.specs.Internal.Order.{HasPlace, HasPlaces, PlaceMap, place_in}
-use Rattle.smt_names.proofs.ChainLemmas.{place-push}
+use Rattle.smt_names.proofs.PlaceLemmas.{place-push}
 
 -- a key that is one name is no other
 apart : (name other key : List ℕ) → bytes_eq name other ≡ false → is_eq (slice_cmp nat_cmp name key) ≡ true
@@ -34,11 +33,6 @@ changed old new name place h other = by (bytes_eq name other) refl
         h.3 (λ k. is_eq (slice_cmp nat_cmp other k.items))
         (λ x y. (eq_by_cmp_equiv nat_list_cmp_total).congr other x.items y.items)
         (λ k. apart name other k.items differ)
-
--- what holds where nothing was refused
-pub done : {E P : Type 0} (r : Result (Unit {0}) E) → false ≡ is_err r → OnOk r P → P
-done (Ok tt) is h = h
-done (Err e) is h = cc
 
 -- no name
 pub places-none : (map : PlaceMap) → map.entries ≡ [] → HasPlaces [] map

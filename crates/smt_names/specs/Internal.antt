@@ -1,3 +1,3 @@
 pub mod Keys
-pub mod Chains
 pub mod Order
+pub mod Tables

@@ -3,24 +3,14 @@
 
 ghost use Rattle.std.specs.Prelude.{◌≡◌, ◌-◌, ◌<◌, ◌≤◌, length, take, drop};
 ghost use Rattle.std.specs.Int.{w32, w64, from_le_bytes};
-ghost use Rattle.smt_names.specs.Internal.Keys.{mixed_of, tiny_key, short_key, long_key, key_of, bucket_of};
+ghost use Rattle.smt_names.specs.Internal.Keys.{mixed_of, tiny_key, short_key, long_key, key_of};
 
 #[inline(always)]
-fn mixed(key: u64) -> u64
+pub(crate) fn mixed(key: u64) -> u64
     ensures { result ≡ mixed_of key }
 {
     let product = u128::from(key) * 11_400_714_819_323_198_485;
     (product >> 64) as u64 ^ (product & 0xffff_ffff_ffff_ffff) as u64
-}
-
-// Which of `size` lists the names of this key are in.
-#[inline(always)]
-pub(crate) fn bucket(key: u64, size: usize) -> usize
-    requires { 0 < size }
-    ensures value { result ≡ bucket_of size key }
-    ensures within { result < size }
-{
-    (mixed(key) & (size as u64 - 1)) as usize
 }
 
 // The key of a name. Names of one length of up to eight bytes have the same key only if they are the same.

@@ -13,14 +13,18 @@
 //! names.find(b"z")      // None
 //! ```
 //!
-//! A name is found by a hash, or, where too many names share one, by their order. No contract says which.
+//! A name is found by a hash, or, where too many hashes lie close together, by its order. No contract says which.
 #![tactic(auto)]
 
-mod chains;
+mod crowd;
+mod hasher;
 mod keys;
 pub mod laws;
 mod map;
+mod name;
 mod names;
+mod order;
+mod table;
 
 pub use map::NameMap;
 pub use names::Names;

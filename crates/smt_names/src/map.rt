@@ -9,9 +9,8 @@ use std::alloc::Global;
 
 /// Names, each once, and a value of each, in the order in which they came. A contract sees their list.
 ///
-/// The map holds at most 2^32 - 1 names, of as many bytes in all. Finding a name or adding one takes time in
-/// proportion to the name's length, and at worst to the logarithm of the number of names, whatever the names
-/// are.
+/// The map holds at most 2^32 - 1 names. Finding a name or adding one takes time in proportion to the name's
+/// length, and at worst to the logarithm of the number of names, whatever the names are.
 #[derive(Drop)]
 pub struct NameMap<V> {
     names: Names,
@@ -70,7 +69,7 @@ impl<V> NameMap<V> {
     /// Adds a new name after the others, with its value.
     ///
     /// The only error is want of memory, and then nothing changes. Want of memory is reported, too, beyond
-    /// 2^32 - 1 names, or as many bytes of names in all.
+    /// 2^32 - 1 names.
     pub fn insert(&mut self, name: &[u8], value: V) -> Result<(), Memory>
     where
         V: Drop,

@@ -1,5 +1,7 @@
 -- The places of names in a map by their order.
-use Rattle.std.specs.Prelude.{◌≡◌, ℕ, List, Option, Some, None, bytes_eq}
+use Rattle.std.specs.Prelude.{◌≡◌, ◌≤◌, ℕ, Bool, true, false, List, length, Option, None, Some, bytes_eq}
+use Rattle.std.specs.Prelude.{[], ◌++◌, IfNone}
+use Rattle.std.specs.Prelude.{slice_index, slice_index_or}
 use Rattle.std.specs.Global.{Vec}
 use Rattle.std.specs.Ordering.{nat_cmp}
 use Rattle.std.specs.Cmp.Lexicographic.{slice_cmp}
@@ -22,10 +24,19 @@ abbrev pub HasPlacesIfAny : List (List ℕ) → Option PlaceMap → Type 0
 HasPlacesIfAny names None = Unit {0}
 HasPlacesIfAny names (Some map) = HasPlaces names map
 
--- no name stands twice, and a map, if there is one, has their places
-pub record IsIndexed (names : List (List ℕ)) (map : Option PlaceMap) : Type 0 where
+-- no name stands twice, each place has 32 bits, and of each name it is noted that one begins with its first byte
+pub record AreKept (names : List (List ℕ)) (begun : List Bool) : Type 0 where
   pub distinct : AreDistinct names
-  pub places : HasPlacesIfAny names map
+  pub few : length names ≤ 4294967295
+  pub each_byte : length begun ≡ 256
+  pub noted : (name : List ℕ) (place : ℕ) → place_of names name ≡ Some place
+      → slice_index_or begun (slice_index name 0) false ≡ true
+
+-- these names are kept, a map, if there is one, has the places of all, and without a map none is late
+pub record IsTable (names late : List (List ℕ)) (begun : List Bool) (places : Option PlaceMap) : Type 0 where
+  pub kept : AreKept (names ++ late) begun
+  pub placed : HasPlacesIfAny (names ++ late) places
+  pub late_none : IfNone places (late ≡ [])
 
 -- the second map has this place of the name, and those that the first has of others
 abbrev pub HasPlace : List ℕ → ℕ → (old new : PlaceMap) → Type 0

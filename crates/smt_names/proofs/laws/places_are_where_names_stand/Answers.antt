@@ -1,4 +1,4 @@
-use Rattle.smt_names.proofs.EntryLemmas.{place_at, stands_at}
+use Rattle.smt_names.proofs.PlaceLemmas.{place_at, stands_at}
 use Rattle.smt_names.proofs.laws.places_are_where_names_stand.Goals as goal
 
 pub returns : goal.returns

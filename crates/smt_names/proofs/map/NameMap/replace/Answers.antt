@@ -3,7 +3,7 @@ use Rattle.std.proofs.lemmas.List.{length-set}
 use Rattle.std.specs.Prelude.{slice_get, slice_set}
 use Rattle.smt_theory.specs.Words.{look_up}
 use Rattle.smt_names.specs.Entries.{entries_of, paired}
-use Rattle.smt_names.proofs.ChainLemmas.{kept}
+use Rattle.smt_names.proofs.PlaceLemmas.{kept}
 use Rattle.smt_names.proofs.EntryLemmas.{absent, found, new_value, on_err, place_within, set_value, with_value_alone}
 use Rattle.smt_names.proofs.map.NameMap.replace.Goals as goal
 

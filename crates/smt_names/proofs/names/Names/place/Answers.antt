@@ -1,4 +1,4 @@
-use Rattle.smt_names.proofs.ChainLemmas.{placed}
+use Rattle.smt_names.proofs.PlaceLemmas.{placed}
 use Rattle.smt_names.proofs.names.Names.place.Goals as goal
 
 pub returns-in-None-clause-place : goal.returns-in-None-clause-place
