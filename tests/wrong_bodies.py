@@ -158,7 +158,7 @@ def full_name(crate, file, name, head):
         return '::'.join([crate] + ([] if module in ('lib', 'main') else [module]) + [name])
     plain = re.sub(r'^(pub )?(impl\b(<[^>]*>)?|trait)', '', head.split('{')[0].split(' where ')[0])
     trait, _, of = plain.rpartition(' for ')
-    return re.findall(r'[A-Z]\w*', of)[0] + ''.join(re.findall(r'[A-Z]\w+', trait)) + '::' + name
+    return ''.join(re.findall(r'[A-Z]\w*', of)[:1]) + ''.join(re.findall(r'[A-Z]\w+', trait)) + '::' + name
 
 
 def said_of(functions, full):
