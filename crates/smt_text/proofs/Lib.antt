@@ -16,3 +16,4 @@ pub mod MarkLemmas
 pub mod NestingLemmas
 pub mod ExampleLemmas
 mod KindLemmas
+pub mod PositionLemmas

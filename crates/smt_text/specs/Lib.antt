@@ -3,3 +3,4 @@ pub mod Grammar
 pub mod Reading
 pub mod Reader
 pub mod Internal
+pub mod Positions

@@ -5,9 +5,11 @@ pub mod examples;
 
 ghost use Rattle.std.specs.Prelude.{◌≡◌, ◌≤◌, ℕ, List, ◌++◌, Bool, false, true, length, Option, Some};
 ghost use Rattle.smt_text.specs.Grammar.{Forest};
+ghost use Rattle.smt_text.specs.Positions.{after, position_after};
 ghost use Rattle.smt_text.specs.Reading.{Begins, AreComplete, Reads};
 ghost use Rattle.smt_trees.specs.Sexp.{Sexps, append, count};
 ghost use Rattle.smt_faults.specs.declared.text_flaw.TextFlaw.{TextFlaw};
+ghost use Rattle.smt_text.specs.declared.position.Position.{Position};
 
 /// A text has at most one forest, whatever the limits on the depth of lists.
 pub fn one_forest()
@@ -55,4 +57,12 @@ pub fn read_faults_stay()
 pub fn trees_are_no_more_than_bytes()
     ensures few { (max_depth : ℕ) (text : List ℕ) (trees : Sexps) (f : Option TextFlaw)
         → Reads max_depth true text trees f → count trees ≤ length text }
+{}
+
+/// The position after a text is the one after its second part, which stands at the position after its first
+/// part; and so after any bytes.
+pub fn positions_go_on()
+    ensures of_text { (front rest : List ℕ) → position_after (front ++ rest) ≡ after (position_after front) rest }
+    ensures of_bytes { (here : Position) (front rest : List ℕ)
+        → after here (front ++ rest) ≡ after (after here front) rest }
 {}

@@ -29,10 +29,12 @@ mod builder;
 mod byte_class;
 pub mod laws;
 mod lexer;
+mod position;
 mod reader;
 mod refusal;
 mod reserved;
 
+pub use position::Position;
 pub use reader::{MAX_DEPTH, Next, Reader, read_trees};
 pub use smt_faults::TextFault;
 pub use smt_trees::{OwnedTree, Tree, Trees, Word, spelling};
