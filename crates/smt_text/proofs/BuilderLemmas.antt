@@ -16,6 +16,10 @@ pub if_ok : {T E : Type 0} {P Q : Type 0} (r : Result T E) → (P → Q) → IfO
 if_ok (Ok x) f h = f h
 if_ok (Err e) f h = h
 
+pub no_lists : (lists : List Sexps) → length lists ≡ 0 → lists ≡ []
+no_lists [] none = refl
+no_lists (parts ∷ lists) none = absurd (omega arith)
+
 -- a tree at the top, where there is no list
 pub add_top : (lists : List Sexps) (ready more : List OwnedTree) (tree : OwnedTree) (x : Sexp) → length lists ≡ 0
     → more ≡ ready ++ tree ∷ [] → sexp_of tree ≡ x

@@ -17,3 +17,6 @@ pub mod NestingLemmas
 pub mod ExampleLemmas
 mod KindLemmas
 pub mod PositionLemmas
+pub mod MarkedLemmas
+pub mod TreeEndLemmas
+pub mod EndingLemmas

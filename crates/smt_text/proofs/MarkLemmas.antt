@@ -55,6 +55,7 @@ hexadecimal_begins max_depth token bytes text levels d e f lt first second =
       first = λ h. push_first_hex (get_or text 2 0)
           (kept_digit HexDigits (get_or text 2 0) (is_hexadecimal_digit (get_or text 2 0)) h);
       ended = λ b h. lex_ended HexDigits b tt h;
+      whole = refl;
     })
 
 pub binary_begins : (max_depth : ℕ) (token : AtomState) (bytes text : List ℕ) (levels : Levels) (d : ℕ)
@@ -67,6 +68,7 @@ binary_begins max_depth token bytes text levels d e f lt first second =
       first = λ h. push_first_bin (get_or text 2 0)
           (kept_digit BinDigits (get_or text 2 0) (is_binary_digit (get_or text 2 0)) h);
       ended = λ b h. lex_ended BinDigits b tt h;
+      whole = refl;
     })
 
 pub name_begins : (max_depth : ℕ) (token : AtomState) (bytes text : List ℕ) (levels : Levels)
@@ -77,6 +79,7 @@ name_begins max_depth token bytes text levels e f letter =
       marked = refl;
       first = λ h. letter_begins (get_or text 0 0) letter;
       ended = λ b h. lex_ended Name b tt h;
+      whole = refl;
     })
 
 pub numeral_begins : (max_depth : ℕ) (token : AtomState) (bytes text : List ℕ) (levels : Levels)
@@ -87,4 +90,5 @@ numeral_begins max_depth token bytes text levels e f digit =
       marked = refl;
       first = λ h. digit_begins (get_or text 0 0) digit;
       ended = λ b h. lex_ended Digits b tt h;
+      whole = refl;
     })

@@ -14,7 +14,8 @@ use Rattle.smt_text.specs.Internal.LexerStates.{Levels, On, State, At, start, ad
 use Rattle.smt_text.specs.Internal.LexerStates.{settle, lex, move, may_end, token_in, step, go_on, run, depth_of}
 use Rattle.smt_text.specs.Internal.LexerStates.{depth_in, top_of, complete_of, IsStuck, Leaves, blame}
 use Rattle.smt_text.specs.Reading.{Reads}
-use Rattle.smt_text.specs.Internal.ReaderState.{GoesOnFrom, state_of, under, after_taken}
+use Rattle.smt_text.specs.Internal.ReaderState.{GoesOnFrom, state_of, trees_in, under, after_taken}
+use Rattle.smt_text.specs.declared.builder.Ready.{Ready}
 use Rattle.smt_text.specs.Internal.ReaderState.{GoesThrough, Ends, flaw_found}
 use Rattle.smt_trees.specs.Sexp.{Sexp, Sexps, Items, Nil, Cons, append}
 use Rattle.smt_trees.specs.Owned.{sexp_of, sexps_of}
@@ -30,7 +31,6 @@ use Rattle.smt_text.specs.declared.lexer.LexerStep.TheVariants.{Push, Skip, Fini
 use Rattle.smt_text.specs.declared.reader.Next.TheVariants.{Fault}
 use Rattle.smt_text.specs.declared.reader.Reader.{Reader}
 use Rattle.smt_trees.specs.TapeView.{lists_of}
-use Rattle.smt_trees.specs.declared.owned.OwnedTree.{OwnedTree}
 
 pub none_if : (o : Option (Failure TextFlaw)) → is_some o ≡ false → o ≡ None
 none_if None e = refl
@@ -41,7 +41,7 @@ abbrev under_if : Sexps → Option Levels → Option Levels
 under_if taken None = None
 under_if taken (Some levels) = Some (under taken levels)
 
-abbrev after_if : Sexps → Option State → Option State
+abbrev pub after_if : Sexps → Option State → Option State
 after_if taken None = None
 after_if taken (Some s) = Some (after_taken taken s)
 
@@ -108,7 +108,7 @@ unfinished reader fed taken h e = by h.1
     by (inl m) = inl m
     by (inr k) = inr (subst (λ b. Keeps b reader fed taken) e k).1
 
-runs_on : (reader : Reader) (fed : List ℕ) (taken : Sexps) → StandsFor reader fed taken
+pub runs_on : (reader : Reader) (fed : List ℕ) (taken : Sexps) → StandsFor reader fed taken
     → is_finished reader ≡ false → reader.failure ≡ None
     → run reader.max_depth start fed ≡ Some (after_taken taken (state_of reader))
 runs_on reader fed taken h e n = by (unfinished reader fed taken h e)
@@ -138,7 +138,7 @@ pub stands_new : (reader : Reader) → bytes_fed reader ≡ 0 → is_finished re
 stands_new reader count e f s =
     stands_if reader reader.max_depth [] Nil None refl count e (ap flaw_found f) (ap Some (sym (ap (after_taken Nil) s)))
 
-run_after : (max_depth : ℕ) (taken : Sexps) (s : State) (text : List ℕ)
+pub run_after : (max_depth : ℕ) (taken : Sexps) (s : State) (text : List ℕ)
     → run max_depth (after_taken taken s) text ≡ after_if taken (run max_depth s text)
 run_after max_depth taken s [] = refl
 run_after max_depth taken s (b ∷ text) = by (step max_depth s b) refl (λ next. run_after max_depth taken next text)
@@ -340,7 +340,7 @@ none_ready reader fed taken failure empty f h = by (stands_reads reader fed take
     by (inl m) = inl (sym f ∙ m)
     by (inr r) =
         let all : append taken (trees_ready reader) ≡ taken = ap
-        (λ x. append taken (sexps_of x)) empty ∙ append_nil taken in
+        (λ x. append taken (sexps_of (trees_in x))) empty ∙ append_nil taken in
         inr (subst (λ x. Reads reader.max_depth (is_finished reader) fed taken x) (ap flaw_found f)
         (subst (λ x. Reads reader.max_depth (is_finished reader) fed x (flaw_of reader)) all r))
 
@@ -374,22 +374,22 @@ answers_fault reader fed taken failure empty f h =
     told reader.max_depth (is_finished reader) fed taken failure (none_ready reader fed taken (Some failure) empty f h)
 
 -- where one is
-pub answers_tree : (reader : Reader) (fed : List ℕ) (taken : Sexps) (tree : OwnedTree) (rest : List OwnedTree)
-    → reader.failure ≢ Some Memory → reader.builder.ready.items ≡ tree ∷ rest → StandsFor reader fed taken
+pub answers_tree : (reader : Reader) (fed : List ℕ) (taken : Sexps) (first : Ready) (rest : List Ready)
+    → reader.failure ≢ Some Memory → reader.builder.ready.items ≡ first ∷ rest → StandsFor reader fed taken
     → (later : Sexps) × (flaw : Option TextFlaw)
-    × Reads reader.max_depth (is_finished reader) fed (append taken (Cons (sexp_of tree) later)) flaw
-answers_tree reader fed taken tree rest fine first h = by (stands_reads reader fed taken h)
+    × Reads reader.max_depth (is_finished reader) fed (append taken (Cons (sexp_of first.tree) later)) flaw
+answers_tree reader fed taken first rest fine is h = by (stands_reads reader fed taken h)
   where
     by : (reader.failure ≡ Some Memory)
         ⊎ Reads reader.max_depth (is_finished reader) fed (append taken (trees_ready reader)) (flaw_of reader)
         → (later : Sexps) × (flaw : Option TextFlaw)
-        × Reads reader.max_depth (is_finished reader) fed (append taken (Cons (sexp_of tree) later)) flaw
+        × Reads reader.max_depth (is_finished reader) fed (append taken (Cons (sexp_of first.tree) later)) flaw
     by (inl m) = absurd (fine m)
     by (inr r) = (
-      sexps_of rest,
+      sexps_of (trees_in rest),
       flaw_of reader,
       subst
-          (λ x. Reads reader.max_depth (is_finished reader) fed (append taken (sexps_of x)) (flaw_of reader)) first
+          (λ x. Reads reader.max_depth (is_finished reader) fed (append taken (sexps_of (trees_in x))) (flaw_of reader)) is
           r,
     )
 
@@ -413,31 +413,31 @@ handed ended old new fed taken longer m f same all k = (
         (subst (λ s. Leaves old.max_depth fed s (flaw_of old)) (sym same) l))
     on true l = tt
 
-pub stands_handed : (old new : Reader) (fed : List ℕ) (taken : Sexps) (tree : OwnedTree)
+pub stands_handed : (old new : Reader) (fed : List ℕ) (taken : Sexps) (first : Ready)
     → bytes_fed new ≡ bytes_fed old → is_finished new ≡ is_finished old → new.max_depth ≡ old.max_depth
     → new.failure ≡ old.failure → new.token ≡ old.token → new.bytes.items ≡ old.bytes.items
     → new.builder.list ≡ old.builder.list
-    → old.builder.ready.items ≡ tree ∷ new.builder.ready.items → StandsFor old fed taken
-    → StandsFor new fed (append taken (Cons (sexp_of tree) Nil))
-stands_handed old new fed taken tree count e m f same_token same_bytes same_list first h =
+    → old.builder.ready.items ≡ first ∷ new.builder.ready.items → StandsFor old fed taken
+    → StandsFor new fed (append taken (Cons (sexp_of first.tree) Nil))
+stands_handed old new fed taken first count e m f same_token same_bytes same_list is h =
     (count ∙ h.0, by h.1)
   where
-    all : append (append taken (Cons (sexp_of tree) Nil)) (trees_ready new) ≡ append taken (trees_ready old)
-    all = sexps_assoc taken (Cons (sexp_of tree) Nil) (trees_ready new) ∙ ap (λ x. append taken (sexps_of x))
-        (sym first)
+    all : append (append taken (Cons (sexp_of first.tree) Nil)) (trees_ready new) ≡ append taken (trees_ready old)
+    all = sexps_assoc taken (Cons (sexp_of first.tree) Nil) (trees_ready new) ∙ ap
+        (λ x. append taken (sexps_of (trees_in x))) (sym is)
 
-    same : after_taken (append taken (Cons (sexp_of tree) Nil)) (state_of new)
+    same : after_taken (append taken (Cons (sexp_of first.tree) Nil)) (state_of new)
         ≡ after_taken taken (state_of old)
     same =
         let inner : lists_of new.builder.list ≡ lists_of old.builder.list = ap lists_of same_list in
-        let outer : append (append taken (Cons (sexp_of tree) Nil)) (sexps_of new.builder.ready.items)
-        ≡ append taken (sexps_of old.builder.ready.items) = all in
+        let outer : append (append taken (Cons (sexp_of first.tree) Nil)) (sexps_of (trees_in new.builder.ready.items))
+        ≡ append taken (sexps_of (trees_in old.builder.ready.items)) = all in
         cc
 
     by : (old.failure ≡ Some Memory) ⊎ Keeps (is_finished old) old fed taken
         → (new.failure ≡ Some Memory)
-        ⊎ Keeps (is_finished new) new fed (append taken (Cons (sexp_of tree) Nil))
+        ⊎ Keeps (is_finished new) new fed (append taken (Cons (sexp_of first.tree) Nil))
     by (inl memory) = inl (f ∙ memory)
-    by (inr k) = inr (subst (λ b. Keeps b new fed (append taken (Cons (sexp_of tree) Nil))) (sym e)
-        (handed (is_finished old) old new fed taken (append taken (Cons (sexp_of tree) Nil)) m f same
+    by (inr k) = inr (subst (λ b. Keeps b new fed (append taken (Cons (sexp_of first.tree) Nil))) (sym e)
+        (handed (is_finished old) old new fed taken (append taken (Cons (sexp_of first.tree) Nil)) m f same
         all k))

@@ -78,7 +78,7 @@ white_step : (max_depth : ℕ) (levels : Levels) (token : AtomState) (said : Lis
 white_step max_depth levels token said b e h =
     step-at max_depth (At token said levels) b (Finish Nothing) (e ∙ white_separates b h)
 
-close_step : (max_depth : ℕ) (levels next : Levels) (token : AtomState) (said : List ℕ) (b : ℕ)
+pub close_step : (max_depth : ℕ) (levels next : Levels) (token : AtomState) (said : List ℕ) (b : ℕ)
     → lex token b ≡ separated b → b ≡ 41 → 0 < depth_of levels
     → ended (add_if (atom_of token said) levels) ≡ next
     → step max_depth (At token said levels) b ≡ Some (At Nothing [] next)
@@ -86,7 +86,7 @@ close_step max_depth levels next token said b s e h k =
     step-at max_depth (At token said levels) b Close (s ∙ ap separated e) ∙ end_taken max_depth
     (At token said levels) next h k
 
-at_nothing : (token : AtomState) (bytes : List ℕ) (levels : Levels) → token ≡ Nothing → bytes ≡ []
+pub at_nothing : (token : AtomState) (bytes : List ℕ) (levels : Levels) → token ≡ Nothing → bytes ≡ []
     → At Nothing [] levels ≡ At token bytes levels
 at_nothing token bytes levels e f = ap (λ t. At t [] levels) (sym e) ∙ ap (λ x. At token x levels) (sym f)
 
@@ -94,7 +94,7 @@ at_nothing token bytes levels e f = ap (λ t. At t [] levels) (sym e) ∙ ap (λ
 abbrev pub rest_of : List ℕ → ℕ → List ℕ
 rest_of piece place = take (length piece - place) (drop place piece)
 
-rest_is : (piece : List ℕ) (place : ℕ) → rest_of piece place ≡ drop place piece
+pub rest_is : (piece : List ℕ) (place : ℕ) → rest_of piece place ≡ drop place piece
 rest_is piece place =
     take_all (length piece - place) (drop place piece) (omega (arith, length-drop place piece))
 
@@ -156,7 +156,7 @@ kept_on token text mark known count first found k lt = by (cases_lt k known)
         ap (lex token) at ∙ found n (omega arith)
 
 -- an atom behind its mark
-marked_run : (max_depth : ℕ) (s : State) (text : List ℕ) (mark n : ℕ) (token : AtomState) → BeginsAtom max_depth s text mark token → 0 < n
+pub marked_run : (max_depth : ℕ) (s : State) (text : List ℕ) (mark n : ℕ) (token : AtomState) → BeginsAtom max_depth s text mark token → 0 < n
     → mark + n ≤ length text
     → ((k : ℕ) → k < n → lex token (get_or (rest_of text mark) k 0) ≡ Push token)
     → run max_depth s (take (mark + n) text) ≡ Some (At token (take n (rest_of text mark)) (levels_in s))

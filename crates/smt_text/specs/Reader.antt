@@ -2,7 +2,8 @@
 -- project's rules.
 use Rattle.std.specs.Prelude.{◌≡◌, ◌⊎◌, ℕ, List, ◌+◌, length, Bool, true, false, Option, Some, None, option_map}
 use Rattle.smt_text.specs.Reading.{Reads}
-use Rattle.smt_text.specs.Internal.ReaderState.{GoesOnFrom, flaw_found}
+use Rattle.smt_text.specs.Internal.LexerStates.{start}
+use Rattle.smt_text.specs.Internal.ReaderState.{AreWhole, GoesOnFrom, IsWholeAt, flaw_found, trees_in}
 use Rattle.smt_trees.specs.Sexp.{Sexps, Nil, Cons, append}
 use Rattle.smt_trees.specs.Owned.{sexp_of, sexps_of}
 use Rattle.smt_faults.specs.declared.text_fault.TextFault.{TextFault}
@@ -34,7 +35,7 @@ flaw_of reader = flaw_found reader.failure
 
 -- the trees that are complete and were not handed out
 abbrev pub trees_ready : Reader → Sexps
-trees_ready reader = sexps_of reader.builder.ready.items
+trees_ready reader = sexps_of (trees_in reader.builder.ready.items)
 
 abbrev pub trees_waiting : Reader → ℕ
 trees_waiting reader = length reader.builder.ready.items
@@ -51,6 +52,18 @@ abbrev pub StandsFor : Reader → List ℕ → Sexps → Type 0
 StandsFor reader fed taken =
     (bytes_fed reader ≡ length fed)
     × ((reader.failure ≡ Some failures.Memory) ⊎ Keeps (is_finished reader) reader fed taken)
+
+-- how many bytes the text has up to the end of the last tree that was handed out
+abbrev pub end_of_trees : Reader → ℕ
+end_of_trees reader = reader.tree_end
+
+-- up to the end of the last of the trees that were handed out, and of each one that is ready, the bytes fed are
+-- read to the trees up to there. Want of memory says nothing of those that are ready
+unfoldable pub KeepsEnds : Reader → List ℕ → Sexps → Type 0
+KeepsEnds reader fed taken =
+    IsWholeAt (depth_limit reader) start fed (end_of_trees reader) taken
+    × ((reader.failure ≡ Some failures.Memory)
+    ⊎ AreWhole (depth_limit reader) fed taken reader.builder.ready.items)
 
 -- the trees that were handed out, after this answer
 abbrev pub with_answer : Sexps → Next → Sexps

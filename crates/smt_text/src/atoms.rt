@@ -2,28 +2,36 @@
 
 ghost use Rattle.std.specs.Prelude.{◌≡◌, IfOk};
 ghost use Rattle.smt_text.specs.Internal.LexerStates.{add, add_if, atom_of, name_or_word, word_named};
-ghost use Rattle.smt_text.specs.Internal.ReaderState.{levels_of};
+ghost use Rattle.smt_text.specs.Internal.ReaderState.{levels_of, EndsTree};
 
 use crate::builder::Builder;
 use crate::lexer::AtomState;
+use crate::mark::Mark;
 use crate::reserved::word_of;
 use smt_faults::Memory;
 use smt_trees::Kind;
 
-/// Adds the atom that a token of these bytes is, if it is one.
+/// Adds the atom that a token of these bytes is, if it is one. The token ends at a mark.
 #[inline(always)]
-pub(crate) fn add_token(builder: &mut Builder, token: AtomState, bytes: &[u8]) -> Result<(), Memory>
-    ensures { IfOk result (λ _. levels_of builder.new ≡ add_if (atom_of token bytes.now) (levels_of builder.old)) }
+pub(crate) fn add_token(
+    builder: &mut Builder,
+    token: AtomState,
+    bytes: &[u8],
+    end: Mark,
+) -> Result<(), Memory>
+    ensures levels { IfOk result
+        (λ _. levels_of builder.new ≡ add_if (atom_of token bytes.now) (levels_of builder.old)) }
+    ensures ready { IfOk result (λ _. EndsTree end builder.old builder.new) }
 {
     match token {
-        AtomState::Name => add_name(builder, bytes),
-        AtomState::Zero | AtomState::Digits => builder.add_atom(Kind::Numeral, bytes),
-        AtomState::Fraction => builder.add_atom(Kind::Decimal, bytes),
-        AtomState::HexDigits => builder.add_atom(Kind::Hex, bytes),
-        AtomState::BinDigits => builder.add_atom(Kind::Bin, bytes),
-        AtomState::KeywordName => builder.add_atom(Kind::Keyword, bytes),
-        AtomState::TextQuote => builder.add_atom(Kind::Text, bytes),
-        AtomState::InBars => builder.add_atom(Kind::Symbol, bytes),
+        AtomState::Name => add_name(builder, bytes, end),
+        AtomState::Zero | AtomState::Digits => builder.add_atom(Kind::Numeral, bytes, end),
+        AtomState::Fraction => builder.add_atom(Kind::Decimal, bytes, end),
+        AtomState::HexDigits => builder.add_atom(Kind::Hex, bytes, end),
+        AtomState::BinDigits => builder.add_atom(Kind::Bin, bytes, end),
+        AtomState::KeywordName => builder.add_atom(Kind::Keyword, bytes, end),
+        AtomState::TextQuote => builder.add_atom(Kind::Text, bytes, end),
+        AtomState::InBars => builder.add_atom(Kind::Symbol, bytes, end),
         AtomState::Nothing
         | AtomState::Point
         | AtomState::Hash
@@ -38,12 +46,13 @@ pub(crate) fn add_token(builder: &mut Builder, token: AtomState, bytes: &[u8]) -
 
 // Adds the reserved word or the simple symbol that these bytes spell.
 #[inline(always)]
-fn add_name(builder: &mut Builder, bytes: &[u8]) -> Result<(), Memory>
-    ensures { IfOk result (λ _. levels_of builder.new
+fn add_name(builder: &mut Builder, bytes: &[u8], end: Mark) -> Result<(), Memory>
+    ensures levels { IfOk result (λ _. levels_of builder.new
         ≡ add (name_or_word (word_named bytes.now) bytes.now) (levels_of builder.old)) }
+    ensures ready { IfOk result (λ _. EndsTree end builder.old builder.new) }
 {
     match word_of(bytes) {
-        Some(word) => builder.add_word(word),
-        None => builder.add_atom(Kind::Symbol, bytes),
+        Some(word) => builder.add_word(word, end),
+        None => builder.add_atom(Kind::Symbol, bytes, end),
     }
 }

@@ -1,7 +1,9 @@
 //! Trees, built from tokens in order. This file knows no bytes of a text.
 
 ghost use Rattle.std.specs.Prelude.{◌≡◌, [], ◌∷◌, ◌++◌, IfOk};
+ghost use Rattle.smt_text.specs.Internal.ReaderState.{place_of};
 
+use crate::mark::Mark;
 use smt_faults::Memory;
 use smt_trees::{Kind, OwnedTree, Tape, Word};
 use std::alloc::Global;
@@ -14,18 +16,26 @@ pub(crate) struct Builder {
     /// The list at the top that is not closed, if there is one, and the lists in it.
     list: Tape,
     /// The trees at the top that were not returned yet.
-    ready: VecDeque<OwnedTree>,
+    ready: VecDeque<Ready>,
+}
+
+/// A tree at the top, and how many bytes the text has up to its end.
+#[derive(Drop)]
+pub(crate) struct Ready {
+    pub(crate) tree: OwnedTree,
+    pub(crate) end: u64,
 }
 
 impl Builder {
     ghost use Rattle.std.specs.Prelude.{◌<◌, MatchOption};
     ghost use Rattle.smt_text.specs.Internal.LexerStates.{On, add, begun, ended, depth_of};
-    ghost use Rattle.smt_text.specs.Internal.ReaderState.{levels_of};
+    ghost use Rattle.smt_text.specs.Internal.ReaderState.{levels_of, EndsTree};
     ghost use Rattle.smt_trees.specs.Sexp.{Atom, Nil, Reserved};
     ghost use Rattle.smt_trees.specs.Tape.{kind_of};
 
     pub(crate) fn new(alloc: Global) -> Self
-        ensures { levels_of result ≡ On [] Nil }
+        ensures levels { levels_of result ≡ On [] Nil }
+        ensures ready { result.ready.items ≡ [] }
     {
         Builder {
             alloc,
@@ -42,27 +52,30 @@ impl Builder {
         self.list.depth()
     }
 
-    /// Adds an atom to the innermost list that is not closed, or at the top.
+    /// Adds an atom, which ends at a mark, to the innermost list that is not closed, or at the top.
     #[inline(always)]
-    pub(crate) fn add_atom(&mut self, kind: Kind, bytes: &[u8]) -> Result<(), Memory>
-        ensures { IfOk result (λ _. levels_of self.new ≡ add (Atom (kind_of kind) bytes.now) (levels_of self.old)) }
+    pub(crate) fn add_atom(&mut self, kind: Kind, bytes: &[u8], end: Mark) -> Result<(), Memory>
+        ensures levels { IfOk result
+            (λ _. levels_of self.new ≡ add (Atom (kind_of kind) bytes.now) (levels_of self.old)) }
+        ensures ready { IfOk result (λ _. EndsTree end self.old self.new) }
     {
         if self.list.depth() == 0 {
             let atom = OwnedTree::atom(self.alloc, kind, bytes)?;
-            return push_ready(&mut self.ready, atom);
+            return push_ready(&mut self.ready, atom, end);
         }
         self.list.add_atom(kind, bytes)?;
         Ok(())
     }
 
-    /// Adds a reserved word to the innermost list that is not closed, or at the top.
+    /// Adds a reserved word, which ends at a mark, to the innermost list that is not closed, or at the top.
     #[inline(always)]
-    pub(crate) fn add_word(&mut self, word: Word) -> Result<(), Memory>
-        ensures { IfOk result (λ _. levels_of self.new ≡ add (Reserved word) (levels_of self.old)) }
+    pub(crate) fn add_word(&mut self, word: Word, end: Mark) -> Result<(), Memory>
+        ensures levels { IfOk result (λ _. levels_of self.new ≡ add (Reserved word) (levels_of self.old)) }
+        ensures ready { IfOk result (λ _. EndsTree end self.old self.new) }
     {
         if self.list.depth() == 0 {
             let word = OwnedTree::word(self.alloc, word)?;
-            return push_ready(&mut self.ready, word);
+            return push_ready(&mut self.ready, word, end);
         }
         self.list.add_word(word)?;
         Ok(())
@@ -71,41 +84,46 @@ impl Builder {
     /// Begins a list.
     #[inline(always)]
     pub(crate) fn begin_list(&mut self) -> Result<(), Memory>
-        ensures { IfOk result (λ _. levels_of self.new ≡ begun (levels_of self.old)) }
+        ensures levels { IfOk result (λ _. levels_of self.new ≡ begun (levels_of self.old)) }
+        ensures ready { self.new.ready ≡ self.old.ready }
     {
         self.list.begin_list()?;
         Ok(())
     }
 
-    /// Closes the innermost list.
+    /// Closes the innermost list, which ends at a mark.
     #[inline(always)]
-    pub(crate) fn end_list(&mut self) -> Result<(), Memory>
+    pub(crate) fn end_list(&mut self, end: Mark) -> Result<(), Memory>
         requires { 0 < depth_of (levels_of self.old) }
-        ensures { IfOk result (λ _. ended (levels_of self.old) ≡ levels_of self.new) }
+        ensures levels { IfOk result (λ _. ended (levels_of self.old) ≡ levels_of self.new) }
+        ensures ready { IfOk result (λ _. EndsTree end self.old self.new) }
     {
         if self.list.depth() == 1 {
             let list = self.list.take(self.alloc)?;
-            return push_ready(&mut self.ready, list);
+            return push_ready(&mut self.ready, list, end);
         }
         self.list.end_list()?;
         Ok(())
     }
 
     /// Takes the first of the trees that are ready; `None` where none is.
-    pub(crate) fn hand_out(&mut self) -> Option<OwnedTree>
+    pub(crate) fn hand_out(&mut self) -> Option<Ready>
         ensures list { self.new.list ≡ self.old.list }
         ensures first { MatchOption result ((self.old.ready.items ≡ []) × (self.new.ready.items ≡ []))
-            (λ tree. self.old.ready.items ≡ tree ∷ self.new.ready.items) }
+            (λ first. self.old.ready.items ≡ first ∷ self.new.ready.items) }
     {
         self.ready.pop_front()
     }
 }
 
-// Appends a tree to those that are ready. Few trees are at the top, so this is not inlined.
+// Appends a tree, which ends at a mark, to those that are ready. Few trees are at the top, so this is not
+// inlined, and only here the place of a mark is worked out.
 #[inline(never)]
-fn push_ready(ready: &mut VecDeque<OwnedTree>, tree: OwnedTree) -> Result<(), Memory>
-    ensures { IfOk result (λ _. ready.new.items ≡ ready.old.items ++ tree ∷ []) }
+fn push_ready(ready: &mut VecDeque<Ready>, tree: OwnedTree, end: Mark) -> Result<(), Memory>
+    ensures { IfOk result
+        (λ _. ready.new.items ≡ ready.old.items ++ record { tree = tree; end = place_of end } ∷ []) }
 {
-    ready.push_back(tree)?;
+    let end = end.place();
+    ready.push_back(Ready { tree, end })?;
     Ok(())
 }

@@ -108,6 +108,14 @@ impl AtomState {
         }
     }
 
+    /// How many bytes of a token the byte is that ended it, where the text goes on as this: a quoted symbol ends
+    /// with its second bar, all else before the byte.
+    pub(crate) fn own_end(self) -> usize
+        ensures { result ≡ machine.own_end self }
+    {
+        usize::from(matches!(self, AtomState::AfterBar))
+    }
+
     /// The number of bytes at the beginning of a text that the token keeps without changing its state.
     #[inline]
     pub(crate) fn run_length(self, text: &[u8]) -> usize

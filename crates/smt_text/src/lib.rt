@@ -29,6 +29,7 @@ mod builder;
 mod byte_class;
 pub mod laws;
 mod lexer;
+mod mark;
 mod position;
 mod reader;
 mod refusal;

@@ -3,13 +3,14 @@
 ghost use Rattle.std.specs.Prelude.{◌≡◌, ◌≢◌, ℕ, ◌+◌, ◌<◌, ◌≤◌, ◌^◌, List, [], ◌∷◌, ◌++◌, length};
 ghost use Rattle.std.specs.Prelude.{slice_index, take, true, false, None, Some, IfOk, MatchBool, MatchResult};
 ghost use Rattle.smt_text.specs.Grammar.{max_depth, OpenParenthesis, CloseParenthesis};
-ghost use Rattle.smt_text.specs.Reader.{is_finished, bytes_fed, depth_limit, fault_of, trees_waiting};
-ghost use Rattle.smt_text.specs.Reader.{Answers, FewerWait, IsFound, StandsFor, with_answer};
+ghost use Rattle.smt_text.specs.Reader.{is_finished, bytes_fed, depth_limit, end_of_trees, fault_of};
+ghost use Rattle.smt_text.specs.Reader.{trees_waiting, Answers, FewerWait, IsFound, KeepsEnds, StandsFor};
+ghost use Rattle.smt_text.specs.Reader.{with_answer};
 ghost use Rattle.smt_text.specs.Internal.LexerStates.{act, add_if, atom_of, finished, flush, lex, refusal_of};
 ghost use Rattle.smt_text.specs.Internal.LexerStates.{settle, step};
-ghost use Rattle.smt_text.specs.Internal.ReaderState.{levels_of, state_of, BeginsAtom, Ends, Goes, GoesOn, GoesOver};
-ghost use Rattle.smt_text.specs.Internal.ReaderState.{GoesThrough};
-ghost use Rattle.smt_text.specs.Internal.ReaderState.{IsBeside};
+ghost use Rattle.smt_text.specs.Internal.ReaderState.{levels_of, state_of, BeginsAtom, Ends, EndsTree, Goes};
+ghost use Rattle.smt_text.specs.Internal.ReaderState.{GoesOn, GoesOver, GoesThrough, IfRead, IsBeside, Marks, Pushed};
+ghost use Rattle.smt_text.specs.Internal.ReaderState.{PushedBy, UnlessRefused};
 ghost use Rattle.smt_text.specs.Reading.{Reads};
 ghost use Rattle.smt_trees.specs.Owned.{sexps_of};
 ghost use Rattle.smt_trees.specs.Sexp.{Sexps, Nil};
@@ -26,6 +27,7 @@ use crate::atoms::add_token;
 use crate::builder::Builder;
 use crate::byte_class::{is_letter, is_nonzero_digit, is_white};
 use crate::lexer::{AtomState, LexerStep, comment_length};
+use crate::mark::Mark;
 use crate::refusal::Refusal;
 use smt_faults::{Failure, Memory, TextFault, TextFlaw};
 use smt_trees::OwnedTree;
@@ -54,6 +56,8 @@ pub struct Reader {
     /// How deep lists may nest.
     max_depth: usize,
     fed: u64,
+    /// How many bytes the text has up to the end of the last tree that was returned.
+    tree_end: u64,
     finished: bool,
     /// Where in a token the text is, and the bytes of the token so far.
     token: AtomState,
@@ -71,10 +75,12 @@ impl Reader {
         ensures fault { fault_of result ≡ None }
         ensures fed { bytes_fed result ≡ 0 }
         ensures limit { depth_limit result ≡ max_depth }
+        ensures ends { KeepsEnds result [] Nil }
     {
         Reader {
             max_depth,
             fed: 0,
+            tree_end: 0,
             finished: false,
             token: AtomState::Nothing,
             bytes: Vec::new(alloc),
@@ -94,6 +100,8 @@ impl Reader {
         ensures counted { bytes_fed self.new ≡ bytes_fed self.old + length piece.now }
         ensures limit { depth_limit self.new ≡ depth_limit self.old }
         ensures fault { (f : Fault) → fault_of self.old ≡ Some f → fault_of self.new ≡ Some f }
+        ensures ends { (fed : List ℕ) (taken : Sexps) → StandsFor self.old fed taken
+            → KeepsEnds self.old fed taken → KeepsEnds self.new (fed ++ piece.now) taken }
     {
         if self.failure.is_none() {
             self.failure = self.read(piece).err();
@@ -109,6 +117,16 @@ impl Reader {
         self.fed
     }
 
+    /// The number of bytes of the text up to the end of the last tree that `next` returned; 0 where it returned
+    /// none. That tree stands between this place and the one before, after white space and comments.
+    pub fn tree_end(&self) -> u64
+        ensures end { result ≡ end_of_trees self.now }
+        ensures reads { (fed : List ℕ) (taken : Sexps) → KeepsEnds self.now fed taken → (result ≤ length fed)
+            × Reads (depth_limit self.now) true (take result fed) taken None }
+    {
+        self.tree_end
+    }
+
     /// Ends the text: no more bytes come.
     pub fn finish(&mut self)
         requires unfinished { is_finished self.old ≡ false }
@@ -118,6 +136,8 @@ impl Reader {
         ensures counted { bytes_fed self.new ≡ bytes_fed self.old }
         ensures limit { depth_limit self.new ≡ depth_limit self.old }
         ensures fault { (f : Fault) → fault_of self.old ≡ Some f → fault_of self.new ≡ Some f }
+        ensures ends { (fed : List ℕ) (taken : Sexps) → StandsFor self.old fed taken
+            → KeepsEnds self.old fed taken → KeepsEnds self.new fed taken }
     {
         self.finished = true;
         if self.failure.is_none() {
@@ -138,12 +158,15 @@ impl Reader {
         ensures found { IsFound (fault_of self.old) result }
         ensures refused { fault_of self.old ≡ Some OutOfMemory → result ≡ Next.Fault OutOfMemory }
         ensures fewer { FewerWait (trees_waiting self.old) (trees_waiting self.new) result }
+        ensures ends { (fed : List ℕ) (taken : Sexps) → KeepsEnds self.old fed taken
+            → KeepsEnds self.new fed (with_answer taken result) }
     {
         if self.is_refused() {
             return Next::Fault(TextFault::Memory);
         }
-        if let Some(tree) = self.builder.hand_out() {
-            return Next::Tree(tree);
+        if let Some(first) = self.builder.hand_out() {
+            self.tree_end = first.end;
+            return Next::Tree(first.tree);
         }
         match self.failure {
             Some(failure) => Next::Fault(TextFault::from(failure)),
@@ -166,10 +189,13 @@ impl Reader {
         ensures beside { IsBeside self.old self.new }
         ensures goes { GoesThrough self.old.max_depth (state_of self.old) self.old.fed piece.now result
             (state_of self.new) }
+        ensures marks { UnlessRefused result
+            (Marks (self.old.fed + length piece.now) self.old piece.now self.new) }
     {
+        let limit = self.fed + piece.len() as u64;
         let mut place = 0;
         while place < piece.len() {
-            match self.read_some(&piece[place..]) {
+            match self.read_some(&piece[place..], limit) {
                 Ok(count) => place += count,
                 Err(Failure::Fault(refusal)) => {
                     return Err(Failure::Fault(refusal.at(self.fed + place as u64)));
@@ -180,44 +206,48 @@ impl Reader {
         Ok(())
     }
 
-    // Reads some bytes of a text that is not empty, and returns how many.
-    fn read_some(&mut self, text: &[u8]) -> Result<usize, Failure<Refusal>>
+    // Reads some bytes of a text that is not empty, and returns how many. At the limit the whole text has as many
+    // bytes as it has up to the end of this one.
+    fn read_some(&mut self, text: &[u8], limit: u64) -> Result<usize, Failure<Refusal>>
         requires { 0 < length text.now }
         ensures beside { IsBeside self.old self.new }
         ensures goes { GoesOver self.old.max_depth (state_of self.old) text.now result (state_of self.new) }
+        ensures marks { UnlessRefused result (Marks limit self.old text.now self.new) }
     {
         match self.token {
-            AtomState::Nothing if self.bytes.is_empty() => self.read_between(text),
-            AtomState::InComment => self.read_comment(text),
-            _ => self.read_run(text),
+            AtomState::Nothing if self.bytes.is_empty() => self.read_between(text, limit),
+            AtomState::InComment => self.read_comment(text, limit),
+            _ => self.read_run(text, limit),
         }
     }
 
     // Reads on where no token has begun.
-    fn read_between(&mut self, text: &[u8]) -> Result<usize, Failure<Refusal>>
+    fn read_between(&mut self, text: &[u8], limit: u64) -> Result<usize, Failure<Refusal>>
         requires some { 0 < length text.now }
         requires token { self.old.token ≡ Nothing }
         requires bytes { self.old.bytes.items ≡ [] }
         ensures beside { IsBeside self.old self.new }
         ensures goes { GoesOver self.old.max_depth (state_of self.old) text.now result (state_of self.new) }
+        ensures marks { UnlessRefused result (Marks limit self.old text.now self.new) }
     {
-        let count = self.read_tokens(text)?;
+        let count = self.read_tokens(text, limit)?;
         if count == 0 {
-            return self.read_byte(text);
+            return self.read_byte(text, limit);
         }
         Ok(count)
     }
 
     // Reads the tokens that end within a text, from its beginning on, and the white space between them.
-    fn read_tokens(&mut self, text: &[u8]) -> Result<usize, Memory>
+    fn read_tokens(&mut self, text: &[u8], limit: u64) -> Result<usize, Memory>
         requires token { self.old.token ≡ Nothing }
         requires bytes { self.old.bytes.items ≡ [] }
         ensures beside { IsBeside self.old self.new }
         ensures goes { IfOk result (λ count. GoesOn self.old text.now count self.new) }
+        ensures marks { IfOk result (λ _. Marks limit self.old text.now self.new) }
     {
         let mut place = 0;
         while place < text.len() {
-            let count = self.read_token(&text[place..])?;
+            let count = self.read_token(&text[place..], limit)?;
             if count == 0 {
                 return Ok(place);
             }
@@ -229,43 +259,55 @@ impl Reader {
     // Reads an atom that ends, a parenthesis or white space at the beginning of a text that is not empty. It
     // reads nothing where something else is there, or something rare.
     #[inline(always)]
-    fn read_token(&mut self, text: &[u8]) -> Result<usize, Memory>
+    fn read_token(&mut self, text: &[u8], limit: u64) -> Result<usize, Memory>
         requires some { 0 < length text.now }
         requires token { self.old.token ≡ Nothing }
         requires bytes { self.old.bytes.items ≡ [] }
         ensures beside { IsBeside self.old self.new }
         ensures goes { IfOk result (λ count. GoesOn self.old text.now count self.new) }
+        ensures marks { IfOk result (λ _. Marks limit self.old text.now self.new) }
     {
         match text[0] {
             b'(' if self.builder.depth() < self.max_depth => {
                 self.builder.begin_list()?;
                 Ok(1)
             }
-            first if is_letter(first) => self.read_atom(text, 0, 1, AtomState::Name),
+            first if is_letter(first) => self.read_atom(text, limit, 0, 1, AtomState::Name),
             b' ' | b'\n' => Ok(1),
             b')' if self.builder.depth() > 0 => {
-                self.builder.end_list()?;
+                self.builder.end_list(Mark {
+                    limit,
+                    left: text.len(),
+                    read: 1,
+                })?;
                 Ok(1)
             }
-            first if is_nonzero_digit(first) => self.read_atom(text, 0, 1, AtomState::Digits),
-            b'#' => self.read_literal(text),
+            first if is_nonzero_digit(first) => self.read_atom(
+                text,
+                limit,
+                0,
+                1,
+                AtomState::Digits,
+            ),
+            b'#' => self.read_literal(text, limit),
             _ => Ok(0),
         }
     }
 
     // Reads a literal of a bit vector, and the byte after it, where that ends it.
     #[inline(always)]
-    fn read_literal(&mut self, text: &[u8]) -> Result<usize, Memory>
+    fn read_literal(&mut self, text: &[u8], limit: u64) -> Result<usize, Memory>
         requires some { 0 < length text.now }
         requires first { slice_index text.now 0 ≡ 35 }
         requires token { self.old.token ≡ Nothing }
         requires bytes { self.old.bytes.items ≡ [] }
         ensures beside { IsBeside self.old self.new }
         ensures goes { IfOk result (λ count. GoesOn self.old text.now count self.new) }
+        ensures marks { IfOk result (λ _. Marks limit self.old text.now self.new) }
     {
         match text.get(1) {
-            Some(b'x') => self.read_atom(text, 2, 0, AtomState::HexDigits),
-            Some(b'b') => self.read_atom(text, 2, 0, AtomState::BinDigits),
+            Some(b'x') => self.read_atom(text, limit, 2, 0, AtomState::HexDigits),
+            Some(b'b') => self.read_atom(text, limit, 2, 0, AtomState::BinDigits),
             _ => Ok(0),
         }
     }
@@ -276,6 +318,7 @@ impl Reader {
     fn read_atom(
         &mut self,
         text: &[u8],
+        limit: u64,
         mark: usize,
         known: usize,
         token: AtomState,
@@ -287,6 +330,7 @@ impl Reader {
         requires bytes { self.old.bytes.items ≡ [] }
         ensures beside { IsBeside self.old self.new }
         ensures goes { IfOk result (λ count. GoesOn self.old text.now count self.new) }
+        ensures marks { IfOk result (λ _. Marks limit self.old text.now self.new) }
     {
         let said = &text[mark..];
         let count = known + token.run_length(&said[known..]);
@@ -298,69 +342,91 @@ impl Reader {
         if !closes && !is_white(text[end]) {
             return Ok(0);
         }
-        self.add_atom(token, said, count)?;
+        let left = text.len();
+        self.add_atom(
+            token,
+            said,
+            count,
+            Mark {
+                limit,
+                left,
+                read: end,
+            },
+        )?;
+        let read = end + 1;
         if closes {
-            self.builder.end_list()?;
+            self.builder.end_list(Mark { limit, left, read })?;
         }
-        Ok(end + 1)
+        Ok(read)
     }
 
-    // Adds the atom that a token of the first `count` bytes of a text is, if it is one.
+    // Adds the atom that a token of the first `count` bytes of a text is, if it is one. It ends at a mark.
     #[inline(always)]
-    fn add_atom(&mut self, token: AtomState, text: &[u8], count: usize) -> Result<(), Memory>
+    fn add_atom(
+        &mut self,
+        token: AtomState,
+        text: &[u8],
+        count: usize,
+        end: Mark,
+    ) -> Result<(), Memory>
         requires { count ≤ length text.now }
         ensures beside { IsBeside self.old self.new }
         ensures token { self.new.token ≡ self.old.token }
         ensures bytes { self.new.bytes ≡ self.old.bytes }
         ensures added { IfOk result (λ _. levels_of self.new.builder
             ≡ add_if (atom_of token (take count text.now)) (levels_of self.old.builder)) }
+        ensures ready { IfOk result (λ _. EndsTree end self.old.builder self.new.builder) }
     {
-        add_token(&mut self.builder, token, &text[..count])
+        add_token(&mut self.builder, token, &text[..count], end)
     }
 
     // Reads on in a comment.
-    fn read_comment(&mut self, text: &[u8]) -> Result<usize, Failure<Refusal>>
+    fn read_comment(&mut self, text: &[u8], limit: u64) -> Result<usize, Failure<Refusal>>
         requires some { 0 < length text.now }
         requires token { self.old.token ≡ InComment }
         ensures beside { IsBeside self.old self.new }
         ensures goes { GoesOver self.old.max_depth (state_of self.old) text.now result (state_of self.new) }
+        ensures marks { UnlessRefused result (Marks limit self.old text.now self.new) }
     {
         let count = comment_length(text);
         if count == 0 {
-            return self.read_byte(text);
+            return self.read_byte(text, limit);
         }
         Ok(count)
     }
 
     // Reads on in a token that has begun.
-    fn read_run(&mut self, text: &[u8]) -> Result<usize, Failure<Refusal>>
+    fn read_run(&mut self, text: &[u8], limit: u64) -> Result<usize, Failure<Refusal>>
         requires { 0 < length text.now }
         ensures beside { IsBeside self.old self.new }
         ensures goes { GoesOver self.old.max_depth (state_of self.old) text.now result (state_of self.new) }
+        ensures marks { UnlessRefused result (Marks limit self.old text.now self.new) }
     {
         let count = self.token.run_length(text);
         if count == 0 {
-            return self.read_byte(text);
+            return self.read_byte(text, limit);
         }
         self.bytes.extend_from_slice(&text[..count])?;
         Ok(count)
     }
 
     // Reads the first byte of a text.
-    fn read_byte(&mut self, text: &[u8]) -> Result<usize, Failure<Refusal>>
+    fn read_byte(&mut self, text: &[u8], limit: u64) -> Result<usize, Failure<Refusal>>
         requires { 0 < length text.now }
         ensures beside { IsBeside self.old self.new }
         ensures goes { GoesOver self.old.max_depth (state_of self.old) text.now result (state_of self.new) }
+        ensures marks { UnlessRefused result (Marks limit self.old text.now self.new) }
     {
-        self.advance(text[0])?;
+        self.advance(text[0], limit, text.len())?;
         Ok(1)
     }
 
-    // Reads one byte, where nothing has failed before.
-    fn advance(&mut self, byte: u8) -> Result<(), Failure<Refusal>>
+    // Reads one byte, the first of those left of a piece, where nothing has failed before.
+    fn advance(&mut self, byte: u8, limit: u64, left: usize) -> Result<(), Failure<Refusal>>
         ensures beside { IsBeside self.old self.new }
         ensures goes { Goes (step self.old.max_depth (state_of self.old) byte) (refusal_of (lex self.old.token byte))
             (state_of self.old) result (state_of self.new) }
+        ensures pushed { IfRead result self.old self.new (PushedBy limit left self.old self.new) }
     {
         match self.token.after(byte) {
             LexerStep::Push(token) => {
@@ -373,50 +439,71 @@ impl Reader {
                 Ok(())
             }
             LexerStep::Finish(token) => {
-                self.finish_token(token)?;
+                let read = token.own_end();
+                self.finish_token(token, Mark { limit, left, read })?;
                 Ok(())
             }
-            LexerStep::Open => self.begin_list(),
-            LexerStep::Close => self.end_list(),
+            LexerStep::Open => self.begin_list(Mark {
+                limit,
+                left,
+                read: 0,
+            }),
+            LexerStep::Close => self.end_list(limit, left),
             LexerStep::Stuck => Err(Failure::Fault(Refusal::Unfit)),
         }
     }
 
-    // Ends the token that has begun, and begins a list.
-    fn begin_list(&mut self) -> Result<(), Failure<Refusal>>
+    // Ends the token that has begun, at a mark, and begins a list.
+    fn begin_list(&mut self, end: Mark) -> Result<(), Failure<Refusal>>
         ensures beside { IsBeside self.old self.new }
         ensures goes { Goes (settle (act self.old.max_depth OpenParenthesis (flush (state_of self.old)))) TooDeep
             (state_of self.old) result (state_of self.new) }
+        ensures pushed { IfRead result self.old self.new (Pushed end (state_of self.old) self.old self.new) }
     {
         if self.builder.depth() >= self.max_depth {
             return Err(Failure::Fault(Refusal::TooDeep));
         }
-        self.finish_token(AtomState::Nothing)?;
+        self.finish_token(AtomState::Nothing, end)?;
         self.builder.begin_list()?;
         Ok(())
     }
 
-    // Ends the token that has begun, and the innermost list.
-    fn end_list(&mut self) -> Result<(), Failure<Refusal>>
+    // Ends the token that has begun, and the innermost list, which ends with the first byte of those left of a
+    // piece.
+    fn end_list(&mut self, limit: u64, left: usize) -> Result<(), Failure<Refusal>>
         ensures beside { IsBeside self.old self.new }
         ensures goes { Goes (settle (act self.old.max_depth CloseParenthesis (flush (state_of self.old)))) Unfit
             (state_of self.old) result (state_of self.new) }
+        ensures pushed { IfRead result self.old self.new
+            (Pushed (record { limit = limit; left = left; read = 1 }) (state_of self.new) self.old self.new) }
     {
         if self.builder.depth() == 0 {
             return Err(Failure::Fault(Refusal::Unfit));
         }
-        self.finish_token(AtomState::Nothing)?;
-        self.builder.end_list()?;
+        self.finish_token(
+            AtomState::Nothing,
+            Mark {
+                limit,
+                left,
+                read: 0,
+            },
+        )?;
+        self.builder.end_list(Mark {
+            limit,
+            left,
+            read: 1,
+        })?;
         Ok(())
     }
 
-    // Ends the token that has begun, and adds its atom, if it has one.
-    fn finish_token(&mut self, next: AtomState) -> Result<(), Memory>
+    // Ends the token that has begun, at a mark, and adds its atom, if it has one.
+    fn finish_token(&mut self, next: AtomState, end: Mark) -> Result<(), Memory>
         ensures beside { IsBeside self.old self.new }
         ensures finished { IfOk result (λ _. finished next (state_of self.old) ≡ state_of self.new) }
+        ensures ready { IfOk result (λ _. EndsTree end self.old.builder self.new.builder) }
     {
         let token = mem::replace(&mut self.token, next);
-        add_token(&mut self.builder, token, self.bytes.as_slice())?;
+        add_token(&mut self.builder, token, self.bytes.as_slice(), end)?;
         self.bytes.clear();
         Ok(())
     }
@@ -425,11 +512,18 @@ impl Reader {
     fn close_text(&mut self) -> Result<(), Failure<TextFlaw>>
         ensures beside { IsBeside self.old self.new }
         ensures ends { Ends (state_of self.old) self.old.fed result (state_of self.new) }
+        ensures pushed { IfRead result self.old self.new (Pushed (record { limit = self.old.fed; left = 0; read = 0 })
+            (state_of self.old) self.old self.new) }
     {
         if self.builder.depth() > 0 || !self.token.may_end() {
             return Err(Failure::Fault(TextFlaw::End { place: self.fed }));
         }
-        self.finish_token(AtomState::Nothing)?;
+        let end = Mark {
+            limit: self.fed,
+            left: 0,
+            read: 0,
+        };
+        self.finish_token(AtomState::Nothing, end)?;
         Ok(())
     }
 }

@@ -139,6 +139,11 @@ may_end TextQuote = true
 may_end AfterBar = true
 may_end InComment = true
 
+-- how many of the bytes that end a token, and show what the text goes on as, are its own: the second bar is
+abbrev pub own_end : AtomState → ℕ
+own_end AfterBar = 1
+own_end _ = 0
+
 abbrev pub add_if : Option Sexp → Levels → Levels
 add_if None levels = levels
 add_if (Some x) levels = add x levels
