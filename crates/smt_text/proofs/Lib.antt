@@ -20,3 +20,5 @@ pub mod PositionLemmas
 pub mod MarkedLemmas
 pub mod TreeEndLemmas
 pub mod EndingLemmas
+pub mod GapLemmas
+pub mod LayoutLemmas

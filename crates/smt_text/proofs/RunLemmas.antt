@@ -102,7 +102,7 @@ pub first_of_rest : (piece : List ℕ) (place : ℕ) → get_or (rest_of piece p
 first_of_rest piece place = ap (λ x. get_or x 0 0) (rest_is piece place) ∙ get_or-drop place piece 0 0 ∙ ap
     (λ n. get_or piece n 0) (omega arith)
 
-at_rest : (piece : List ℕ) (place k : ℕ) → get_or (rest_of piece place) k 0 ≡ get_or piece (place + k) 0
+pub at_rest : (piece : List ℕ) (place k : ℕ) → get_or (rest_of piece place) k 0 ≡ get_or piece (place + k) 0
 at_rest piece place k = ap (λ x. get_or x k 0) (rest_is piece place) ∙ get_or-drop place piece k 0 ∙ ap
     (λ n. get_or piece n 0) (omega arith)
 

@@ -4,3 +4,4 @@ pub mod Reading
 pub mod Reader
 pub mod Internal
 pub mod Positions
+pub mod Spans

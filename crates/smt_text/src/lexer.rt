@@ -2,6 +2,7 @@
 
 ghost use Rattle.std.specs.Prelude.{◌≡◌, ◌<◌, ◌≤◌, ℕ, true, length, slice_index};
 ghost use Rattle.smt_text.specs.Internal.LexerStates as machine;
+ghost use Rattle.smt_text.specs.Lexical.{is_line_end};
 ghost use Rattle.smt_text.specs.declared.lexer.AtomState.TheVariants.{Zero, Digits, Hash, InText, InBars};
 ghost use Rattle.smt_text.specs.declared.lexer.AtomState.TheVariants.{InComment};
 ghost use Rattle.smt_text.specs.declared.lexer.LexerStep.TheVariants.{Push, Skip};
@@ -284,6 +285,7 @@ fn in_comment(byte: u8) -> LexerStep
 pub(crate) fn comment_length(text: &[u8]) -> usize
     ensures within { result ≤ length text.now }
     ensures skipped { (k : ℕ) → k < result → machine.lex InComment (slice_index text.now k) ≡ Skip InComment }
+    ensures stops { result < length text.now → is_line_end (slice_index text.now result) ≡ true }
 {
     match memchr2(b'\n', b'\r', text) {
         Some(end) => end,

@@ -27,15 +27,21 @@
 mod atoms;
 mod builder;
 mod byte_class;
+mod gap;
 pub mod laws;
+mod layout;
 mod lexer;
 mod mark;
 mod position;
 mod reader;
 mod refusal;
 mod reserved;
+mod span;
 
+pub use gap::gap_length;
+pub use layout::tree_spans;
 pub use position::Position;
 pub use reader::{MAX_DEPTH, Next, Reader, read_trees};
 pub use smt_faults::TextFault;
 pub use smt_trees::{OwnedTree, Tree, Trees, Word, spelling};
+pub use span::{Span, bytes_at};
