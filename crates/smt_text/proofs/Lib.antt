@@ -22,3 +22,4 @@ pub mod TreeEndLemmas
 pub mod EndingLemmas
 pub mod GapLemmas
 pub mod LayoutLemmas
+pub mod OpenerLemmas

@@ -2,3 +2,4 @@
 pub mod ByteKinds
 pub mod LexerStates
 pub mod ReaderState
+pub mod Scanning

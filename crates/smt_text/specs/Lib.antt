@@ -5,3 +5,4 @@ pub mod Reader
 pub mod Internal
 pub mod Positions
 pub mod Spans
+pub mod OpenPlaces

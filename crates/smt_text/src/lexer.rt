@@ -67,6 +67,18 @@ pub enum LexerStep {
     Stuck,
 }
 
+impl LexerStep {
+    /// Where in a token the text is after the byte; where no text continues with it, in none.
+    pub(crate) fn next(self) -> AtomState
+        ensures { result ≡ machine.token_behind self }
+    {
+        match self {
+            LexerStep::Push(next) | LexerStep::Skip(next) | LexerStep::Finish(next) => next,
+            LexerStep::Open | LexerStep::Close | LexerStep::Stuck => AtomState::Nothing,
+        }
+    }
+}
+
 impl AtomState {
     /// What the next byte does.
     pub(crate) fn after(self, byte: u8) -> LexerStep

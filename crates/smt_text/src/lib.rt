@@ -37,6 +37,7 @@ mod reader;
 mod refusal;
 mod reserved;
 mod span;
+mod unfinished;
 
 pub use gap::gap_length;
 pub use layout::tree_spans;
@@ -45,3 +46,4 @@ pub use reader::{MAX_DEPTH, Next, Reader, read_trees};
 pub use smt_faults::TextFault;
 pub use smt_trees::{OwnedTree, Tree, Trees, Word, spelling};
 pub use span::{Span, bytes_at};
+pub use unfinished::{OpenPlaces, open_places};

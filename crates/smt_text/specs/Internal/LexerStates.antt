@@ -191,6 +191,15 @@ lex InBars b = if is_quoted_byte b then Push InBars else if b == bar then Finish
 lex AfterBar b = separated b
 lex InComment b = if is_comment_byte b then Skip InComment else Finish Nothing
 
+-- the token that has begun after a step
+abbrev pub token_behind : LexerStep → AtomState
+token_behind (Push next) = next
+token_behind (Skip next) = next
+token_behind (Finish next) = next
+token_behind Open = Nothing
+token_behind Close = Nothing
+token_behind Stuck = Nothing
+
 -- a list begins
 abbrev pub begun : Levels → Levels
 begun (On lists top) = On (Nil ∷ lists) top
