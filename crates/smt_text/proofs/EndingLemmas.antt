@@ -38,16 +38,16 @@ ends Open = true
 ends Close = true
 ends Stuck = false
 
-needed : (t : Bool) (made : AtomState) → ends (if t then Push made else Stuck) ≡ true → ⊥
+pub needed : (t : Bool) (made : AtomState) → ends (if t then Push made else Stuck) ≡ true → ⊥
 needed true made e = cc
 needed false made e = cc
 
-in_hash : (s t : Bool) → ends (if s then Skip HexMark else if t then Skip BinMark else Stuck) ≡ true → ⊥
+pub in_hash : (s t : Bool) → ends (if s then Skip HexMark else if t then Skip BinMark else Stuck) ≡ true → ⊥
 in_hash true t e = cc
 in_hash false true e = cc
 in_hash false false e = cc
 
-in_text : (s t : Bool) → ends (if s then Skip TextQuote else if t then Push InText else Stuck) ≡ true → ⊥
+pub in_text : (s t : Bool) → ends (if s then Skip TextQuote else if t then Push InText else Stuck) ≡ true → ⊥
 in_text true t e = cc
 in_text false true e = cc
 in_text false false e = cc

@@ -23,3 +23,4 @@ pub mod EndingLemmas
 pub mod GapLemmas
 pub mod LayoutLemmas
 pub mod OpenerLemmas
+pub mod OrderLemmas

@@ -5,6 +5,7 @@ use Rattle.std.specs.Result.{result_err}
 use Rattle.std.proofs.Math.Seq.{take-append-add}
 use Rattle.std.proofs.lemmas.List.{append-nil, length-append, take-append-le, take_all}
 use Rattle.smt_text.proofs.MarkedLemmas.{sexps_pushed}
+use Rattle.smt_text.proofs.OrderLemmas.{later_end}
 use Rattle.smt_text.proofs.ReaderCompleteness.{run-append}
 use Rattle.smt_text.proofs.ReaderLemmas.{flush_after, runs_on, run_after, token_after, after_if}
 use Rattle.smt_text.proofs.ReadingLemmas.{ends_outside}
@@ -20,7 +21,7 @@ use Rattle.smt_faults.specs.declared.failure.Failure.{Failure}
 use Rattle.smt_faults.specs.declared.failure.Failure.TheVariants.{Fault, Memory}
 use Rattle.smt_faults.specs.declared.text_flaw.TextFlaw.{TextFlaw}
 use Rattle.smt_trees.specs.Owned.{sexp_of, sexps_of}
-use Rattle.smt_trees.specs.Sexp.{Sexps, Nil, Cons, append}
+use Rattle.smt_trees.specs.Sexp.{Sexp, Sexps, Nil, Cons, append}
 
 -- more of the text changes no end
 whole_at_more : (max_depth : ℕ) (s : State) (text more : List ℕ) (count : ℕ) (trees : Sexps)
@@ -233,3 +234,11 @@ end_reads reader fed taken k =
       at.within,
       ends_outside reader.max_depth (take reader.tree_end fed) at.end taken at.runs at.all at.whole,
     )
+
+-- a tree that is handed out later ends later
+pub ends_later : (old new : Reader) (fed : List ℕ) (taken : Sexps) (x : Sexp) → new.max_depth ≡ old.max_depth
+    → KeepsEnds old fed taken → KeepsEnds new fed (append taken (Cons x Nil)) → old.tree_end ≤ new.tree_end
+ends_later old new fed taken x m h k =
+    let later = (end_reads new fed (append taken (Cons x Nil)) k).1 in
+    later_end old.max_depth fed old.tree_end new.tree_end taken x (end_reads old fed taken h).1
+    (subst (λ n. Reads n true (take new.tree_end fed) (append taken (Cons x Nil)) None) m later)

@@ -90,6 +90,13 @@ FewerWait before now Wait = now ≡ before
 FewerWait before now End = now ≡ before
 FewerWait before now (Fault f) = now ≡ before
 
+-- the last tree that was handed out is the same after an answer that is none
+abbrev pub EndStays : ℕ → ℕ → Next → Type 0
+EndStays before now (Tree t) = Unit {0}
+EndStays before now Wait = now ≡ before
+EndStays before now End = now ≡ before
+EndStays before now (Fault f) = now ≡ before
+
 -- a fault that is answered is the one that was found
 abbrev pub IsFound : Option TextFault → Next → Type 0
 IsFound found (Fault f) = found ≡ Some f

@@ -3,11 +3,12 @@
 
 pub mod examples;
 
-ghost use Rattle.std.specs.Prelude.{◌≡◌, ◌≤◌, ℕ, List, ◌++◌, Bool, false, true, length, Option, Some};
+ghost use Rattle.std.specs.Prelude.{◌≡◌, ◌≤◌, ℕ, List, ◌++◌, Bool, false, true, length, take, Option, Some};
+ghost use Rattle.std.specs.Prelude.{None};
 ghost use Rattle.smt_text.specs.Grammar.{Forest};
 ghost use Rattle.smt_text.specs.Positions.{after, position_after};
 ghost use Rattle.smt_text.specs.Reading.{Begins, AreComplete, Reads};
-ghost use Rattle.smt_trees.specs.Sexp.{Sexps, append, count};
+ghost use Rattle.smt_trees.specs.Sexp.{Sexp, Sexps, Nil, Cons, append, count};
 ghost use Rattle.smt_faults.specs.declared.text_flaw.TextFlaw.{TextFlaw};
 ghost use Rattle.smt_text.specs.declared.position.Position.{Position};
 
@@ -57,6 +58,13 @@ pub fn read_faults_stay()
 pub fn trees_are_no_more_than_bytes()
     ensures few { (max_depth : ℕ) (text : List ℕ) (trees : Sexps) (f : Option TextFlaw)
         → Reads max_depth true text trees f → count trees ≤ length text }
+{}
+
+/// Of two beginnings of a text that are read without a fault, the one with one more tree is no shorter.
+pub fn more_trees_end_later()
+    ensures later { (max_depth : ℕ) (text : List ℕ) (end later : ℕ) (trees : Sexps) (x : Sexp)
+        → Reads max_depth true (take end text) trees None
+        → Reads max_depth true (take later text) (append trees (Cons x Nil)) None → end ≤ later }
 {}
 
 /// The position after a text is the one after its second part, which stands at the position after its first

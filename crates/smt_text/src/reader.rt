@@ -4,7 +4,7 @@ ghost use Rattle.std.specs.Prelude.{◌≡◌, ◌≢◌, ℕ, ◌+◌, ◌<◌,
 ghost use Rattle.std.specs.Prelude.{slice_index, take, true, false, None, Some, IfOk, MatchBool, MatchResult};
 ghost use Rattle.smt_text.specs.Grammar.{max_depth, OpenParenthesis, CloseParenthesis};
 ghost use Rattle.smt_text.specs.Reader.{is_finished, bytes_fed, depth_limit, end_of_trees, fault_of};
-ghost use Rattle.smt_text.specs.Reader.{trees_waiting, Answers, FewerWait, IsFound, KeepsEnds, StandsFor};
+ghost use Rattle.smt_text.specs.Reader.{trees_waiting, Answers, EndStays, FewerWait, IsFound, KeepsEnds, StandsFor};
 ghost use Rattle.smt_text.specs.Reader.{with_answer};
 ghost use Rattle.smt_text.specs.Internal.LexerStates.{act, add_if, atom_of, finished, flush, lex, refusal_of};
 ghost use Rattle.smt_text.specs.Internal.LexerStates.{settle, step};
@@ -75,6 +75,7 @@ impl Reader {
         ensures fault { fault_of result ≡ None }
         ensures fed { bytes_fed result ≡ 0 }
         ensures limit { depth_limit result ≡ max_depth }
+        ensures end { end_of_trees result ≡ 0 }
         ensures ends { KeepsEnds result [] Nil }
     {
         Reader {
@@ -100,6 +101,7 @@ impl Reader {
         ensures counted { bytes_fed self.new ≡ bytes_fed self.old + length piece.now }
         ensures limit { depth_limit self.new ≡ depth_limit self.old }
         ensures fault { (f : Fault) → fault_of self.old ≡ Some f → fault_of self.new ≡ Some f }
+        ensures end { end_of_trees self.new ≡ end_of_trees self.old }
         ensures ends { (fed : List ℕ) (taken : Sexps) → StandsFor self.old fed taken
             → KeepsEnds self.old fed taken → KeepsEnds self.new (fed ++ piece.now) taken }
     {
@@ -136,6 +138,7 @@ impl Reader {
         ensures counted { bytes_fed self.new ≡ bytes_fed self.old }
         ensures limit { depth_limit self.new ≡ depth_limit self.old }
         ensures fault { (f : Fault) → fault_of self.old ≡ Some f → fault_of self.new ≡ Some f }
+        ensures end { end_of_trees self.new ≡ end_of_trees self.old }
         ensures ends { (fed : List ℕ) (taken : Sexps) → StandsFor self.old fed taken
             → KeepsEnds self.old fed taken → KeepsEnds self.new fed taken }
     {
@@ -158,6 +161,9 @@ impl Reader {
         ensures found { IsFound (fault_of self.old) result }
         ensures refused { fault_of self.old ≡ Some OutOfMemory → result ≡ Next.Fault OutOfMemory }
         ensures fewer { FewerWait (trees_waiting self.old) (trees_waiting self.new) result }
+        ensures end { EndStays (end_of_trees self.old) (end_of_trees self.new) result }
+        ensures later { (fed : List ℕ) (taken : Sexps) → KeepsEnds self.old fed taken
+            → end_of_trees self.old ≤ end_of_trees self.new }
         ensures ends { (fed : List ℕ) (taken : Sexps) → KeepsEnds self.old fed taken
             → KeepsEnds self.new fed (with_answer taken result) }
     {

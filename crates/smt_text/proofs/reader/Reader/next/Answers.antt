@@ -1,6 +1,7 @@
 use Rattle.std.proofs.Common.{◌∙◌, None, subst, sym, refl}
 use Rattle.smt_text.proofs.ReaderLemmas.{answers_none, answers_fault, answers_tree, stands_handed}
-use Rattle.smt_text.proofs.TreeEndLemmas.{ends_handed, ends_same}
+use Rattle.smt_text.proofs.TreeEndLemmas.{ends_handed, ends_later, ends_same}
+use Rattle.smt_trees.specs.Owned.{sexp_of}
 use Rattle.smt_text.specs.Reader.{Answers, depth_limit, is_finished}
 use Rattle.smt_text.specs.Reading.{Reads}
 use Rattle.smt_text.specs.declared.reader.Next.TheVariants.{Fault}
@@ -22,6 +23,12 @@ returns-in-Some-clause-ends c =
     λ fed taken h. ends_handed c.args.self.now
     (record c.args.self.now { builder = c.hand_out.new.self; tree_end = c.in-Some.first.end }) fed taken
     c.in-Some.first refl refl c.if-is_refused.ensures c.in-Some.ensures.first h
+
+pub returns-in-Some-clause-later : goal.returns-in-Some-clause-later
+returns-in-Some-clause-later c =
+    λ fed taken h. ends_later c.args.self.now
+    (record c.args.self.now { builder = c.hand_out.new.self; tree_end = c.in-Some.first.end }) fed taken
+    (sexp_of c.in-Some.first.tree) refl h (returns-in-Some-clause-ends c fed taken h)
 
 pub returns-in-Some-failure-clause-right : goal.returns-in-Some-failure-clause-right
 returns-in-Some-failure-clause-right c =
