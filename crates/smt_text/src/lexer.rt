@@ -121,8 +121,8 @@ impl AtomState {
         }
     }
 
-    /// How many bytes of a token the byte is that ended it, where the text goes on as this: a quoted symbol ends
-    /// with its second bar, all else before the byte.
+    /// 1 where the byte that ended a token, and after which the text goes on as this, belongs to the token, and
+    /// else 0: the second bar of a quoted symbol does, white space and a semicolon do not.
     pub(crate) fn own_end(self) -> usize
         ensures { result ≡ machine.own_end self }
     {

@@ -212,8 +212,8 @@ impl Reader {
         Ok(())
     }
 
-    // Reads some bytes of a text that is not empty, and returns how many. At the limit the whole text has as many
-    // bytes as it has up to the end of this one.
+    // Reads some bytes of a text that is not empty, and returns how many. The limit is the place, in all that is
+    // fed, at which this text ends.
     fn read_some(&mut self, text: &[u8], limit: u64) -> Result<usize, Failure<Refusal>>
         requires { 0 < length text.now }
         ensures beside { IsBeside self.old self.new }

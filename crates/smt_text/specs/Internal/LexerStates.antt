@@ -139,7 +139,8 @@ may_end TextQuote = true
 may_end AfterBar = true
 may_end InComment = true
 
--- how many of the bytes that end a token, and show what the text goes on as, are its own: the second bar is
+-- 1 where the byte that ended a token, after which the text goes on as this, belongs to it: the second bar of
+-- a quoted symbol does
 abbrev pub own_end : AtomState → ℕ
 own_end AfterBar = 1
 own_end _ = 0
