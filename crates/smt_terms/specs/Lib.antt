@@ -8,6 +8,7 @@ pub mod Checking
 pub mod Definitions
 pub mod Assertions
 pub mod Items
+pub mod Blame
 pub mod WellSorted
 pub mod Repeated
 pub mod Written

@@ -57,6 +57,20 @@ impl SortNames {
         }
     }
 
+    /// The same in other theories.
+    pub(crate) fn sort_under(&self, theories: Theories, tree: Tree<'_>) -> Result<Sort, TermFlaw>
+        ensures { result ≡ sort_named (record (sort_names self.now) { theories = theories }) (sexp_of tree.entry) }
+    {
+        match tree {
+            Tree::Symbol(name) => match self.get(name) {
+                Some(named) => Ok(named.sort),
+                None => sort_of_word(theories, name),
+            },
+            Tree::List(parts) => sort_of_list(theories, parts),
+            _ => Err(TermFlaw::Form),
+        }
+    }
+
     /// The sorts that trees name, in order, or the first fault.
     pub(crate) fn sorts_of(&self, alloc: Global, trees: Trees<'_>) -> Result<Vec<Sort>, TermFault>
         ensures { IsOutcome (λ found. found.items) (sorts_named (sort_names self.now) (sexps_of trees.entry))
