@@ -198,3 +198,7 @@ IsToBlame s blame = IsBlamed (names_of s) (sort_names_of s) blame
 
 abbrev pub IsToldOver : Signature → Option Blame → Type 0
 IsToldOver s found = IfSome found (IsToBlame s)
+
+-- of an item, over the names of the script or those of the items before it
+abbrev pub IsToldOf : (script items : Signature) → Option Blame → Type 0
+IsToldOf script items found = IfSome found (λ blame. IsToBlame script blame ⊎ IsToBlame items blame)

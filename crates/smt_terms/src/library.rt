@@ -10,6 +10,8 @@ pub use marks::Mark;
 mod arguments;
 mod assertions;
 mod binders;
+mod blamed_commands;
+mod blamed_items;
 mod blamed_names;
 mod blamed_parts;
 mod blames;

@@ -165,7 +165,7 @@ impl SortNames {
     }
 
     // Whether a name is that of a sort or an abbreviation.
-    fn is_taken(&self, name: &[u8]) -> bool
+    pub(crate) fn is_taken(&self, name: &[u8]) -> bool
         ensures { result ≡ is_sort_taken (sort_names self.now) name.now }
     {
         is_theory_sort(self.theories.wide, name) || self.get(name).is_some()

@@ -6,7 +6,7 @@ ghost use Rattle.smt_trees.specs.Sexp.{Items};
 ghost use Rattle.smt_trees.specs.View.{sexp_of, sexps_of};
 ghost use Rattle.smt_forms.specs.IdentifierView.{identifier_view};
 ghost use Rattle.smt_terms.specs.Blame as blame;
-ghost use Rattle.smt_terms.specs.Blame.{IsAlone, IsBlamed, IsLacking};
+ghost use Rattle.smt_terms.specs.Blame.{IsBlamed, IsIdentifier, IsLacking};
 ghost use Rattle.smt_terms.specs.Internal.Blamed.{IsTold};
 ghost use Rattle.smt_terms.specs.Internal.LibraryView.{names_of_library, sort_names};
 ghost use Rattle.smt_terms.specs.Signature.{Names};
@@ -27,7 +27,7 @@ impl Library<'_> {
         part: Tree<'t>,
         identifier: &Identifier<'t>,
     ) -> Option<Blame<'t>>
-        requires { IsAlone (sexp_of part) (identifier_view identifier.now) }
+        requires { IsIdentifier (sexp_of part) (identifier_view identifier.now) }
         ensures { IsTold self.now result }
     {
         let theories = self.sorts.theories;

@@ -1,6 +1,6 @@
 //! Parts of terms that are to blame, where the walk over a term stopped at a fault. This file finds no fault.
 
-ghost use Rattle.std.specs.Prelude.{◌≡◌, ◌≤◌, IfOk, IfSome, length, option_map};
+ghost use Rattle.std.specs.Prelude.{◌≡◌, ◌<◌, ◌≤◌, IfOk, IfSome, length, option_map};
 ghost use Rattle.smt_trees.specs.View.{sexp_of, sexps_of};
 ghost use Rattle.smt_forms.specs.IdentifierView.{identifier_view};
 ghost use Rattle.smt_terms.specs.Blame as blame;
@@ -10,6 +10,7 @@ ghost use Rattle.smt_terms.specs.Internal.DraftView.{argument_sorts};
 ghost use Rattle.smt_terms.specs.Internal.LibraryView.{names_of_library};
 
 use crate::blame::Blame;
+use crate::labels::Label;
 use crate::library::Library;
 use crate::library::checker::is_variable;
 use crate::library::draft::Draft;
@@ -235,16 +236,14 @@ impl Library<'_> {
 
     // How many labels the last node has: they are the last ones.
     fn labels_of_last(&self, draft: &Draft<'_>) -> usize {
-        let given = draft.labels.given.as_slice();
         let rows = self.nodes.len().saturating_add(draft.nodes.len());
-        let mut left = given;
-        while let Some((label, rest)) = left.split_last() {
-            if label.node.number().saturating_add(1) != rows {
-                break;
-            }
+        let mut left = draft.labels.given.as_slice();
+        let mut count = 0usize;
+        while let Some(rest) = labels_before(left, rows) {
+            count = count.saturating_add(1);
             left = rest;
         }
-        given.len().saturating_sub(left.len())
+        count
     }
 
     // The same of `(as symbol sort)`, by the parts after the `as`: a symbol that is in use, or the sort.
@@ -382,6 +381,18 @@ fn is_bound_before(bindings: Trees<'_>, count: usize, name: &[u8]) -> bool {
         left = rest;
     }
     false
+}
+
+// The labels before the last one, if that is a label of the last of so many nodes.
+fn labels_before<'l, 'a>(given: &'l [Label<'a>], rows: usize) -> Option<&'l [Label<'a>]>
+    ensures { IfSome result (λ rest. length rest.now < length given.now) }
+{
+    let (label, rest) = given.split_last()?;
+    if label.node.number().saturating_add(1) == rows {
+        Some(rest)
+    } else {
+        None
+    }
 }
 
 // The label among attributes that comes behind so many others.

@@ -35,11 +35,54 @@ impl Library<'_> {
         self.blame_of_term(&[], Labels::new(self.alloc), term, Sort::Bool)
     }
 
-    /// The same of a term that is assumed: it has no label, and has to be a formula.
-    pub fn blame_of_assumption<'t>(&self, term: Tree<'t>) -> Result<Option<Blame<'t>>, Memory>
+    /// The same of terms that are assumed, each of which has to be a formula without labels: what is to blame for the
+    /// fault of the first one that has one.
+    pub fn blame_of_assumptions<'t>(
+        &self,
+        terms: Trees<'t>,
+    ) -> Result<Option<Blame<'t>>, Memory>
         ensures { (s : Signature) → StandsFor self.now s → IfOk result (IsToldOver s) }
     {
-        self.blame_of_term(&[], Labels::refused(self.alloc), term, Sort::Bool)
+        self.blame_in_assumptions(terms)
+    }
+
+    fn blame_in_assumptions<'t>(
+        &self,
+        terms: Trees<'t>,
+    ) -> Result<Option<Blame<'t>>, Memory>
+        ensures { IfOk result (IsTold self.now) }
+    {
+        match self.first_refused(terms)? {
+            Some(term) => {
+                let labels = Labels::refused(self.alloc);
+                self.blame_of_term(&[], labels, term, Sort::Bool)
+            }
+            None => Ok(None),
+        }
+    }
+
+    // The first of these terms that is no formula without labels.
+    fn first_refused<'t>(&self, terms: Trees<'t>) -> Result<Option<Tree<'t>>, Memory> {
+        let mut left = terms;
+        while let Some((term, rest)) = left.split_first() {
+            if !self.is_formula(term)? {
+                return Ok(Some(term));
+            }
+            left = rest;
+        }
+        Ok(None)
+    }
+
+    // Whether a term is a formula without labels.
+    fn is_formula(&self, term: Tree<'_>) -> Result<bool, Memory> {
+        let labels = Labels::refused(self.alloc);
+        let nodes = Nodes::new(self.alloc);
+        let mut draft = Draft::new(self.alloc, labels, nodes, Arguments::new(self.alloc));
+        match self.check_over(&mut draft, &[], term) {
+            Ok(checked) => Ok(are_equal(checked.sort, Sort::Bool)),
+            Err(TermFault::Memory) => Err(Memory),
+            Err(_) => Ok(false),
+        }
     }
 
     // The same of a term over the names and these variables, which has to be of a sort.
@@ -87,7 +130,7 @@ impl Library<'_> {
         ensures { IfOk result (IsTold self.now) }
     {
         match self.sort_of(draft, term, 0) {
-            Ok(checked) => Ok(other_sort(checked.sort, wanted)),
+            Ok(checked) => Ok(other_sort(&checked.sort, &wanted)),
             Err(TermFault::Memory) => Err(Memory),
             Err(_) => self.blame_of_atom(term),
         }
@@ -105,7 +148,7 @@ impl Library<'_> {
     {
         let mut frames = Vec::new(self.alloc);
         match self.walk(draft, &mut frames, whole, 0) {
-            Ok(checked) => Ok(other_sort(checked.sort, wanted)),
+            Ok(checked) => Ok(other_sort(&checked.sort, &wanted)),
             Err(fault) => self.blame_of_stop(draft, whole, frames.as_slice(), fault),
         }
     }
@@ -137,12 +180,15 @@ impl Library<'_> {
 }
 
 // The blame of a term as a whole, where it is of another sort than is wanted.
-pub(super) fn other_sort(found: Sort, wanted: Sort) -> Option<Blame<'static>>
+pub(super) fn other_sort(found: &Sort, wanted: &Sort) -> Option<Blame<'static>>
     ensures { (names : Names) (sorts : SortNames) → IfSome result (IsBlamed names sorts) }
 {
-    if are_equal(found, wanted) {
+    if are_equal(*found, *wanted) {
         None
     } else {
-        Some(Blame::Whole { found, wanted })
+        Some(Blame::Whole {
+            found: *found,
+            wanted: *wanted,
+        })
     }
 }
