@@ -95,6 +95,10 @@ IsAlone _ f = ⊥
 abbrev pub IsCall : Sexp → Identifier → Sexps → Type 0
 IsCall part f args = (head : Sexp) × (part ≡ Items (Cons head args)) × (applied head args ≡ Ok f)
 
+-- a part is an identifier alone, or the head of a list that applies it
+abbrev pub IsIdentifier : Sexp → Identifier → Type 0
+IsIdentifier part f = IsAlone part f ⊎ ((args : Sexps) × (applied part args ≡ Ok f))
+
 -- the tree at a place, from 0
 abbrev pub tree_at : Sexps → ℕ → Option Sexp
 tree_at Nil place = None
@@ -138,7 +142,7 @@ IsUnknown names sorts x = ((f : Identifier) × (name_of f ≡ x) × (is_unknown 
 -- a part is unknown, and would not be so with one more theory
 abbrev pub IsLacking : Names → SortNames → Sexp → Theory → Type 0
 IsLacking names sorts part theory =
-    ((f : Identifier) × IsAlone part f × (is_unknown names names.theories f ≡ true)
+    ((f : Identifier) × IsIdentifier part f × (is_unknown names names.theories f ≡ true)
     × (is_unknown names (with_theory theory names.theories) f ≡ false))
     ⊎ ((is_unknown_literal names.theories part ≡ true)
     × (is_unknown_literal (with_theory theory names.theories) part ≡ false))

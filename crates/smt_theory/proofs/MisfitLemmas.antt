@@ -1,5 +1,5 @@
 -- Why an operator has no rank is told exactly where it has none.
-use Rattle.std.proofs.Common.{◌≡◌, ◌↔◌, ℕ, suc, ◌<◌, ◌≤◌, Bool, true, false, not, cond, ◌&&◌, List, [], ◌∷◌, Option}
+use Rattle.std.proofs.Common.{◌≡◌, ◌↔◌, inl, inr, ℕ, zero, suc, ◌<◌, ◌≤◌, Bool, true, false, not, cond, ◌&&◌, List, [], ◌∷◌, Option}
 use Rattle.std.proofs.Common.{Some, None, length, map, get_or, nat_lt, nat_le, option_map, refl, sym, ap, subst, ◌∙◌}
 use Rattle.std.proofs.Common.{arith, rules}
 use Rattle.std.specs.Bool.{then_some}
@@ -27,7 +27,7 @@ use Rattle.smt_theory.specs.declared.op.Op.{Op}
 use Rattle.smt_theory.specs.declared.op.Op.TheVariants.{Core, Ints, Bits as Vectors}
 use Rattle.smt_theory.specs.declared.sort.Sort.{Sort}
 use Rattle.smt_theory.specs.declared.sort.Sort.TheVariants.{Bool as Boolean, Int, Bits}
-use Rattle.smt_theory.proofs.RankLemmas.{are_several-Decides, are_several_of_one-Decides, is_same_sort-Decides}
+use Rattle.smt_theory.proofs.RankLemmas.{are_several-Decides, is_same_sort-Decides}
 use Rattle.smt_theory.proofs.RankTableLemmas.{rank_of-row}
 
 -- ---- each argument fits
@@ -50,18 +50,18 @@ both true b h = (refl, h)
 both false b h = cc
 
 -- an operator takes so many arguments, and each one fits
-Fits : Op → List Sort → Type 0
+abbrev Fits : Op → List Sort → Type 0
 Fits op args = (takes_count (counts_of op) (length args) ≡ true) × (argument_misfit op args ≡ None)
 
 two : (n : ℕ) → nat_le 2 n ≡ true → takes_count (2, true) n ≡ true
-two 0 h = cc
-two (suc 0) h = cc
-two (suc (suc 0)) h = refl
+two zero h = cc
+two (suc zero) h = cc
+two (suc (suc zero)) h = refl
 two (suc (suc (suc n))) h = refl
 
 one : (n : ℕ) → nat_le 2 n ≡ true → takes_count (1, true) n ≡ true
-one 0 h = cc
-one (suc 0) h = refl
+one zero h = cc
+one (suc zero) h = refl
 one (suc (suc n)) h = refl
 
 none_but : (sort : Sort) (args : List Sort) → AreSeveral sort args → first_other sort args ≡ None

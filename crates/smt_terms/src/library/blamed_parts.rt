@@ -1,6 +1,6 @@
 //! Parts of terms that are to blame, where the walk over a term stopped at a fault. This file finds no fault.
 
-ghost use Rattle.std.specs.Prelude.{◌≡◌, ◌<◌, ◌≤◌, IfOk, IfSome, length, option_map};
+ghost use Rattle.std.specs.Prelude.{◌≡◌, ◌≤◌, IfOk, IfSome, length, option_map};
 ghost use Rattle.smt_trees.specs.View.{sexp_of, sexps_of};
 ghost use Rattle.smt_forms.specs.IdentifierView.{identifier_view};
 ghost use Rattle.smt_terms.specs.Blame as blame;
@@ -237,13 +237,7 @@ impl Library<'_> {
     // How many labels the last node has: they are the last ones.
     fn labels_of_last(&self, draft: &Draft<'_>) -> usize {
         let rows = self.nodes.len().saturating_add(draft.nodes.len());
-        let mut left = draft.labels.given.as_slice();
-        let mut count = 0usize;
-        while let Some(rest) = labels_before(left, rows) {
-            count = count.saturating_add(1);
-            left = rest;
-        }
-        count
+        count_of(draft.labels.given.as_slice(), rows)
     }
 
     // The same of `(as symbol sort)`, by the parts after the `as`: a symbol that is in use, or the sort.
@@ -383,16 +377,15 @@ fn is_bound_before(bindings: Trees<'_>, count: usize, name: &[u8]) -> bool {
     false
 }
 
-// The labels before the last one, if that is a label of the last of so many nodes.
-fn labels_before<'l, 'a>(given: &'l [Label<'a>], rows: usize) -> Option<&'l [Label<'a>]>
-    ensures { IfSome result (λ rest. length rest.now < length given.now) }
-{
-    let (label, rest) = given.split_last()?;
-    if label.node.number().saturating_add(1) == rows {
-        Some(rest)
-    } else {
-        None
+// How many of these labels are those of the last of so many nodes.
+fn count_of(labels: &[Label<'_>], rows: usize) -> usize {
+    let mut count = 0usize;
+    for label in labels {
+        if label.node.number().saturating_add(1) == rows {
+            count = count.saturating_add(1);
+        }
     }
+    count
 }
 
 // The label among attributes that comes behind so many others.
