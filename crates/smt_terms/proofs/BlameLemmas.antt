@@ -1,5 +1,6 @@
 -- What is to blame over the names of a library, over what the library stands for.
-use Rattle.std.proofs.Common.{◌≡◌, ◌⊎◌, ℕ, List, true, Option, Result, subst, refl}
+use Rattle.std.proofs.Common.{◌≡◌, ◌⊎◌, inl, inr, ℕ, List, Bool, true, false, ◌&&◌, Option, Some}
+use Rattle.std.proofs.Common.{None, Result, Ok, Err, subst, refl}
 use Rattle.std.specs.Prelude.{IfOk, IfSome}
 use Rattle.smt_faults.specs.declared.memory.Memory.{Memory}
 use Rattle.smt_trees.specs.Sexp.{Sexps, Items, Nil, Cons}
@@ -44,7 +45,7 @@ told_of script items s m result stands reads h =
 
 -- a list that applies an identifier is a call of it
 pub called : (parts : Sexps) (f : Identifier) → IsApplied parts f → (args : Sexps) × IsCall (Items parts) f args
-called (Cons head args) f h = (args, (head, (refl, h)))
+called (Cons head args) f h = (args, (head, refl, h))
 called Nil f h = absurd h
 
 -- of a variable it is a symbol
@@ -52,3 +53,28 @@ pub symbol_of : (scope : List (List ℕ × Sort)) (f : Identifier) → names_var
     → (x : List ℕ) × (f ≡ Plain x)
 symbol_of scope (Plain x) h = (x, refl)
 symbol_of scope (Indexed x indexes) h = cc
+
+-- what is told over the names of the script, or of the items, is told over both
+pub left_told : (script items : Library) (found : Option Blame) → IsTold script found
+    → internal.IsToldOf script items found
+left_told script items None h = h
+left_told script items (Some b) h = inl h
+
+pub left_by : (script items : Library) (result : Result (Option Blame) Memory) → IfOk result (IsTold script)
+    → IfOk result (internal.IsToldOf script items)
+left_by script items (Ok found) h = left_told script items found h
+left_by script items (Err e) h = h
+
+right_told : (script items : Library) (found : Option Blame) → IsTold items found
+    → internal.IsToldOf script items found
+right_told script items None h = h
+right_told script items (Some b) h = inr h
+
+pub right_by : (script items : Library) (result : Result (Option Blame) Memory) → IfOk result (IsTold items)
+    → IfOk result (internal.IsToldOf script items)
+right_by script items (Ok found) h = right_told script items found h
+right_by script items (Err e) h = h
+
+pub and_right : (a b : Bool) → (a && b) ≡ true → b ≡ true
+and_right true b h = h
+and_right false b h = cc

@@ -19,7 +19,7 @@ use crate::library::blamed_parts::parameter_flaw;
 use crate::library::blames::other_sort;
 use crate::library::params::{sorted_params, sorts_of_variables};
 use crate::library::told::declared_parts;
-use crate::library::{Entry, Library};
+use crate::library::{Entry, Found, Library};
 use crate::sorts::are_equal;
 use smt_faults::{Memory, TermFault};
 use smt_forms::{ItemForm, Param, Variable, item_form, params_of};
@@ -58,7 +58,7 @@ impl Library<'_> {
         };
         let params = params_of(self.alloc, form.parameters)?;
         if script.sets_aside(form.name) {
-            return script.blame_of_rank(form, params.as_slice(), script.get(form.name));
+            return script.blame_of_rank(form, params.as_slice(), true);
         }
         if self.has_entry(form.name) {
             return Ok(Some(Blame::Twice { name: form.name }));
@@ -78,8 +78,7 @@ impl Library<'_> {
     ) -> Result<Option<Blame<'t>>, Memory>
         ensures { IfOk result (internal.IsToldOf script.now self.now) }
     {
-        let declared = script.get_declared(form.name);
-        if let Some(blame) = script.blame_of_rank(form, params, declared)? {
+        if let Some(blame) = script.blame_of_rank(form, params, false)? {
             return Ok(Some(blame));
         }
         self.blame_of_item_body(script, form, params)
@@ -117,15 +116,14 @@ impl Library<'_> {
         self.blame_of_name(name)
     }
 
-    // What is to blame in this script for the parameters and the sort of an item, whose name has this entry, if it has
-    // one that they have to fit.
+    // What is to blame in this script for the parameters and the sort of an item. They have to fit those of its name,
+    // if a command declared it, or if the item repeats its definition.
     fn blame_of_rank<'t>(
         &self,
         form: ItemForm<'t>,
         params: &[Param<'t>],
-        entry: Option<&Entry>,
+        repeats: bool,
     ) -> Result<Option<Blame<'t>>, Memory>
-        requires { IfSome entry (λ e. (x : List ℕ) × (look_up (names_of_library self.now).ranks x ≡ Some (rank_of e.now))) }
         ensures { IfOk result (IsTold self.now) }
     {
         if let Some(param) = self.first_unfit(params)? {
@@ -134,7 +132,7 @@ impl Library<'_> {
         let Ok(sort) = self.sorts.sort_of(form.sort) else {
             return Ok(self.blame_of_sort(form.sort));
         };
-        let Some(entry) = entry else {
+        let Some(entry) = self.entry_to_fit(form.name, repeats) else {
             return Ok(None);
         };
         match sorted_params(self.alloc, &self.sorts, params) {
@@ -144,6 +142,26 @@ impl Library<'_> {
             }
             Err(TermFault::Memory) => Err(Memory),
             Err(_) => Ok(None),
+        }
+    }
+
+    // What a name means, if a command declared it, or if an item repeats its definition.
+    fn entry_to_fit(&self, name: &[u8], repeats: bool) -> Option<&Entry>
+        ensures { IfSome result
+            (λ e. look_up (names_of_library self.now).ranks name.now ≡ Some (rank_of e.now)) }
+    {
+        let Some(entry) = self.get(name) else {
+            return None;
+        };
+        match entry.place {
+            Found::Declared(_) => Some(entry),
+            Found::Defined(_) => {
+                if repeats {
+                    Some(entry)
+                } else {
+                    None
+                }
+            }
         }
     }
 

@@ -15,7 +15,7 @@ returns-then-is_variable c =
     let k = called (sexps_of c.args.parts) f c.requires.call in
     let v =
     symbol_of (sorts_of (scope_of c.args.draft.now.scope)) f (sym c.is_variable.ensures ∙ c.if-is_variable.true) in
-    (v.0, (k.0, subst (λ g. IsCall (Items (sexps_of c.args.parts)) g k.0) v.1 k.1))
+    (v.0, k.0, subst (λ g. IsCall (Items (sexps_of c.args.parts)) g k.0) v.1 k.1)
 
 pub blame_of_identifier-requires : goal.blame_of_identifier-requires
 blame_of_identifier-requires c =

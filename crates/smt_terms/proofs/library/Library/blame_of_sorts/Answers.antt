@@ -11,12 +11,8 @@ returns-in_ok-found-in-Some-Widths c =
     let f = identifier_view c.args.identifier.now in
     let k = called (sexps_of c.args.parts) f c.requires in (
       f,
-      (
-        k.0,
-        (
-          k.1,
-          ap (call_flaw (names_of_library c.args.self.now) f) c.in_ok-found-in-Some-Widths.ensures.items
-              ∙ sym c.call_flaw.ensures ∙ c.in-Some-Widths.is ∙ ap Some c.in-Some-Widths.field-0-is,
-        ),
-      ),
+      k.0,
+      k.1,
+      ap (call_flaw (names_of_library c.args.self.now) f) c.in_ok-found-in-Some-Widths.ensures.items
+          ∙ sym c.call_flaw.ensures ∙ c.in-Some-Widths.is ∙ ap Some c.in-Some-Widths.field-0-is,
     )
