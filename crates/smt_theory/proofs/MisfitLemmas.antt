@@ -27,7 +27,7 @@ use Rattle.smt_theory.specs.declared.op.Op.{Op}
 use Rattle.smt_theory.specs.declared.op.Op.TheVariants.{Core, Ints, Bits as Vectors}
 use Rattle.smt_theory.specs.declared.sort.Sort.{Sort}
 use Rattle.smt_theory.specs.declared.sort.Sort.TheVariants.{Bool as Boolean, Int, Bits}
-use Rattle.smt_theory.proofs.RankLemmas.{are_several-Decides, is_same_sort-Decides}
+use Rattle.smt_theory.proofs.RankLemmas.{are_several-Decides, is_same_sort-Decides, nat_le-Decides}
 use Rattle.smt_theory.proofs.RankTableLemmas.{rank_of-row}
 
 -- ---- each argument fits
@@ -53,16 +53,8 @@ both false b h = cc
 abbrev Fits : Op → List Sort → Type 0
 Fits op args = (takes_count (counts_of op) (length args) ≡ true) × (argument_misfit op args ≡ None)
 
-two : (n : ℕ) → nat_le 2 n ≡ true → takes_count (2, true) n ≡ true
-two zero h = cc
-two (suc zero) h = cc
-two (suc (suc zero)) h = refl
-two (suc (suc (suc n))) h = refl
-
 one : (n : ℕ) → nat_le 2 n ≡ true → takes_count (1, true) n ≡ true
-one zero h = cc
-one (suc zero) h = refl
-one (suc (suc n)) h = refl
+one n h = (nat_le-Decides 1 n).1 (omega (arith, (nat_le-Decides 2 n).0 h))
 
 none_but : (sort : Sort) (args : List Sort) → AreSeveral sort args → first_other sort args ≡ None
 none_but sort args h =
@@ -86,14 +78,14 @@ core-fits : (op : CoreOp) (args : List Sort) (sort : Sort) → HasRank (Core op)
 core-fits True args sort h = subst (Fits (Core True)) (sym h.0) (refl, refl)
 core-fits False args sort h = subst (Fits (Core False)) (sym h.0) (refl, refl)
 core-fits Not args sort h = subst (Fits (Core Not)) (sym h.0) (refl, refl)
-core-fits Implies args sort h = (two _ (counted Boolean args h.0), none_but Boolean args h.0)
-core-fits And args sort h = (two _ (counted Boolean args h.0), none_but Boolean args h.0)
-core-fits Or args sort h = (two _ (counted Boolean args h.0), none_but Boolean args h.0)
-core-fits Xor args sort h = (two _ (counted Boolean args h.0), none_but Boolean args h.0)
+core-fits Implies args sort h = ((counted Boolean args h.0), none_but Boolean args h.0)
+core-fits And args sort h = ((counted Boolean args h.0), none_but Boolean args h.0)
+core-fits Or args sort h = ((counted Boolean args h.0), none_but Boolean args h.0)
+core-fits Xor args sort h = ((counted Boolean args h.0), none_but Boolean args h.0)
 core-fits Equal [] sort h = absurd (omega (arith, h.0.1.0))
-core-fits Equal (a ∷ args) sort h = (two _ (counted h.0.0 (a ∷ args) h.0.1), of_first h.0.0 a args h.0.1)
+core-fits Equal (a ∷ args) sort h = ((counted h.0.0 (a ∷ args) h.0.1), of_first h.0.0 a args h.0.1)
 core-fits Distinct [] sort h = absurd (omega (arith, h.0.1.0))
-core-fits Distinct (a ∷ args) sort h = (two _ (counted h.0.0 (a ∷ args) h.0.1), of_first h.0.0 a args h.0.1)
+core-fits Distinct (a ∷ args) sort h = ((counted h.0.0 (a ∷ args) h.0.1), of_first h.0.0 a args h.0.1)
 core-fits Ite args sort h =
     subst (Fits (Core Ite)) (sym h)
     (refl, ap (λ b. cond (not b) (Some (Argument 2 (Only sort))) None) (is_same_self sort))
@@ -104,10 +96,10 @@ ints-fits (Arithmetic Minus) args sort h =
       inl e ↦ subst (Fits (Ints (Arithmetic Minus))) (sym e) (refl, refl)
     | inr s ↦ (one _ (counted Int args s), none_but Int args s)
     ]
-ints-fits (Arithmetic Plus) args sort h = (two _ (counted Int args h.0), none_but Int args h.0)
-ints-fits (Arithmetic Times) args sort h = (two _ (counted Int args h.0), none_but Int args h.0)
-ints-fits (Arithmetic Div) args sort h = (two _ (counted Int args h.0), none_but Int args h.0)
-ints-fits (Comparison op) args sort h = (two _ (counted Int args h.0), none_but Int args h.0)
+ints-fits (Arithmetic Plus) args sort h = ((counted Int args h.0), none_but Int args h.0)
+ints-fits (Arithmetic Times) args sort h = ((counted Int args h.0), none_but Int args h.0)
+ints-fits (Arithmetic Div) args sort h = ((counted Int args h.0), none_but Int args h.0)
+ints-fits (Comparison op) args sort h = ((counted Int args h.0), none_but Int args h.0)
 ints-fits Mod args sort h = subst (Fits (Ints Mod)) (sym h.0) (refl, refl)
 ints-fits Abs args sort h = subst (Fits (Ints Abs)) (sym h.0) (refl, refl)
 ints-fits (Divisible n) args sort h = subst (Fits (Ints (Divisible n))) (sym h.0.1) (refl, refl)
@@ -116,9 +108,6 @@ ints-fits (Divisible n) args sort h = subst (Fits (Ints (Divisible n))) (sym h.0
 all_bits : (widths : List ℕ) → list_all is_bits (map Bits widths) ≡ true
 all_bits [] = refl
 all_bits (m ∷ widths) = all_bits widths
-
-le_true : (m n : ℕ) → m ≤ n → nat_le m n ≡ true
-le_true m n h = search rules
 
 same_two : (m : ℕ) → first_other (Bits m) (Bits m ∷ Bits m ∷ []) ≡ None
 same_two m = ap (option_map (argument (Only (Bits m))))
@@ -139,12 +128,12 @@ bits-fits (bits.Constant number n) args sort h =
     subst (Fits (Vectors (bits.Constant number n))) (sym h.3) (refl, refl)
 bits-fits bits.Concat args sort h =
     subst (Fits (Vectors bits.Concat)) (sym h.1) (
-      two _ (ap (nat_le 2) (length-map h.0 Bits) ∙ le_true 2 (length h.0) h.2),
+      ap (nat_le 2) (length-map h.0 Bits) ∙ (nat_le-Decides 2 (length h.0)).1 h.2,
       ap (option_map (argument AnyBits)) (none_other is_bits (map Bits h.0) (all_bits h.0)),
     )
 bits-fits (bits.Extract i j) args sort h = subst (Fits (Vectors (bits.Extract i j))) (sym h.1) (refl, refl)
 bits-fits (bits.Unary op) args sort h = subst (Fits (Vectors (bits.Unary op))) (sym h.1) (refl, refl)
-bits-fits (bits.Folded op) args sort h = (two _ (counted (Bits h.0) args h.1), width_fits h.0 args h.1)
+bits-fits (bits.Folded op) args sort h = ((counted (Bits h.0) args h.1), width_fits h.0 args h.1)
 bits-fits (bits.Binary op) args sort h = subst (Fits (Vectors (bits.Binary op))) (sym h.1) (refl, same_two h.0)
 bits-fits (bits.Comparison op) args sort h =
     subst (Fits (Vectors (bits.Comparison op))) (sym h.1) (refl, same_two h.0)

@@ -1,7 +1,7 @@
 -- Why an operator has no rank for the sorts of its arguments: their number, or the first of them that does not fit, by
 -- a rule of this project where more than one could be changed: each fits the operator, and the first ones.
-use Rattle.std.specs.Prelude.{ℕ, List, [], ◌∷◌, Bool, true, false, not, ◌&&◌, ◌||◌, ◌==◌, Option, Some, None}
-use Rattle.std.specs.Prelude.{is_some, length, nat_lt, option_map, if◌then◌else◌}
+use Rattle.std.specs.Prelude.{ℕ, List, [], ◌∷◌, Bool, true, false, not, ◌==◌, Option, Some, None}
+use Rattle.std.specs.Prelude.{length, nat_le, option_map, if◌then◌else◌}
 use Rattle.std.specs.List.{position}
 use Rattle.std.specs.Option.{option_or}
 use Rattle.smt_theory.specs.Ranks.{rank_of}
@@ -55,7 +55,7 @@ counts_of (Vectors op) = bits_counts op
 
 -- whether it takes so many arguments
 abbrev pub takes_count : ℕ × Bool → ℕ → Bool
-takes_count counts n = n == counts.0 || counts.1 && nat_lt counts.0 n
+takes_count counts n = if counts.1 then nat_le counts.0 n else n == counts.0
 
 -- ---- arguments
 

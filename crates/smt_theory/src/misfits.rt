@@ -1,9 +1,9 @@
 //! Why an operator has no rank for the sorts of its arguments. This file knows no operator's name, and no value.
 
-ghost use Rattle.std.specs.Prelude.{◌≡◌, ◌||◌, ◌&&◌, not, length, nat_lt};
+ghost use Rattle.std.specs.Prelude.{◌≡◌, not};
 ghost use Rattle.std.specs.List.{position};
 ghost use Rattle.smt_theory.specs.Misfits as misfits;
-ghost use Rattle.smt_theory.specs.Misfits.{argument_misfit, counts_of, misfit_of, takes_count};
+ghost use Rattle.smt_theory.specs.Misfits.{argument_misfit, counts_of, misfit_of};
 ghost use Rattle.smt_theory.specs.Sort.{is_same_sort};
 ghost use Rattle.smt_theory.specs.declared.misfits.Wanted.TheVariants.{AnyBits, Only};
 
@@ -41,11 +41,11 @@ pub enum Wanted {
 pub fn misfit(op: Op, args: &[Sort]) -> Option<RankFlaw>
     ensures { result ≡ misfit_of op args.now }
 {
-    let (least, takes_more) = counts(op);
-    if args.len() != least && !(takes_more && args.len() > least) {
+    let (least, takes_more) = counts(&op);
+    if !takes_count(least, takes_more, args.len()) {
         return Some(RankFlaw::Count { wanted: least });
     }
-    if let Some(found) = misfit_of_argument(op, args) {
+    if let Some(found) = misfit_of_argument(&op, args) {
         return Some(found);
     }
     match rank(op, args) {
@@ -54,14 +54,25 @@ pub fn misfit(op: Op, args: &[Sort]) -> Option<RankFlaw>
     }
 }
 
+// Whether an operator that takes at least so many arguments, and perhaps more, takes this many.
+fn takes_count(least: usize, takes_more: bool, count: usize) -> bool
+    ensures { result ≡ misfits.takes_count (least, takes_more) count }
+{
+    if takes_more {
+        count >= least
+    } else {
+        count == least
+    }
+}
+
 // The least number of arguments that an operator takes, and whether it takes more.
-fn counts(op: Op) -> (usize, bool)
-    ensures { result ≡ counts_of op }
+fn counts(op: &Op) -> (usize, bool)
+    ensures { result ≡ counts_of op.now }
 {
     match op {
-        Op::Core(op) => counts_in_core(op),
-        Op::Ints(op) => counts_in_ints(op),
-        Op::Bits(op) => counts_in_bits(op),
+        Op::Core(op) => counts_in_core(*op),
+        Op::Ints(op) => counts_in_ints(*op),
+        Op::Bits(op) => counts_in_bits(*op),
     }
 }
 
@@ -103,13 +114,13 @@ fn counts_in_bits(op: BitsOp) -> (usize, bool)
 }
 
 // The first argument that does not fit.
-fn misfit_of_argument(op: Op, args: &[Sort]) -> Option<RankFlaw>
-    ensures { result ≡ argument_misfit op args.now }
+fn misfit_of_argument(op: &Op, args: &[Sort]) -> Option<RankFlaw>
+    ensures { result ≡ argument_misfit op.now args.now }
 {
     match op {
-        Op::Core(op) => misfit_in_core(op, args),
+        Op::Core(op) => misfit_in_core(*op, args),
         Op::Ints(_) => first_other(args, &Sort::Int),
-        Op::Bits(op) => misfit_in_bits(op, args),
+        Op::Bits(op) => misfit_in_bits(*op, args),
     }
 }
 
