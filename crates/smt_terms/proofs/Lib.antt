@@ -41,6 +41,7 @@ pub mod BinderNodeLemmas
 pub mod FirstFaultLemmas
 pub mod ElementLawLemmas
 pub mod BlameLemmas
+pub mod DeclaredSortLemmas
 pub mod FrameLemmas
 pub mod ApplicationLemmas
 pub mod LetFrameLemmas

@@ -9,6 +9,7 @@ pub mod Definitions
 pub mod Assertions
 pub mod Items
 pub mod Blame
+pub mod DeclaredSorts
 pub mod WellSorted
 pub mod Repeated
 pub mod Written

@@ -16,6 +16,7 @@ mod blamed_names;
 mod blamed_parts;
 mod blames;
 mod checker;
+mod declared_sorts;
 mod definitions;
 mod draft;
 mod element_names;
