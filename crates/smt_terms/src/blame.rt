@@ -7,18 +7,31 @@ use smt_trees::Tree;
 #[derive(Drop)]
 pub enum Blame<'t> {
     /// A symbol, the name of an identifier with indexes, or that of a sort, which nothing has (F3).
-    Unknown { name: &'t [u8] },
+    Unknown {
+        name: &'t [u8],
+    },
     /// A symbol, an identifier with indexes, a literal or the tree of a sort that is unknown here, and would not be so
     /// in a logic with this theory (F3).
-    Lacks { part: Tree<'t>, theory: Theory },
+    Lacks {
+        part: Tree<'t>,
+        theory: Theory,
+    },
     /// A name that is bound twice by a `let`, or that two parameters or two items have (F6).
-    Twice { name: &'t [u8] },
+    Twice {
+        name: &'t [u8],
+    },
     /// A label that an earlier term of the same assertion has (F7).
-    Label { name: &'t [u8] },
+    Label {
+        name: &'t [u8],
+    },
     /// A new name that is in use, is an operator's or an element's, or is a sort's (F7).
-    InUse { name: &'t [u8] },
+    InUse {
+        name: &'t [u8],
+    },
     /// A part whose head is a variable, which takes no arguments (F4).
-    Variable { part: Tree<'t> },
+    Variable {
+        part: Tree<'t>,
+    },
     /// An argument of a part that is the first of another sort than is wanted there (F4).
     Misfit {
         part: Tree<'t>,
@@ -35,9 +48,15 @@ pub enum Blame<'t> {
         wanted: u64,
     },
     /// A part whose arguments are bit vectors of these sorts, whose widths do not fit its operator (F4).
-    Sorts { part: Tree<'t>, found: Vec<Sort> },
+    Sorts {
+        part: Tree<'t>,
+        found: Vec<Sort>,
+    },
     /// The term as a whole: the assertion, the assumption, or the body of the definition (F4).
-    Whole { found: Sort, wanted: Sort },
+    Whole {
+        found: Sort,
+        wanted: Sort,
+    },
     /// A parameter of an item that has another sort than in the declaration of the name (F4).
     Parameter {
         place: u64,
@@ -45,9 +64,15 @@ pub enum Blame<'t> {
         wanted: Sort,
     },
     /// The result of an item that has another sort than in the declaration of the name (F4).
-    Outcome { found: Sort, wanted: Sort },
+    Outcome {
+        found: Sort,
+        wanted: Sort,
+    },
     /// An item with more or fewer parameters than its name is declared with (F4).
-    Parameters { given: u64, wanted: u64 },
+    Parameters {
+        given: u64,
+        wanted: u64,
+    },
 }
 
 /// A theory that a logic may lack.

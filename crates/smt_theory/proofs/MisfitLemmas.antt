@@ -93,8 +93,8 @@ core-fits Ite args sort h =
 ints-fits : (op : IntsOp) (args : List Sort) (sort : Sort) → HasRank (Ints op) args sort → Fits (Ints op) args
 ints-fits (Arithmetic Minus) args sort h =
     elim h.0 [
-      inl e ↦ subst (Fits (Ints (Arithmetic Minus))) (sym e) (refl, refl)
-    | inr s ↦ (one _ (counted Int args s), none_but Int args s)
+      | inl e ↦ subst (Fits (Ints (Arithmetic Minus))) (sym e) (refl, refl)
+      | inr s ↦ (one _ (counted Int args s), none_but Int args s)
     ]
 ints-fits (Arithmetic Plus) args sort h = ((counted Int args h.0), none_but Int args h.0)
 ints-fits (Arithmetic Times) args sort h = ((counted Int args h.0), none_but Int args h.0)

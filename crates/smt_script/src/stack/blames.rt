@@ -30,10 +30,7 @@ impl Stack {
 }
 
 // The same over the library of what is in force.
-fn blame_over<'t>(
-    library: &Library<'_>,
-    command: &Command<'t>,
-) -> Result<Option<Blame<'t>>, Memory>
+fn blame_over<'t>(library: &Library<'_>, command: &Command<'t>) -> Result<Option<Blame<'t>>, Memory>
     ensures { (s : Signature) → terms.StandsFor library.now s → IfOk result (IsToldOver s) }
 {
     match command {

@@ -155,13 +155,7 @@ impl Library<'_> {
         };
         match entry.place {
             Found::Declared(_) => Some(entry),
-            Found::Defined(_) => {
-                if repeats {
-                    Some(entry)
-                } else {
-                    None
-                }
-            }
+            Found::Defined(_) => { if repeats { Some(entry) } else { None } }
         }
     }
 

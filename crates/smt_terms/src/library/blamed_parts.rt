@@ -70,11 +70,7 @@ impl Library<'_> {
     }
 
     // The same of an identifier that is alone and no variable: it is unknown, or takes arguments.
-    fn blame_of_alone<'t>(
-        &self,
-        part: Tree<'t>,
-        identifier: &Identifier<'t>,
-    ) -> Option<Blame<'t>>
+    fn blame_of_alone<'t>(&self, part: Tree<'t>, identifier: &Identifier<'t>) -> Option<Blame<'t>>
         requires { IsAlone (sexp_of part) (identifier_view identifier.now) }
         ensures { IsTold self.now result }
     {

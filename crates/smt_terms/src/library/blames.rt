@@ -37,19 +37,13 @@ impl Library<'_> {
 
     /// The same of terms that are assumed, each of which has to be a formula without labels: what is to blame for the
     /// fault of the first one that has one.
-    pub fn blame_of_assumptions<'t>(
-        &self,
-        terms: Trees<'t>,
-    ) -> Result<Option<Blame<'t>>, Memory>
+    pub fn blame_of_assumptions<'t>(&self, terms: Trees<'t>) -> Result<Option<Blame<'t>>, Memory>
         ensures { (s : Signature) → StandsFor self.now s → IfOk result (IsToldOver s) }
     {
         self.blame_in_assumptions(terms)
     }
 
-    fn blame_in_assumptions<'t>(
-        &self,
-        terms: Trees<'t>,
-    ) -> Result<Option<Blame<'t>>, Memory>
+    fn blame_in_assumptions<'t>(&self, terms: Trees<'t>) -> Result<Option<Blame<'t>>, Memory>
         ensures { IfOk result (IsTold self.now) }
     {
         match self.first_refused(terms)? {

@@ -53,7 +53,9 @@ fn waiting_for<'t>(parts: Trees<'t>, frame: Frame) -> Option<(Tree<'t>, usize)> 
     let (_, args) = parts.split_first()?;
     match frame {
         Frame::Argument {
-            application, left, ..
+            application,
+            left,
+            ..
         } => argument_before(args, left.saturating_sub(application.end) as usize),
         Frame::Binding { binder, left, .. } => {
             let (bindings, _) = split_let(args)?;

@@ -19,5 +19,7 @@ returns-then-is_variable c =
 
 pub blame_of_identifier-requires : goal.blame_of_identifier-requires
 blame_of_identifier-requires c =
-    inr (sexps_of c.in-Some.field-0-1,
-    subst (λ parts. IsApplied parts (identifier_view c.args.identifier.now)) c.in-Some.ensures c.requires.call)
+    inr (
+      sexps_of c.in-Some.field-0-1,
+      subst (λ parts. IsApplied parts (identifier_view c.args.identifier.now)) c.in-Some.ensures c.requires.call,
+    )
