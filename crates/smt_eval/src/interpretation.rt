@@ -121,7 +121,7 @@ fn item_fault(number: u64, fault: TermFault) -> ModelFault
 }
 
 // The items of a model, without a leading symbol `model`.
-fn items(trees: Trees<'_>) -> Trees<'_>
+pub(crate) fn items(trees: Trees<'_>) -> Trees<'_>
     ensures { sexps_of result ≡ items_of (sexps_of trees.entry) }
 {
     match trees.split_first() {

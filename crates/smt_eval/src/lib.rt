@@ -8,6 +8,7 @@
 //! `(= (div x 0) x)` is open.
 #![tactic(auto)]
 
+mod blames;
 mod checked;
 mod closed;
 mod interpretation;
@@ -16,6 +17,7 @@ mod model_fault;
 pub mod plain;
 mod tables;
 
+pub use blames::blame_of_items;
 pub use checked::Checked;
 pub use closed::{Closed, cost, cost_within, eval, eval_by};
 pub use interpretation::Interpretation;

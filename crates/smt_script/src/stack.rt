@@ -15,6 +15,7 @@ ghost use Rattle.smt_script.specs.StackView.{AreAssertions, AreTerms, HoldsAfter
 ghost use Rattle.smt_script.specs.StackView.{library_of, profile_of, start_of};
 ghost use Rattle.smt_faults.specs.Outcome.{TellsCommand};
 
+mod blames;
 mod effects;
 mod level_runs;
 mod levels;

@@ -40,6 +40,8 @@ pub mod LabelNodeLemmas
 pub mod BinderNodeLemmas
 pub mod FirstFaultLemmas
 pub mod ElementLawLemmas
+pub mod BlameLemmas
+pub mod DeclaredSortLemmas
 pub mod FrameLemmas
 pub mod ApplicationLemmas
 pub mod LetFrameLemmas

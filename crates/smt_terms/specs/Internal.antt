@@ -7,3 +7,4 @@ pub mod Growing
 pub mod NodesView
 pub mod SoFar
 pub mod Frames
+pub mod Blamed

@@ -8,6 +8,8 @@ pub mod Checking
 pub mod Definitions
 pub mod Assertions
 pub mod Items
+pub mod Blame
+pub mod DeclaredSorts
 pub mod WellSorted
 pub mod Repeated
 pub mod Written

@@ -16,12 +16,14 @@
 //! ```
 #![tactic(auto)]
 
+mod blame;
 mod labels;
 pub mod laws;
 mod library;
 mod named_sort;
 mod sorts;
 
+pub use blame::{Blame, Theory};
 pub use library::{Declared, Definition, Found, Library, Mark};
 pub use named_sort::NamedSort;
 pub use smt_faults::TermFault;

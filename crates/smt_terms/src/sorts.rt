@@ -57,6 +57,20 @@ impl SortNames {
         }
     }
 
+    /// The same in other theories.
+    pub(crate) fn sort_under(&self, theories: Theories, tree: Tree<'_>) -> Result<Sort, TermFlaw>
+        ensures { result ≡ sort_named (record (sort_names self.now) { theories = theories }) (sexp_of tree.entry) }
+    {
+        match tree {
+            Tree::Symbol(name) => match self.get(name) {
+                Some(named) => Ok(named.sort),
+                None => sort_of_word(theories, name),
+            },
+            Tree::List(parts) => sort_of_list(theories, parts),
+            _ => Err(TermFlaw::Form),
+        }
+    }
+
     /// The sorts that trees name, in order, or the first fault.
     pub(crate) fn sorts_of(&self, alloc: Global, trees: Trees<'_>) -> Result<Vec<Sort>, TermFault>
         ensures { IsOutcome (λ found. found.items) (sorts_named (sort_names self.now) (sexps_of trees.entry))
@@ -151,7 +165,7 @@ impl SortNames {
     }
 
     // Whether a name is that of a sort or an abbreviation.
-    fn is_taken(&self, name: &[u8]) -> bool
+    pub(crate) fn is_taken(&self, name: &[u8]) -> bool
         ensures { result ≡ is_sort_taken (sort_names self.now) name.now }
     {
         is_theory_sort(self.theories.wide, name) || self.get(name).is_some()

@@ -7,5 +7,6 @@ pub mod DigitLemmas
 pub mod RankLemmas
 pub mod BitsRankLemmas
 pub mod RankTableLemmas
+pub mod MisfitLemmas
 pub mod WideLemmas
 mod DigitTableLemmas

@@ -7,6 +7,7 @@ pub mod Index
 pub mod BitsOperators
 pub mod Operators
 pub mod Ranks
+pub mod Misfits
 pub mod NamesLike
 pub mod PlainOp
 pub mod Internal

@@ -2,7 +2,8 @@
 
 pub mod names;
 
-ghost use Rattle.std.specs.Prelude.{◌≡◌, ◌≢◌, ◌↔◌, ℕ, List, [], ◌∷◌, IsTrue, Ok, Err, Some};
+ghost use Rattle.std.specs.Prelude.{◌≡◌, ◌≢◌, ◌↔◌, ℕ, List, [], ◌∷◌, IsTrue, Ok, Err, Some, None};
+ghost use Rattle.smt_theory.specs.Misfits.{misfit_of};
 ghost use Rattle.smt_theory.specs.Operators.{IsIndexedName, IsOperatorBy, IsPlainName, op_by};
 ghost use Rattle.smt_theory.specs.Ranks.{HasRank, rank_of};
 ghost use Rattle.smt_theory.specs.Sort.{is_same_sort};
@@ -18,6 +19,12 @@ pub fn ranks_are_the_table()
     ensures computed { (op : Op) (args : List Sort) (sort : Sort) → (rank_of op args ≡ Some sort)
         ↔ HasRank op args sort }
     ensures one { (op : Op) (args : List Sort) (a b : Sort) → HasRank op args a → HasRank op args b → a ≡ b }
+{}
+
+/// Why an operator does not take arguments of given sorts is told exactly where it has no rank for them.
+pub fn flaws_of_ranks_are_told()
+    ensures { (op : Op) (args : List Sort)
+        → (misfit_of op args ≡ None) ↔ ((sort : Sort) × HasRank op args sort) }
 {}
 
 /// A symbol with indexes names an operator exactly where the symbol is the operator's own name, the indexes

@@ -22,6 +22,7 @@
 
 mod index;
 pub mod laws;
+mod misfits;
 mod numbers;
 mod op;
 mod profile;
@@ -33,6 +34,7 @@ mod wide;
 mod width;
 
 pub use index::Index;
+pub use misfits::{RankFlaw, Wanted, misfit};
 pub use numbers::{digit, number};
 pub use op::names::{op_of, plain_op_of};
 pub use op::plain::PlainOp;

@@ -132,8 +132,9 @@ fn are_two_or_more_of_one(args: &[Sort]) -> bool
     }
 }
 
+// Whether two sorts are the same.
 #[inline(always)]
-fn is_same(a: Sort, b: Sort) -> bool
+pub(crate) fn is_same(a: Sort, b: Sort) -> bool
     ensures { result ≡ is_same_sort a b }
 {
     a == b

@@ -376,7 +376,7 @@ impl Library<'_> {
 }
 
 // Whether one of these attributes is a label.
-fn has_label(attributes: Trees<'_>) -> bool
+pub(super) fn has_label(attributes: Trees<'_>) -> bool
     ensures { result ≡ has_labels (labels_among (sexps_of attributes.entry)) }
 {
     let mut left = attributes;

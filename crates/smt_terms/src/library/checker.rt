@@ -456,7 +456,7 @@ pub(super) fn are_same(parameters: &[Sort], args: &[Sort]) -> bool
 
 // Whether an identifier is the plain name of a variable in scope.
 #[tactic(auto, using(crate::proofs::DraftLemmas::found_sorts))]
-fn is_variable(scope: &Scope<'_, Bound>, identifier: &Identifier<'_>) -> bool
+pub(super) fn is_variable(scope: &Scope<'_, Bound>, identifier: &Identifier<'_>) -> bool
     ensures { result ≡ names_variable (sorts_of (scope_of scope.now)) (identifier_view identifier.now) }
 {
     match identifier {

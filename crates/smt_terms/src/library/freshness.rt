@@ -57,7 +57,7 @@ impl Library<'_> {
     }
 
     // Whether no item may have this name: it has the form of an element's, or is taken and no command declared it.
-    fn is_unfit(&self, name: &[u8]) -> bool
+    pub(super) fn is_unfit(&self, name: &[u8]) -> bool
         ensures unfit { (s : Signature) → StandsFor self.now s
             → result ≡ (is_element_name s name.now || is_taken_undeclared s name.now) }
         ensures apart { result ≡ false → element_among (elements_lent self.now) name.now ≡ None }

@@ -88,6 +88,17 @@ impl Library<'_> {
     }
 }
 
+// The name and the tree of the sort of a constant that an item declares.
+pub(super) fn declared_parts<'a>(item: Tree<'a>) -> Option<(&'a [u8], Tree<'a>)> {
+    let Tree::List(parts) = item else {
+        return None;
+    };
+    match parts.split_first() {
+        Some((Tree::Reserved(Word::DeclareFun), rest)) => constant_parts(rest),
+        _ => None,
+    }
+}
+
 // The name and the tree of the sort of a constant that is declared, from the parts after the first word.
 fn constant_parts<'a>(parts: Trees<'a>) -> Option<(&'a [u8], Tree<'a>)>
     ensures { (s : Signature) → MatchOption result (declared_item s (sexps_of parts.entry) ≡ Err Form)

@@ -69,7 +69,7 @@ impl Library<'_> {
     }
 
     // The same, on a stack that is empty.
-    fn walk<'a>(
+    pub(super) fn walk<'a>(
         &self,
         draft: &mut Draft<'a>,
         frames: &mut Vec<Frame>,

@@ -1,0 +1,5 @@
+use Rattle.smt_terms.proofs.BlameLemmas.{told_by}
+use Rattle.smt_terms.proofs.library.Library.blame_of_assertion.Goals as goal
+
+pub returns : goal.returns
+returns c = λ s stands. told_by c.args.self.now s c.blame_of_term.result stands c.blame_of_term.ensures

@@ -1,0 +1,401 @@
+//! Parts of terms that are to blame, where the walk over a term stopped at a fault. This file finds no fault.
+
+ghost use Rattle.std.specs.Prelude.{◌≡◌, ◌≤◌, IfOk, IfSome, length, option_map};
+ghost use Rattle.smt_trees.specs.View.{sexp_of, sexps_of};
+ghost use Rattle.smt_forms.specs.IdentifierView.{identifier_view};
+ghost use Rattle.smt_terms.specs.Blame as blame;
+ghost use Rattle.smt_terms.specs.Blame.{IsAlone};
+ghost use Rattle.smt_terms.specs.Internal.Blamed.{IsApplied, IsMisfitOf, IsTold};
+ghost use Rattle.smt_terms.specs.Internal.DraftView.{argument_sorts};
+ghost use Rattle.smt_terms.specs.Internal.LibraryView.{names_of_library};
+
+use crate::blame::Blame;
+use crate::labels::Label;
+use crate::library::Library;
+use crate::library::checker::is_variable;
+use crate::library::draft::Draft;
+use crate::sorts::are_equal;
+use smt_faults::{Memory, TermFault};
+use smt_forms::{
+    Identifier, applied_identifier, indexed_identifier, label_at, split_let, split_named,
+};
+use smt_theory::{Op, OpFault, RankFlaw, Sort, Wanted, misfit, op_of};
+use smt_trees::{Tree, Trees, Word};
+
+impl Library<'_> {
+    // What is to blame where the walk stopped in this part; so many arguments wait of the parts around it.
+    pub(super) fn blame_of_part<'t>(
+        &self,
+        draft: &Draft<'t>,
+        part: Tree<'t>,
+        around: usize,
+    ) -> Result<Option<Blame<'t>>, Memory>
+        ensures { IfOk result (IsTold self.now) }
+    {
+        let Tree::List(parts) = part else {
+            return self.blame_of_atom(part);
+        };
+        match parts.split_first() {
+            Some((Tree::Reserved(Word::Underscore), _)) => self.blame_of_atom(part),
+            Some((Tree::Reserved(Word::Let), args)) => self.blame_of_let(draft, args, around),
+            Some((Tree::Reserved(Word::Bang), args)) => Ok(self.blame_of_label(draft, args)),
+            Some((Tree::Reserved(Word::As), args)) => Ok(self.blame_of_qualified(args)),
+            _ => self.blame_of_list(draft, parts, around),
+        }
+    }
+
+    // The same where the part is no list, or an identifier with indexes.
+    pub(super) fn blame_of_atom<'t>(&self, part: Tree<'t>) -> Result<Option<Blame<'t>>, Memory>
+        ensures { IfOk result (IsTold self.now) }
+    {
+        match part {
+            Tree::Symbol(name) => Ok(self.blame_of_alone(part, &Identifier::Plain(name))),
+            Tree::List(parts) => self.blame_of_indexed(parts),
+            _ => Ok(self.blame_of_literal(part)),
+        }
+    }
+
+    // The same of an identifier with indexes, by the parts of its list.
+    fn blame_of_indexed<'t>(&self, parts: Trees<'t>) -> Result<Option<Blame<'t>>, Memory>
+        ensures { IfOk result (IsTold self.now) }
+    {
+        let Some((Tree::Reserved(Word::Underscore), args)) = parts.split_first() else {
+            return Ok(None);
+        };
+        match indexed_identifier(self.alloc, args) {
+            Ok(identifier) => Ok(self.blame_of_alone(Tree::List(parts), &identifier)),
+            Err(TermFault::Memory) => Err(Memory),
+            Err(_) => Ok(None),
+        }
+    }
+
+    // The same of an identifier that is alone and no variable: it is unknown, or takes arguments.
+    fn blame_of_alone<'t>(&self, part: Tree<'t>, identifier: &Identifier<'t>) -> Option<Blame<'t>>
+        requires { IsAlone (sexp_of part) (identifier_view identifier.now) }
+        ensures { IsTold self.now result }
+    {
+        if let Some(blame) = self.blame_of_identifier(part, identifier) {
+            return Some(blame);
+        }
+        match self.call_flaw(identifier, &[]) {
+            Some(RankFlaw::Count { wanted }) => Some(Blame::Arity {
+                part,
+                given: 0,
+                wanted: wanted as u64,
+            }),
+            _ => None,
+        }
+    }
+
+    // ---- applications
+
+    // The same of an application of these parts: its first argument that is not checked, or the application where all
+    // are.
+    fn blame_of_list<'t>(
+        &self,
+        draft: &Draft<'_>,
+        parts: Trees<'t>,
+        around: usize,
+    ) -> Result<Option<Blame<'t>>, Memory>
+        ensures { IfOk result (IsTold self.now) }
+    {
+        let Some((head, args)) = parts.split_first() else {
+            return Ok(None);
+        };
+        let Some(checked) = draft.arguments.len().checked_sub(around) else {
+            return Ok(None);
+        };
+        if let Some(argument) = tree_at(args, checked) {
+            return self.blame_of_atom(argument);
+        }
+        match applied_identifier(self.alloc, head, args) {
+            Ok(identifier) => self.blame_of_call(draft, parts, &identifier, around),
+            Err(TermFault::Memory) => Err(Memory),
+            Err(_) => Ok(None),
+        }
+    }
+
+    // The same of an application of these parts, whose arguments are all checked and wait from this one on.
+    fn blame_of_call<'t>(
+        &self,
+        draft: &Draft<'_>,
+        parts: Trees<'t>,
+        identifier: &Identifier<'t>,
+        start: usize,
+    ) -> Result<Option<Blame<'t>>, Memory>
+        requires call { IsApplied (sexps_of parts) (identifier_view identifier.now) }
+        requires start { start ≤ length (argument_sorts draft.now.arguments) }
+        ensures { IfOk result (IsTold self.now) }
+    {
+        let Some((head, _)) = parts.split_first() else {
+            return Ok(None);
+        };
+        if is_variable(&draft.scope, identifier) {
+            return Ok(Some(Blame::Variable {
+                part: Tree::List(parts),
+            }));
+        }
+        if let Some(blame) = self.blame_of_identifier(head, identifier) {
+            return Ok(Some(blame));
+        }
+        self.blame_of_sorts(parts, identifier, draft.arguments.sorts(start))
+    }
+
+    // The same of an application to arguments of these sorts.
+    fn blame_of_sorts<'t>(
+        &self,
+        parts: Trees<'t>,
+        identifier: &Identifier<'t>,
+        sorts: &[Sort],
+    ) -> Result<Option<Blame<'t>>, Memory>
+        requires { IsApplied (sexps_of parts) (identifier_view identifier.now) }
+        ensures { IfOk result (IsTold self.now) }
+    {
+        let part = Tree::List(parts);
+        match self.call_flaw(identifier, sorts) {
+            Some(RankFlaw::Argument { place, wanted }) => {
+                Ok(misfit_at(parts, sorts, place, wanted))
+            }
+            Some(RankFlaw::Count { wanted }) => Ok(Some(Blame::Arity {
+                part,
+                given: sorts.len() as u64,
+                wanted: wanted as u64,
+            })),
+            Some(RankFlaw::Widths) => {
+                let found = Vec::from_slice(self.alloc, sorts)?;
+                Ok(Some(Blame::Sorts { part, found }))
+            }
+            None => Ok(None),
+        }
+    }
+
+    // Why an identifier that is no variable does not take arguments of these sorts.
+    fn call_flaw(&self, identifier: &Identifier<'_>, sorts: &[Sort]) -> Option<RankFlaw>
+        ensures { result ≡ blame.call_flaw (names_of_library self.now) (identifier_view identifier.now) sorts.now }
+    {
+        match identifier {
+            Identifier::Plain(name) => match self.get(*name) {
+                Some(entry) => parameter_flaw(entry.parameters.as_slice(), sorts),
+                None => operator_flaw(op_of(self.sorts.theories, *name, &[]), sorts),
+            },
+            Identifier::Indexed { name, indexes } => operator_flaw(
+                op_of(self.sorts.theories, *name, indexes.as_slice()),
+                sorts,
+            ),
+        }
+    }
+
+    // ---- other lists
+
+    // The same of a `let`, by the trees after its word: a name that an earlier binding has, or the term of a binding.
+    fn blame_of_let<'t>(
+        &self,
+        draft: &Draft<'_>,
+        args: Trees<'t>,
+        around: usize,
+    ) -> Result<Option<Blame<'t>>, Memory>
+        ensures { IfOk result (IsTold self.now) }
+    {
+        let Some((bindings, _)) = split_let(args) else {
+            return Ok(None);
+        };
+        let Some(checked) = draft.arguments.len().checked_sub(around) else {
+            return Ok(None);
+        };
+        let Some((name, term)) = binding_at(bindings, checked) else {
+            return Ok(None);
+        };
+        if is_bound_before(bindings, checked, name) {
+            return Ok(Some(Blame::Twice { name }));
+        }
+        self.blame_of_atom(term)
+    }
+
+    // The same of an annotated term, by the trees after the `!`: its first label that is not given.
+    fn blame_of_label<'t>(&self, draft: &Draft<'_>, args: Trees<'t>) -> Option<Blame<'t>>
+        ensures { IsTold self.now result }
+    {
+        let Some((_, attributes)) = args.split_first() else {
+            return None;
+        };
+        let Some(name) = label_behind(attributes, self.labels_of_last(draft)) else {
+            return None;
+        };
+        if self.is_taken(name) {
+            return Some(Blame::InUse { name });
+        }
+        if draft.labels.is_given(name) {
+            return Some(Blame::Label { name });
+        }
+        None
+    }
+
+    // How many labels the last node has: they are the last ones.
+    fn labels_of_last(&self, draft: &Draft<'_>) -> usize {
+        let rows = self.nodes.len().saturating_add(draft.nodes.len());
+        count_of(draft.labels.given.as_slice(), rows)
+    }
+
+    // The same of `(as symbol sort)`, by the parts after the `as`: a symbol that is in use, or the sort.
+    fn blame_of_qualified<'t>(&self, args: Trees<'t>) -> Option<Blame<'t>>
+        ensures { IsTold self.now result }
+    {
+        let Some(elements) = &self.elements else {
+            return None;
+        };
+        let Some((Tree::Symbol(symbol), rest)) = args.split_first() else {
+            return None;
+        };
+        if elements.is_taken(symbol) || self.has_entry(symbol) {
+            return self.blame_of_name(symbol);
+        }
+        let Some((tree, _)) = rest.split_first() else {
+            return None;
+        };
+        match elements.sorts.sort_of(tree) {
+            Ok(_) => None,
+            Err(_) => self.blame_of_sort(tree),
+        }
+    }
+}
+
+// ---- sorts
+
+fn operator_flaw(op: Result<Op, OpFault>, sorts: &[Sort]) -> Option<RankFlaw>
+    ensures { result ≡ blame.operator_flaw op sorts.now }
+{
+    match op {
+        Ok(op) => misfit(op, sorts),
+        Err(_) => None,
+    }
+}
+
+// Why parameters of these sorts do not take arguments of others.
+pub(super) fn parameter_flaw(parameters: &[Sort], sorts: &[Sort]) -> Option<RankFlaw>
+    ensures { result ≡ blame.parameter_flaw parameters.now sorts.now }
+{
+    let wanted = parameters.len();
+    if sorts.len() != wanted {
+        return Some(RankFlaw::Count { wanted });
+    }
+    other_argument(parameters, other_place(parameters, sorts)?)
+}
+
+fn other_place(parameters: &[Sort], sorts: &[Sort]) -> Option<usize>
+    ensures { result ≡ blame.other_place parameters.now sorts.now }
+{
+    parameters
+        .iter()
+        .zip(sorts.iter())
+        .position(|(a, b)| !are_equal(*a, *b))
+}
+
+fn other_argument(parameters: &[Sort], place: usize) -> Option<RankFlaw>
+    ensures { result ≡ blame.other_argument parameters.now place }
+{
+    match parameters.get(place) {
+        Some(sort) => Some(RankFlaw::Argument {
+            place,
+            wanted: Wanted::Only(*sort),
+        }),
+        None => None,
+    }
+}
+
+// The blame of the argument at a place, from 0, of an application of these parts to arguments of these sorts.
+fn misfit_at<'t>(
+    parts: Trees<'t>,
+    sorts: &[Sort],
+    place: usize,
+    wanted: Wanted,
+) -> Option<Blame<'t>>
+    ensures { IfSome result (IsMisfitOf (sexps_of parts.entry) sorts.now place wanted) }
+{
+    let (_, args) = parts.split_first()?;
+    let argument = tree_at(args, place)?;
+    let found = sorts.get(place)?;
+    let place = (place as u64).checked_add(1)?;
+    Some(Blame::Misfit {
+        part: Tree::List(parts),
+        place,
+        argument,
+        found: *found,
+        wanted,
+    })
+}
+
+// ---- places
+
+// The tree at a place, from 0.
+fn tree_at<'t>(trees: Trees<'t>, place: usize) -> Option<Tree<'t>>
+    ensures { option_map sexp_of result ≡ blame.tree_at (sexps_of trees.entry) place }
+{
+    let mut left = trees;
+    let mut before = place;
+    while let Some((tree, rest)) = left.split_first() {
+        if before == 0 {
+            return Some(tree);
+        }
+        before -= 1;
+        left = rest;
+    }
+    None
+}
+
+// The name and the term of the binding at a place, from 0.
+fn binding_at<'t>(bindings: Trees<'t>, place: usize) -> Option<(&'t [u8], Tree<'t>)> {
+    let mut left = bindings;
+    let mut before = place;
+    while let Some((name, term, rest)) = split_named(left) {
+        if before == 0 {
+            return Some((name, term));
+        }
+        before -= 1;
+        left = rest;
+    }
+    None
+}
+
+// Whether one of the first bindings, so many, has this name.
+fn is_bound_before(bindings: Trees<'_>, count: usize, name: &[u8]) -> bool {
+    let mut left = bindings;
+    let mut before = count;
+    while let Some((earlier, _, rest)) = split_named(left) {
+        if before == 0 {
+            return false;
+        }
+        if earlier == name {
+            return true;
+        }
+        before -= 1;
+        left = rest;
+    }
+    false
+}
+
+// How many of these labels are those of the last of so many nodes.
+fn count_of(labels: &[Label<'_>], rows: usize) -> usize {
+    let mut count = 0usize;
+    for label in labels {
+        if label.node.number().saturating_add(1) == rows {
+            count = count.saturating_add(1);
+        }
+    }
+    count
+}
+
+// The label among attributes that comes behind so many others.
+fn label_behind<'t>(attributes: Trees<'t>, count: usize) -> Option<&'t [u8]> {
+    let mut left = attributes;
+    let mut before = count;
+    while let Some((tree, rest)) = left.split_first() {
+        if let Some(name) = label_at(tree, rest) {
+            if before == 0 {
+                return Some(name);
+            }
+            before -= 1;
+        }
+        left = rest;
+    }
+    None
+}
