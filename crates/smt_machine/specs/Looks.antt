@@ -1,10 +1,12 @@
 -- A node as a walk beside its tree sees it: its parts, the body that it leads to, and its operator.
-use Rattle.std.specs.Prelude.{◌≡◌, ℕ, List, [], Bool, true, false, Option, Some, None, nat_lt, option_and_then}
+use Rattle.std.specs.Prelude.{◌≡◌, ℕ, List, [], Bool, true, false, Option, Some, None, length, nat_lt}
+use Rattle.std.specs.Prelude.{option_and_then, slice_get}
 use Rattle.std.specs.Prelude.{if◌then◌else◌}
 use Rattle.smt_theory.specs.declared.op.Op.{Op}
 use Rattle.smt_nodes.specs.Node as written
-use Rattle.smt_machine.specs.Internal.Parts.{numbers_of}
+use Rattle.smt_machine.specs.Given.{fill}
 use Rattle.smt_machine.specs.Nodes.{Node, Known, Slot, Apply, Call, Let}
+use Rattle.smt_machine.specs.Tables.{shifted}
 use Rattle.smt_machine.specs.declared.look.Look.{Look}
 
 -- ---- nodes
@@ -45,13 +47,26 @@ abbrev pub is_element : Option written.Node → Bool
 is_element (Some (written.Element name)) = true
 is_element _ = false
 
+-- what leads to a body is an element where that is; else what is written tells
+abbrev pub element_by : (ℕ → Bool) → Option ℕ → Option written.Node → Bool
+element_by is_element_at (Some j) source = is_element_at j
+element_by is_element_at None source = is_element source
+
+-- whether the node of each number is an element, or a name or a `let` that leads to one by its body
+unfoldable pub leads_to_element : List Node → List written.Node → ℕ → Bool
+leads_to_element nodes sources =
+    fill (λ i. is_element (slice_get sources i))
+    (λ is_element_at i. element_by is_element_at (option_and_then (below i) (body_of (slice_get nodes i)))
+    (slice_get sources i))
+    (length nodes)
+
 -- ---- what a look shows
 
 abbrev pub number_seen : Look → ℕ
 number_seen look = look.number
 
 abbrev pub parts_seen : Look → List ℕ
-parts_seen look = numbers_of look.parts
+parts_seen look = shifted look.shift look.ids.now
 
 abbrev pub op_seen : Look → Option Op
 op_seen look = look.op

@@ -3,13 +3,14 @@
 ghost use Rattle.std.specs.Prelude.{◌≡◌, [], None, Some, false, option_and_then, option_map, slice_get};
 ghost use Rattle.smt_nodes.specs.NodeView.{node_view};
 ghost use Rattle.smt_machine.specs.Internal.Parts.{meaning, number_of, numbers_of};
-ghost use Rattle.smt_machine.specs.Looks.{Shows, below, element_seen, number_seen, op_seen, parts_seen};
+ghost use Rattle.smt_machine.specs.Looks.{Shows, below, body_of, element_seen, leads_to_element};
+ghost use Rattle.smt_machine.specs.Looks.{number_seen, op_seen, parts_seen};
 ghost use Rattle.smt_machine.specs.Tables.{call, nodes_of, written_of};
 
 use crate::items::item_at;
 use crate::parts::{Part, Parts};
 use crate::tables::{Place, Tables};
-use smt_nodes::Node;
+use smt_nodes::{Node, TermId};
 use smt_theory::Op;
 
 /// What a walk beside a term's tree sees of the term's node. All nodes are named by their numbers in both tables, the
@@ -17,7 +18,8 @@ use smt_theory::Op;
 #[derive(Clone, Copy)]
 pub struct Look<'a> {
     number: usize,
-    parts: Parts<'a>,
+    ids: &'a [TermId],
+    shift: usize,
     op: Option<Op>,
     element: bool,
     /// The body that the node leads to: of the name that it calls, declared or defined, or of the `let` that it is.
@@ -32,11 +34,11 @@ impl<'a> Look<'a> {
     pub fn part(&self, place: usize) -> Option<usize>
         ensures { result ≡ option_and_then (below (number_seen self.now)) (slice_get (parts_seen self.now) place) }
     {
-        match item_at(self.parts.ids, place) {
+        match item_at(self.ids, place) {
             Some(id) => {
                 let part = Part {
                     id: *id,
-                    shift: self.parts.shift,
+                    shift: self.shift,
                 };
                 part.below(self.number)
             }
@@ -68,7 +70,8 @@ impl<'a> Look<'a> {
     {
         Look {
             number,
-            parts: Parts { ids: &[], shift: 0 },
+            ids: &[],
+            shift: 0,
             op: None,
             element,
             body: None,
@@ -85,7 +88,8 @@ impl<'a> Look<'a> {
     {
         Look {
             number,
-            parts,
+            ids: parts.ids,
+            shift: parts.shift,
             op,
             element: false,
             body: match body {
@@ -143,5 +147,24 @@ impl<'a> Tables<'a> {
             Some(found) => Look::at(node, &from, &found),
             None => Look::leaf(node, false),
         }
+    }
+
+    /// Whether a node is an element of a declared sort, or a name or a `let` that leads to one by its body.
+    pub fn leads_to_element(&self, node: usize) -> bool
+        ensures { result ≡ leads_to_element (nodes_of self.now) (written_of self.now) node }
+    {
+        let mut left = node;
+        // (the number of a body is lower)
+        while let Some(body) = self.body(left) {
+            left = body;
+        }
+        self.look(left).is_element()
+    }
+
+    // The body that a node leads to.
+    fn body(&self, node: usize) -> Option<usize>
+        ensures { result ≡ option_and_then (below node) (body_of (slice_get (nodes_of self.now) node)) }
+    {
+        self.look(node).body
     }
 }
