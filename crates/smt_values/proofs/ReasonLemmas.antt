@@ -1,13 +1,13 @@
 -- Why results are known or open: which argument decides, and which keeps a result open.
-use Rattle.std.proofs.Common.{◌≡◌, ◌≢◌, ℕ, zero, suc, ◌+◌, ◌-◌, ◌<◌, ◌≤◌, Bool, true, false, cond, not, ◌||◌, List, [], ◌∷◌, ◌++◌}
+use Rattle.std.proofs.Common.{◌≡◌, ℕ, zero, suc, ◌+◌, ◌-◌, ◌<◌, ◌≤◌, Bool, true, false, cond, not, ◌||◌, List, [], ◌∷◌, ◌++◌}
 use Rattle.std.proofs.Common.{Option, Some, None, is_some, length, map, take, get_or, nat_lt, slice_get, refl, ap, sym, ◌∙◌}
-use Rattle.std.proofs.Common.{subst, arith, length-append}
+use Rattle.std.proofs.Common.{arith, length-append}
 use Rattle.std.proofs.lemmas.List.{length-map, map-append}
 use Rattle.std.proofs.lemmas.List.Quantifiers.{position-Some}
 use Rattle.std.proofs.lemmas.Option.{slice_get-get_or}
 use Rattle.std.specs.List.{list_all, list_any, position_or_len}
 use Rattle.std.specs.Option.{option_or}
-use Rattle.std.specs.Prelude.{IsTrue, IsSome, is_none, option_map, position, unwrap_or}
+use Rattle.std.specs.Prelude.{IsSome, is_none, option_map, position, unwrap_or}
 use Rattle.smt_theory.specs.Ranks.{HasRank}
 use Rattle.smt_theory.specs.declared.op.CoreOp.{CoreOp}
 use Rattle.smt_theory.specs.declared.op.CoreOp.TheVariants.{True, False, Not, Implies, And, Or, Xor, Equal, Distinct, Ite}
@@ -27,7 +27,7 @@ use Rattle.smt_values.specs.declared.value.Value.{Value}
 use Rattle.smt_values.specs.declared.reasons.OpenReason.{OpenReason}
 use Rattle.smt_values.specs.declared.reasons.OpenReason.TheVariants.{Argument, DivisionByZero, Range}
 use Rattle.smt_values.specs.declared.reasons.Reason.{Reason}
-use Rattle.smt_values.specs.declared.reasons.Reason.TheVariants.{All, Branch, Decided, Open}
+use Rattle.smt_values.specs.declared.reasons.Reason.TheVariants.{Branch, Decided, Open}
 
 -- ---- the first place at which a test passes
 
