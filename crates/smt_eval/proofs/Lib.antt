@@ -35,3 +35,4 @@ pub mod TermCostLemmas
 pub mod CostExampleLemmas
 pub mod LetLemmas
 pub mod ElementNameLemmas
+pub mod PartLemmas

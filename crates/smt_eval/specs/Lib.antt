@@ -15,4 +15,5 @@ pub mod NamedElements
 pub mod Interpretation
 pub mod ClosedTerm
 pub mod PlainTerm
+pub mod Parts
 pub mod Internal

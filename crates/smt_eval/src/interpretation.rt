@@ -170,7 +170,7 @@ fn body_of(definitions: &Library<'_>, name: &[u8]) -> Option<TermId>
 }
 
 // The node at a place, if there is one.
-fn item_at(nodes: &[TermId], place: usize) -> Option<TermId>
+pub(crate) fn item_at(nodes: &[TermId], place: usize) -> Option<TermId>
     ensures { result ≡ slice_get nodes.now place }
 {
     match nodes.get(place) {

@@ -14,6 +14,7 @@ mod closed;
 mod interpretation;
 pub mod laws;
 mod model_fault;
+mod parts;
 pub mod plain;
 mod tables;
 
@@ -22,5 +23,6 @@ pub use checked::Checked;
 pub use closed::{Closed, cost, cost_within, eval, eval_by};
 pub use interpretation::Interpretation;
 pub use model_fault::{ModelFault, ModelFlaw};
+pub use parts::Parts;
 pub use smt_faults::Memory;
 pub use smt_machine::Machine;

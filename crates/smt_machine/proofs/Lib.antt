@@ -8,3 +8,4 @@ pub mod PartLemmas
 pub mod SumLemmas
 pub mod WalkLemmas
 pub mod ScriptLemmas
+pub mod LookLemmas

@@ -24,7 +24,7 @@ use Rattle.smt_machine.specs.Least.{inner_least, least}
 use Rattle.smt_machine.specs.Internal.States.{State, before_last, first_of, frame_of, last_of, state_of}
 use Rattle.smt_machine.specs.Internal.KeptView.{kept_at}
 use Rattle.smt_machine.specs.Internal.States.{with_base, with_last, with_moved, with_value, without_last}
-use Rattle.smt_machine.specs.Internal.Tasks.{AreDue, IsAt, IsBased, IsChoice, IsDone, IsDue}
+use Rattle.smt_machine.specs.Internal.Tasks.{AreDue, IsAt, IsBased, IsBefore, IsChoice, IsDone, IsDue}
 use Rattle.smt_machine.specs.Internal.Tasks.{IsKeeping, IsPaid, IsPlanned, IsRunning, IsStep}
 use Rattle.smt_machine.specs.Internal.Tasks.{branches_cost, branches_of, chosen, chosen_between}
 use Rattle.smt_machine.specs.Internal.Tasks.{body_least, charge, chosen_cost, finished, part_task, run, run_all, task_cost}
@@ -382,6 +382,32 @@ keeping_step nodes k before after is based = λ remembers due.
 
 -- ---- the loop
 
+-- the visit of one node alone, before anything is evaluated
+pub running_at : (nodes : List Node) (root : ℕ) (m : Machine) → IsBefore root m → Remembers m nodes
+    → IsRunning nodes (given nodes root (frame_of (state_of m))) m
+running_at nodes root m before remembers =
+    let D : List Task → Type 0 = λ ts. AreDue nodes ts (state_of m) in
+    record {
+      answer = ap (λ ts. (run_all nodes ts (state_of m)).values) before.tasks
+          ∙ ap (λ vs. vs ++ given nodes root (frame_of (state_of m)) ∷ []) before.values;
+      based = before.based;
+      remembers = remembers;
+      due = subst D (sym before.tasks) (tt, tt);
+    }
+
+pub paid_at : (nodes : List Node) (arounds : List ℕ) (root left : ℕ) (m : Machine) → IsBefore root m
+    → cost nodes arounds root ≤ left → IsPaid nodes arounds root left left m
+paid_at nodes arounds root left m before enough =
+    let c = ap (tasks_cost nodes (cost nodes arounds)) before.tasks in
+    let k = ap (tasks_least nodes (least nodes arounds)) before.tasks in
+    record {
+      enough = omega (arith, c, enough);
+      paid = omega (arith, c);
+      counted = omega (arith, k);
+      within = omega arith;
+      fewer = inl before.tasks;
+    }
+
 dues_of : (nodes : List Node) (v : Option Element) (task : Task) (before middle : Machine)
     → IsRunning nodes v before → before.tasks.items ≡ middle.tasks.items ++ task ∷ []
     → AreDue nodes (middle.tasks.items ++ task ∷ []) (state_of before)
@@ -411,10 +437,10 @@ turned nodes v task before middle after running state kept tasks step =
     let done = done_of nodes v task before middle after running state kept tasks step in
     let D : State → Type 0 = λ s. AreDue nodes middle.tasks.items (run nodes task s) in
     record {
-      answer = done.answer
+      answer = ap (λ (s : State). s.values) (done.answer
           ∙ ap (λ s. run_all nodes middle.tasks.items (run nodes task s)) state
           ∙ sym (run_all-append nodes middle.tasks.items (task ∷ []) (state_of before))
-          ∙ ap (λ ts. run_all nodes ts (state_of before)) (sym tasks)
+          ∙ ap (λ ts. run_all nodes ts (state_of before)) (sym tasks))
           ∙ running.answer;
       based = done.based;
       remembers = done.remembers;
@@ -494,5 +520,6 @@ pub ended : (nodes : List Node) (v w : Option Element) (before middle : Machine)
     → w ≡ first_of (last_of 1 (state_of middle).values)
     → w ≡ v
 ended nodes v w before middle running tasks state is =
-    is ∙ ap (λ s. first_of (last_of 1 s.values))
-    (state ∙ sym (ap (λ ts. run_all nodes ts (state_of before)) tasks) ∙ running.answer)
+    is ∙ ap (λ (s : State). first_of (last_of 1 s.values))
+    (state ∙ sym (ap (λ ts. run_all nodes ts (state_of before)) tasks))
+    ∙ ap (λ vs. first_of (last_of 1 vs)) running.answer

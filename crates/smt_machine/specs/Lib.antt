@@ -4,4 +4,5 @@ pub mod Costs
 pub mod Least
 pub mod Tables
 pub mod Memory
+pub mod Looks
 pub mod Internal

@@ -46,6 +46,10 @@ nodes_of tables =
     ++ map (λ row. resolved (model_count tables) tables.script_bodies.now tables.declared.now row.node)
     (script_rows tables)
 
+-- the same nodes as they are written, before names lead to bodies and literals to values
+abbrev pub written_of : Tables → List Node
+written_of tables = map (λ row. row.node) (rows_of tables.model.now) ++ map (λ row. row.node) (script_rows tables)
+
 -- how many annotations stand round each of these nodes
 abbrev pub arounds_of : Tables → List ℕ
 arounds_of tables =

@@ -2,7 +2,7 @@
 
 ghost use Rattle.std.specs.Prelude.{◌≡◌, ◌+◌, ◌<◌, ℕ, IfOk, length, option_map, slice_get, slice_index, Some};
 ghost use Rattle.smt_nodes.specs.PartsView.{parts_view};
-ghost use Rattle.smt_machine.specs.Costs.{AreCosts, capped, node_cost, part_cost, parts_cost};
+ghost use Rattle.smt_machine.specs.Costs.{AreCosts, capped, cost, node_cost, part_cost, parts_cost};
 ghost use Rattle.smt_machine.specs.Internal.Sums.{AreKept, call_cost, made_cost};
 ghost use Rattle.smt_machine.specs.Internal.Parts.{found, found_around, number_of, numbers_of};
 ghost use Rattle.smt_machine.specs.Tables.{arounds_of, nodes_of, term_cost};
@@ -44,6 +44,19 @@ pub fn cost_of_term(costs: &[u64], tables: Tables<'_>, term: TermId) -> u64
     ensures { result ≡ capped (term_cost tables.entry term) }
 {
     match costs.get(tables.shift().saturating_add(term.number())) {
+        Some(cost) => *cost,
+        // No node has the number.
+        None => 1,
+    }
+}
+
+/// The cost of a node of both tables, from the costs that were counted over these tables; 2^64 - 1 where it is that
+/// or more.
+pub fn cost_of_node(costs: &[u64], tables: Tables<'_>, node: usize) -> u64
+    requires { AreCosts (nodes_of tables) (arounds_of tables) costs.now }
+    ensures { result ≡ capped (cost (nodes_of tables.entry) (arounds_of tables.entry) node) }
+{
+    match costs.get(node) {
         Some(cost) => *cost,
         // No node has the number.
         None => 1,

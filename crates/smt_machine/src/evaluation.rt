@@ -8,15 +8,15 @@ ghost use Rattle.smt_theory.specs.declared.op.Op.{Op};
 ghost use Rattle.smt_theory.specs.declared.op.Op.TheVariants.{Core};
 ghost use Rattle.smt_nodes.specs.NodeView.{node_view};
 ghost use Rattle.smt_nodes.specs.PartsView.{parts_view};
-ghost use Rattle.smt_values.specs.Element.{known_element};
+ghost use Rattle.smt_values.specs.Element.{known_element, known_elements};
 ghost use Rattle.smt_values.specs.KnownOperations.{known_truth};
 ghost use Rattle.smt_machine.specs.Costs.{cost};
 ghost use Rattle.smt_machine.specs.Given.{given};
 ghost use Rattle.smt_machine.specs.Least.{least};
-ghost use Rattle.smt_machine.specs.Internal.States.{state_of};
+ghost use Rattle.smt_machine.specs.Internal.States.{frame_of, state_of};
 ghost use Rattle.smt_machine.specs.Internal.Parts.{found, found_node, found_parts, meaning, number_of};
 ghost use Rattle.smt_machine.specs.Internal.Parts.{numbers_of};
-ghost use Rattle.smt_machine.specs.Internal.Tasks.{IsBased, IsChoice, IsStep, branches_of, charge};
+ghost use Rattle.smt_machine.specs.Internal.Tasks.{IsBased, IsBefore, IsChoice, IsStep, branches_of, charge};
 ghost use Rattle.smt_machine.specs.Memory.{Remembers};
 ghost use Rattle.smt_machine.specs.Nodes.{Apply, Call, Node as MachineNode};
 ghost use Rattle.smt_machine.specs.Tables.{arounds_of, call, model_count, nodes_of, term_cost, term_least};
@@ -59,7 +59,33 @@ impl Machine {
         }
     }
 
+    /// What is known of the value of a node over a frame, the values of variables by their places, of which some may
+    /// be open; `None` where the value is open. The node is named by its number in both tables, the model's nodes
+    /// first. Otherwise it is as `eval`: `left` is no less than the cost of the node.
+    pub fn eval_in(
+        &mut self,
+        tables: Tables<'_>,
+        frame: &[Option<Value>],
+        node: usize,
+        left: &mut u64,
+    ) -> Result<Option<Value>, Memory>
+        requires remembers { Remembers self.old (nodes_of tables) }
+        requires enough { cost (nodes_of tables) (arounds_of tables) node ≤ left.old }
+        ensures serves { IfOk result (λ _. Remembers self.new (nodes_of tables.entry)) }
+        ensures value { IfOk result (λ v. known_element v
+            ≡ given (nodes_of tables.entry) node (known_elements frame.now)) }
+        ensures fewer { OnOk result (left.new < left.old) }
+        ensures counted { OnOk result
+            (left.new + least (nodes_of tables.entry) (arounds_of tables.entry) node ≤ left.old) }
+        ensures paid { OnOk result
+            (left.old ≤ left.new + cost (nodes_of tables.entry) (arounds_of tables.entry) node) }
+    {
+        self.begin_in(frame, Task::Visit(node))?;
+        self.finish_tasks(&tables, node, left)
+    }
+
     // What is known of the value of a closed node.
+    #[inline(always)]
     fn run(
         &mut self,
         tables: &Tables<'_>,
@@ -77,6 +103,28 @@ impl Machine {
             (left.old ≤ left.new + cost (nodes_of tables.now) (arounds_of tables.now) root) }
     {
         self.begin(Task::Visit(root))?;
+        self.finish_tasks(tables, root, left)
+    }
+
+    // What is known of the value of the node that is planned, over the frame that is there.
+    fn finish_tasks(
+        &mut self,
+        tables: &Tables<'_>,
+        root: usize,
+        left: &mut u64,
+    ) -> Result<Option<Value>, Memory>
+        requires before { IsBefore root self.old }
+        requires remembers { Remembers self.old (nodes_of tables.now) }
+        requires enough { cost (nodes_of tables.now) (arounds_of tables.now) root ≤ left.old }
+        ensures serves { IfOk result (λ _. Remembers self.new (nodes_of tables.now)) }
+        ensures value { IfOk result (λ v. known_element v
+            ≡ given (nodes_of tables.now) root (frame_of (state_of self.old))) }
+        ensures fewer { OnOk result (left.new < left.old) }
+        ensures counted { OnOk result
+            (left.new + least (nodes_of tables.now) (arounds_of tables.now) root ≤ left.old) }
+        ensures paid { OnOk result
+            (left.old ≤ left.new + cost (nodes_of tables.now) (arounds_of tables.now) root) }
+    {
         while let Some(task) = self.take_task() {
             self.act(tables, task, left)?;
         }

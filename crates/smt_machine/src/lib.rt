@@ -30,6 +30,7 @@ mod evaluation;
 mod items;
 mod kept;
 pub mod laws;
+mod look;
 mod machine;
 mod parts;
 mod tables;
@@ -38,7 +39,8 @@ mod task;
 mod tests;
 mod walk;
 
-pub use counting::{cost_of_term, costs};
+pub use counting::{cost_of_node, cost_of_term, costs};
+pub use look::Look;
 pub use machine::Machine;
 pub use smt_faults::Memory;
 pub use tables::Tables;

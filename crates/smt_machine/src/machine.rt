@@ -1,7 +1,7 @@
 //! A machine's stacks, and how values move between them. This file fetches no node.
 
 ghost use Rattle.std.specs.Prelude.{◌≡◌, ◌∷◌, [], ◌++◌, IfOk, List, MatchOption, None, Some, length, option_map};
-ghost use Rattle.smt_values.specs.Element.{known_element};
+ghost use Rattle.smt_values.specs.Element.{known_element, known_elements};
 ghost use Rattle.smt_values.specs.KnownOperations.{known_step};
 ghost use Rattle.smt_machine.specs.Internal.States.{first_of, frame_of, last_of, state_of, with_frames};
 ghost use Rattle.smt_machine.specs.Internal.States.{with_base, with_last, with_moved, with_value};
@@ -69,13 +69,22 @@ impl Machine {
 
     /// Empties the stacks, and plans one task.
     pub(crate) fn begin(&mut self, task: Task) -> Result<(), Memory>
-        ensures { IfOk result (λ _. IsBegun task self.old self.new) }
+        ensures { IfOk result (λ _. IsBegun task [] self.old self.new) }
     {
         self.values.clear();
         self.frames.clear();
         self.base = 0;
         self.tasks.clear();
         self.tasks.push(task)?;
+        Ok(())
+    }
+
+    /// Empties the stacks but for the values of a frame's variables, and plans one task.
+    pub(crate) fn begin_in(&mut self, frame: &[Option<Value>], task: Task) -> Result<(), Memory>
+        ensures { IfOk result (λ _. IsBegun task (known_elements frame.now) self.old self.new) }
+    {
+        self.begin(task)?;
+        self.frames.extend_from_slice(frame)?;
         Ok(())
     }
 

@@ -1,13 +1,13 @@
 //! The nodes of a model and of a script as one table, and what names lead to. This file evaluates nothing.
 
 ghost use Rattle.std.specs.Prelude.{◌≡◌, ◌+◌, ◌<◌, ◌≤◌, option_map, slice_get, unwrap_or};
-ghost use Rattle.smt_machine.specs.Costs.{around_at};
+ghost use Rattle.smt_machine.specs.Costs.{around_at, capped};
 ghost use Rattle.smt_nodes.specs.Literals.{literal_number};
 ghost use Rattle.smt_nodes.specs.NodeView.{node_view};
 ghost use Rattle.smt_nodes.specs.PartsView.{parts_view};
 ghost use Rattle.smt_machine.specs.Internal.Parts.{found, found_around, found_node, found_parts, meaning, number_of};
 ghost use Rattle.smt_machine.specs.Internal.Parts.{numbers_of};
-ghost use Rattle.smt_machine.specs.Tables.{arounds_of, model_count, nodes_of, shifted};
+ghost use Rattle.smt_machine.specs.Tables.{arounds_of, model_count, nodes_of, shifted, written_of};
 
 use crate::items::item_at;
 use crate::parts::{Part, Parts};
@@ -46,6 +46,13 @@ pub(crate) struct Place<'a> {
 }
 
 impl<'a> Tables<'a> {
+    /// The number of a term of the script; 2^64 - 1 where it is that or more.
+    pub fn root(&self, term: TermId) -> usize
+        ensures { result ≡ capped (model_count self.now + term) }
+    {
+        self.shift().saturating_add(term.number())
+    }
+
     /// How many nodes come before the script's.
     #[inline(always)]
     pub(crate) fn shift(&self) -> usize
@@ -59,6 +66,7 @@ impl<'a> Tables<'a> {
     pub(crate) fn place(&self, number: usize) -> Place<'a>
         ensures node { found result ≡ slice_get (nodes_of self.now) number }
         ensures around { found_around result ≡ around_at (arounds_of self.now) number }
+        ensures written { found_node result ≡ slice_get (written_of self.now) number }
     {
         let shift = self.shift();
         if number < shift {
@@ -74,6 +82,7 @@ impl<'a> Tables<'a> {
         requires { number < model_count self.now }
         ensures node { found result ≡ slice_get (nodes_of self.now) number }
         ensures around { found_around result ≡ around_at (arounds_of self.now) number }
+        ensures written { found_node result ≡ slice_get (written_of self.now) number }
     {
         Place {
             nodes: self.model,
@@ -91,6 +100,7 @@ impl<'a> Tables<'a> {
         requires behind { shift ≤ number }
         ensures node { found result ≡ slice_get (nodes_of self.now) number }
         ensures around { found_around result ≡ around_at (arounds_of self.now) number }
+        ensures written { found_node result ≡ slice_get (written_of self.now) number }
     {
         let own = number - shift;
         let count = self.script.len();

@@ -14,3 +14,4 @@ pub mod RoundingLemmas
 pub mod PairLemmas
 pub mod IntegerLemmas
 pub mod ConstantLemmas
+pub mod ReasonLemmas

@@ -6,5 +6,6 @@ pub mod BitOperations
 pub mod Operations
 pub mod KnownBitOperations
 pub mod KnownOperations
+pub mod Reasons
 pub mod Internal
 pub mod Readings

@@ -8,6 +8,7 @@ pub mod literals;
 pub mod names;
 pub mod numbers;
 pub mod places;
+pub mod reasons;
 pub mod signed_vectors;
 pub mod vectors;
 

@@ -24,12 +24,14 @@ pub mod laws;
 mod literal_values;
 mod name;
 mod operations;
+mod reasons;
 mod value;
 
 pub use integer::Integer;
 pub use literal_values::{bin, bin_of, element, hex, hex_of, numeral, numeral_of};
 pub use name::{LONGEST, Name};
 pub use operations::{apply, apply_in_place};
+pub use reasons::{OpenReason, Reason, is_connective, why};
 pub use smt_bits::Bits;
 pub use smt_theory::Width;
 pub use value::Value;

@@ -1,9 +1,9 @@
 //! Operators on values of which some may be open. This file chooses by the theory, and computes nothing.
 
 mod bits;
-mod bools;
+pub(crate) mod bools;
 mod distinct;
-mod ints;
+pub(crate) mod ints;
 
 ghost use Rattle.std.specs.Prelude.{◌≡◌};
 ghost use Rattle.smt_values.specs.Element.{known_element, known_elements};

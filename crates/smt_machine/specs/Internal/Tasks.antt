@@ -13,7 +13,7 @@ use Rattle.smt_machine.specs.Internal.KeptView.{kept_at}
 use Rattle.smt_machine.specs.Internal.States.{State, first_of, frame_of, last_of, state_of, with_frames}
 use Rattle.smt_machine.specs.Internal.States.{with_last, with_value}
 use Rattle.smt_machine.specs.Memory.{Remembers}
-use Rattle.smt_machine.specs.Nodes.{Node, Known, Slot, Apply, Call, Let, part}
+use Rattle.smt_machine.specs.Nodes.{Frame, Node, Known, Slot, Apply, Call, Let, part}
 use Rattle.smt_machine.specs.declared.machine.Machine.{Machine}
 use Rattle.smt_machine.specs.declared.task.Task.{Task}
 use Rattle.smt_machine.specs.declared.task.Task.TheVariants.{Visit, Open, Finish, Choose, Return, Unbind, Keep}
@@ -148,14 +148,21 @@ work nodes (t ∷ ts) = task_work nodes t + work nodes ts
 abbrev pub IsBased : State → Type 0
 IsBased s = s.base ≤ length s.frames
 
-abbrev pub empty_state : State
-empty_state = record { values = []; frames = []; base = 0 }
+-- nothing is evaluated yet, over these variables
+abbrev pub beginning : Frame → State
+beginning frame = record { values = []; frames = frame; base = 0 }
 
--- a machine has one task, what another keeps, and nothing else
-pub record IsBegun (task : Task) (before after : Machine) : Type 0 where
+-- a machine has one task, over these variables, what another keeps, and nothing else
+pub record IsBegun (task : Task) (frame : Frame) (before after : Machine) : Type 0 where
   pub tasks : after.tasks.items ≡ task ∷ []
-  pub state : state_of after ≡ empty_state
+  pub state : state_of after ≡ beginning frame
   pub kept : after.kept ≡ before.kept
+
+-- a machine has nothing to do but one node, and nothing is evaluated yet
+pub record IsBefore (root : ℕ) (m : Machine) : Type 0 where
+  pub tasks : m.tasks.items ≡ Visit root ∷ []
+  pub values : (state_of m).values ≡ []
+  pub based : IsBased (state_of m)
 
 -- a machine has the tasks of another, what it keeps, and this state
 pub record IsAt (s : State) (before after : Machine) : Type 0 where
@@ -199,7 +206,7 @@ IsStep nodes task before after =
 
 -- a machine is on its way to one value, and nothing else
 pub record IsRunning (nodes : List Node) (v : Option Element) (m : Machine) : Type 0 where
-  pub answer : run_all nodes m.tasks.items (state_of m) ≡ with_value v empty_state
+  pub answer : (run_all nodes m.tasks.items (state_of m)).values ≡ v ∷ []
   pub based : IsBased (state_of m)
   pub remembers : Remembers m nodes
   pub due : AreDue nodes m.tasks.items (state_of m)

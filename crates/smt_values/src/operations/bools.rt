@@ -200,7 +200,7 @@ pub(crate) fn all_are_known(args: &[Option<Value>]) -> bool
 }
 
 // Whether the argument is known to be this truth value.
-fn is(arg: &Option<Value>, truth: bool) -> bool
+pub(crate) fn is(arg: &Option<Value>, truth: bool) -> bool
     ensures { result ≡ is_known truth (known_element arg.now) }
 {
     match arg {
@@ -216,7 +216,7 @@ fn is_same(a: &Value, b: &Value) -> bool
 }
 
 // The truth value that the argument is known to be.
-fn truth(arg: &Option<Value>) -> Option<bool>
+pub(crate) fn truth(arg: &Option<Value>) -> Option<bool>
     ensures { result ≡ known_truth (known_element arg.now) }
 {
     match arg {

@@ -140,7 +140,7 @@ fn divisibility(n: u64, args: &[Option<Value>]) -> Option<bool>
 }
 
 // The integer that the argument is known to be.
-fn integer(arg: &Option<Value>) -> Option<i128>
+pub(crate) fn integer(arg: &Option<Value>) -> Option<i128>
     ensures { result ≡ known_integer (known_element arg.now) }
 {
     match arg {

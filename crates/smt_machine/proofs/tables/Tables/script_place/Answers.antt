@@ -41,3 +41,19 @@ returns-else-own-count-clause-around c =
     (sym (at_transient model (λ (row : Row). row.around) script (rows_of tables.transient.now)
     (λ (row : Row). row.around) c.args.number at.number (omega (arith, here, behind))
     (omega (arith, here, behind, past, count)) (omega (arith, e.number, here, count))))
+
+pub returns-else-own-count-clause-written : goal.returns-else-own-count-clause-written
+returns-else-own-count-clause-written c =
+    let tables = c.args.self.now in
+    let at = c.place_among-else-own-count.result in
+    let e = c.place_among-else-own-count.ensures in
+    let model = rows_of tables.model.now in
+    let script = rows_of tables.script.now in
+    let past = c.if-own-count.false in
+    let count = c.len-count.ensures in
+    let behind = c.requires.behind in
+    let here = c.requires.shift in
+    ap (λ nodes. option_map (λ (row : Row). row.node) (slice_get (rows_of nodes) at.number)) e.nodes
+    ∙ sym (at_transient model (λ (row : Row). row.node) script (rows_of tables.transient.now)
+    (λ (row : Row). row.node) c.args.number at.number (omega (arith, here, behind))
+    (omega (arith, here, behind, past, count)) (omega (arith, e.number, here, count)))
