@@ -1,19 +1,17 @@
 -- Why an operator has no rank is told exactly where it has none.
-use Rattle.std.proofs.Common.{◌≡◌, ◌↔◌, inl, inr, ℕ, zero, suc, ◌<◌, ◌≤◌, Bool, true, false, not, cond, ◌&&◌, List, [], ◌∷◌, Option}
-use Rattle.std.proofs.Common.{Some, None, length, map, get_or, nat_lt, nat_le, option_map, refl, sym, ap, subst, ◌∙◌}
+use Rattle.std.proofs.Common.{◌≡◌, ◌↔◌, inl, inr, ℕ, Bool, true, false, not, cond, ◌&&◌, List, [], ◌∷◌, Option}
+use Rattle.std.proofs.Common.{Some, None, length, map, nat_lt, nat_le, option_map, refl, sym, ap, subst, ◌∙◌}
 use Rattle.std.proofs.Common.{arith, rules}
-use Rattle.std.specs.Bool.{then_some}
 use Rattle.std.specs.List.{list_all, position, position_or_len}
 use Rattle.std.specs.Option.{option_or}
 use Rattle.std.proofs.lemmas.List.{length-map}
 use Rattle.std.proofs.lemmas.List.Sums.{AllPass-from_list_all, position_or_len_is}
-use Rattle.smt_theory.specs.Misfits.{argument, argument_misfit, counts_of, first_other, first_other_width, first_scalar}
+use Rattle.smt_theory.specs.Misfits.{argument, argument_misfit, counts_of, first_other, first_other_width}
 use Rattle.smt_theory.specs.Misfits.{is_bits, misfit_of, takes_count, unless_ranked}
-use Rattle.smt_theory.specs.Ranks.{AreSeveral, HasBitsRank, HasRank, are_several, core_rank, ints_rank, rank_of}
+use Rattle.smt_theory.specs.Ranks.{AreSeveral, HasBitsRank, HasRank, rank_of}
 use Rattle.smt_theory.specs.Sort.{is_same_sort}
 use Rattle.smt_theory.specs.declared.misfits.RankFlaw.{RankFlaw}
 use Rattle.smt_theory.specs.declared.misfits.RankFlaw.TheVariants.{Argument}
-use Rattle.smt_theory.specs.declared.misfits.Wanted.{Wanted}
 use Rattle.smt_theory.specs.declared.misfits.Wanted.TheVariants.{Only, AnyBits}
 use Rattle.smt_theory.specs.declared.op.Arithmetic.TheVariants.{Minus, Plus, Times, Div}
 use Rattle.smt_theory.specs.declared.op.BitsOp.{BitsOp}

@@ -1,6 +1,6 @@
 use Rattle.std.proofs.Common.{◌≡◌, ◌≤◌, ◌<◌, ◌+◌, ◌*◌, ◌^◌, ◌∙◌, ap, arith, drop, get_or, rules, subst, sym}
 use Rattle.std.specs.Char.{digit_value}
-use Rattle.std.specs.Str.Parse.{digits_value, digits_value_after}
+use Rattle.std.specs.Str.Parse.{digits_value_after}
 use Rattle.smt_theory.proofs.DigitLemmas.{digits_at, small_fits, small_on}
 use Rattle.smt_theory.proofs.numbers.few_digits.Goals as goal
 
