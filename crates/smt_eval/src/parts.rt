@@ -82,8 +82,8 @@ impl<'a> Parts<'a> {
         self.tables().leads_to_element(node)
     }
 
-    /// The node that is the body of a name: of a declared name the body that the model gives to it, of a defined name of
-    /// the script its own, and of another name that of its item; `None` for a name that neither has.
+    /// The node that is the body of a name: of a declared name the body that the model gives to it, of a defined name
+    /// of the script its own, and of another name that of its item; `None` for a name that neither has.
     pub fn body_of(&self, name: &[u8]) -> Option<usize>
         ensures script { (s : Signature) → StandsFor self.now.library.now s
             → IsBodyAt s.entries name.now (script_body self.now) result }

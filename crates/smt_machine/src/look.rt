@@ -28,8 +28,8 @@ pub struct Look<'a> {
 }
 
 impl<'a> Look<'a> {
-    /// The node of a part, by its place in the tree from 0: of an operator's or a name's argument, or of the term that a
-    /// `let` gives to a variable. `None` where there is no part, or where its number is not below the node's: such a
+    /// The node of a part, by its place in the tree from 0: of an operator's or a name's argument, or of the term that
+    /// a `let` gives to a variable. `None` where there is no part, or where its number is not below the node's: such a
     /// part is open.
     pub fn part(&self, place: usize) -> Option<usize>
         ensures { result ≡ option_and_then (below (number_seen self.now)) (slice_get (parts_seen self.now) place) }

@@ -16,8 +16,8 @@ use smt_forms::{NameSet, Param};
 use smt_trees::{Tree, Trees};
 
 impl Library<'_> {
-    /// What is to blame for the fault of a declaration, where `declare` refuses it; `None` where it has no fault, or one
-    /// of another kind than F3 and F7. It is the first such name or tree, in the order in which `declare` looks at
+    /// What is to blame for the fault of a declaration, where `declare` refuses it; `None` where it has no fault, or
+    /// one of another kind than F3 and F7. It is the first such name or tree, in the order in which `declare` looks at
     /// them.
     pub fn blame_of_declaration<'t>(
         &self,

@@ -211,7 +211,8 @@ fn other_result(entry: &Entry, found: &Sort) -> Option<Blame<'static>>
 
 fn other_parameter(sorts: &[Sort], place: usize, wanted: Wanted) -> Option<Blame<'static>>
     ensures { (names : Names) (sort_names : SortNames) (x : List ℕ) (rank : Rank)
-        → look_up names.ranks x ≡ Some rank → blame.parameter_flaw rank.parameters sorts.now ≡ Some (Argument place wanted)
+        → look_up names.ranks x ≡ Some rank
+        → blame.parameter_flaw rank.parameters sorts.now ≡ Some (Argument place wanted)
         → IfSome result (IsBlamed names sort_names) }
 {
     let Wanted::Only(wanted) = wanted else {
