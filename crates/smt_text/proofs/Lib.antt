@@ -17,6 +17,7 @@ pub mod NestingLemmas
 pub mod ExampleLemmas
 mod KindLemmas
 pub mod PositionLemmas
+pub mod LineLemmas
 pub mod MarkedLemmas
 pub mod TreeEndLemmas
 pub mod EndingLemmas

@@ -4,5 +4,6 @@ pub mod Reading
 pub mod Reader
 pub mod Internal
 pub mod Positions
+pub mod Lines
 pub mod Spans
 pub mod OpenPlaces

@@ -4,8 +4,8 @@
 //! as no later byte can change it. Then it returns the fault of the text, if it has one, with its place in
 //! bytes from 0. [`read_trees`] does the same for a text that is at hand as a whole.
 //! [`Reader::tree_end`] tells where the last tree ended. From there [`gap_length`] leads to the next one, and
-//! [`Position`] gives line and column of a place. [`open_places`] tells what a text leaves open that ends inside
-//! a tree.
+//! [`Position`] and [`Lines`] give line and column of a place. [`open_places`] tells what a text leaves open that ends
+//! inside a tree.
 //!
 //! The layer above uses the contract of `Reader::next`. The trees returned so far are the first ones that are
 //! read of the bytes fed (`Reads` in `specs/Reading.antt`). The answer is the next tree, or the fault after
@@ -34,6 +34,7 @@ mod gap;
 pub mod laws;
 mod layout;
 mod lexer;
+mod lines;
 mod mark;
 mod position;
 mod reader;
@@ -44,6 +45,7 @@ mod unfinished;
 
 pub use gap::gap_length;
 pub use layout::tree_spans;
+pub use lines::Lines;
 pub use position::Position;
 pub use reader::{MAX_DEPTH, Next, Reader, read_trees};
 pub use smt_faults::TextFault;
