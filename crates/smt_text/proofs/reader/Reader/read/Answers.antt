@@ -1,4 +1,4 @@
-use Rattle.std.proofs.Common.{◌∙◌, ◌≡◌, ◌+◌, ℕ, arith, length, subst, take, Err, Some}
+use Rattle.std.proofs.Common.{◌∙◌, ◌≡◌, ℕ, arith, subst, take, Err, Some}
 use Rattle.smt_text.proofs.MarkedLemmas.{marks_further}
 use Rattle.smt_text.proofs.RunLemmas.{further, refused, rest_length, rest_of}
 use Rattle.smt_text.specs.Internal.LexerStates.{run}
