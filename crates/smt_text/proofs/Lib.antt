@@ -22,5 +22,5 @@ pub mod TreeEndLemmas
 pub mod EndingLemmas
 pub mod GapLemmas
 pub mod LayoutLemmas
-pub mod OpenerLemmas
+pub mod ScanLemmas
 pub mod OrderLemmas

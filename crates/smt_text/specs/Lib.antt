@@ -5,4 +5,5 @@ pub mod Reader
 pub mod Internal
 pub mod Positions
 pub mod Spans
+pub mod Places
 pub mod OpenPlaces
