@@ -79,7 +79,7 @@ shows_end InBars b e = inl (in_bars (is_quoted_byte b) (b == 124) e)
 shows_end AfterBar b e = inr refl
 shows_end InComment b e = inr refl
 
-own_none : (next : AtomState) → (next ≡ AfterBar) ⊎ (own_end next ≡ 0)
+pub own_none : (next : AtomState) → (next ≡ AfterBar) ⊎ (own_end next ≡ 0)
 own_none Nothing = inr refl
 own_none Zero = inr refl
 own_none Digits = inr refl

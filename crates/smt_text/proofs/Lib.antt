@@ -23,4 +23,5 @@ pub mod EndingLemmas
 pub mod GapLemmas
 pub mod LayoutLemmas
 pub mod ScanLemmas
+pub mod AtomLemmas
 pub mod OrderLemmas

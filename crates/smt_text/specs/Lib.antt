@@ -7,3 +7,4 @@ pub mod Positions
 pub mod Spans
 pub mod Places
 pub mod OpenPlaces
+pub mod Atoms
