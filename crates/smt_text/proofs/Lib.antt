@@ -24,4 +24,5 @@ pub mod GapLemmas
 pub mod LayoutLemmas
 pub mod ScanLemmas
 pub mod AtomLemmas
+pub mod PlacesLemmas
 pub mod OrderLemmas

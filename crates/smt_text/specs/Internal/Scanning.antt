@@ -1,4 +1,4 @@
--- How far a scan of a text has come, for what is open and for the atoms.
+-- How far a scan of a text for what is open has come.
 use Rattle.std.specs.Prelude.{◌≡◌, ◌<◌, ℕ, List, Some, false, length, slice_get, slice_index, if◌then◌else◌}
 use Rattle.smt_text.specs.OpenPlaces.{IsBegun, IsOpenList}
 use Rattle.smt_text.specs.Places.{depth_at, is_between, token_at}
