@@ -54,7 +54,7 @@ end_inside (parts ∷ []) next top some is = absurd (omega (arith, some))
 end_inside (parts ∷ around ∷ lists) next top some is = ap (λ y. On y top) (sym is)
 
 -- an atom is at the depth of the lists around it
-depth_of-add_if : (o : Option Sexp) (levels : Levels) → depth_of (add_if o levels) ≡ depth_of levels
+pub depth_of-add_if : (o : Option Sexp) (levels : Levels) → depth_of (add_if o levels) ≡ depth_of levels
 depth_of-add_if None levels = refl
 depth_of-add_if (Some x) (On [] top) = refl
 depth_of-add_if (Some x) (On (parts ∷ lists) top) = refl

@@ -79,7 +79,7 @@ shows_end InBars b e = inl (in_bars (is_quoted_byte b) (b == 124) e)
 shows_end AfterBar b e = inr refl
 shows_end InComment b e = inr refl
 
-own_none : (next : AtomState) → (next ≡ AfterBar) ⊎ (own_end next ≡ 0)
+pub own_none : (next : AtomState) → (next ≡ AfterBar) ⊎ (own_end next ≡ 0)
 own_none Nothing = inr refl
 own_none Zero = inr refl
 own_none Digits = inr refl
@@ -146,82 +146,86 @@ none_inside end old new deep (inl same) = same
 none_inside end old new deep (inr (tree, pushed, none)) = absurd (omega (arith, deep, ap length none))
 
 pub ends_inside : (before end : Mark) (old mid new : Builder) → 0 < depth_of (levels_of mid)
-    → EndsTree before old mid → EndsTree end mid new → EndsTree end old new
-ends_inside before end old mid new deep h k =
+    → mid.limit ≡ old.limit → EndsTree before old mid → EndsTree end mid new → EndsTree end old new
+ends_inside before end old mid new deep same h k =
     subst (λ (ready : List Ready). (new.ready.items ≡ ready) ⊎ ((tree : OwnedTree)
-    × (new.ready.items ≡ ready ++ record { tree = tree; end = place_of end } ∷ []) × (lists_of new.list ≡ [])))
-    (none_inside before old mid deep h) k
+    × (new.ready.items ≡ ready ++ record { tree = tree; end = place_of old.limit end } ∷ [])
+    × (lists_of new.list ≡ []))) (none_inside before old mid deep h)
+    (subst (λ n. (new.ready.items ≡ mid.ready.items) ⊎ ((tree : OwnedTree)
+    × (new.ready.items ≡ mid.ready.items ++ record { tree = tree; end = place_of n end } ∷ [])
+    × (lists_of new.list ≡ []))) same k)
 
 -- a list ends, behind the token before it
 pub end_pushed : (before end : Mark) (old mid new : Reader) → finished Nothing (state_of old) ≡ state_of mid
-    → new.token ≡ mid.token → 0 < depth_of (levels_of mid.builder) → EndsTree before old.builder mid.builder
+    → new.token ≡ mid.token → mid.builder.limit ≡ old.builder.limit → 0 < depth_of (levels_of mid.builder)
+    → EndsTree before old.builder mid.builder
     → EndsTree end mid.builder new.builder → Pushed end (state_of new) old new
-end_pushed before end old mid new e token deep h k =
+end_pushed before end old mid new e token same deep h k =
     pushed_shown end (state_of new) old new (flush_none new (token_at Nothing (state_of old) mid e ∙ sym token))
-    (ends_inside before end old.builder mid.builder new.builder deep h k)
+    (ends_inside before end old.builder mid.builder new.builder deep same h k)
 
 -- the byte that ended the token
-pub finish_pushed : (limit left : ℕ) (old new : Reader) (next : AtomState) (b read : ℕ)
+pub finish_pushed : (left : ℕ) (old new : Reader) (next : AtomState) (b read : ℕ)
     → lex old.token b ≡ Finish next → read ≡ own_end next → finished next (state_of old) ≡ state_of new
-    → EndsTree (record { limit = limit; left = left; read = read }) old.builder new.builder
-    → PushedBy limit left old new
-finish_pushed limit left old new next b read e is f h = by (own_none next)
+    → EndsTree (record { left = left; read = read }) old.builder new.builder
+    → PushedBy left old new
+finish_pushed left old new next b read e is f h = by (own_none next)
   where
     with : (n : ℕ) → read ≡ n
-        → EndsTree (record { limit = limit; left = left; read = n }) old.builder new.builder
+        → EndsTree (record { left = left; read = n }) old.builder new.builder
     with n same =
-        subst (λ x. EndsTree (record { limit = limit; left = left; read = x }) old.builder new.builder) same h
+        subst (λ x. EndsTree (record { left = left; read = x }) old.builder new.builder) same h
 
     before : read ≡ 0 → (lex old.token b ≡ Finish AfterBar) ⊎ (may_end old.token ≡ true)
-        → PushedBy limit left old new
+        → PushedBy left old new
     before none (inl bar) =
         let same : next ≡ AfterBar = cc in
         absurd (omega (arith, none, is, ap own_end same))
     before none (inr whole) = inr (inl (
-      pushed_shown (record { limit = limit; left = left; read = 0 }) (state_of old) old new
+      pushed_shown (record { left = left; read = 0 }) (state_of old) old new
           (flush_at next (state_of old) new f) (with 0 none),
       whole,
     ))
 
-    by : (next ≡ AfterBar) ⊎ (own_end next ≡ 0) → PushedBy limit left old new
+    by : (next ≡ AfterBar) ⊎ (own_end next ≡ 0) → PushedBy left old new
     by (inl bar) =
         let token : AfterBar ≡ new.token = sym bar ∙ token_at next (state_of old) new f in
         inr (inr (
-          pushed_shown (record { limit = limit; left = left; read = 1 }) (state_of new) old new
+          pushed_shown (record { left = left; read = 1 }) (state_of new) old new
               (flush_bar new token) (with 1 (is ∙ ap own_end bar)),
           ap may_end (sym token),
         ))
     by (inr none) = before (is ∙ none) (shows_end old.token b (ap ends e))
 
-open_pushed : (limit left : ℕ) (old new : Reader) (b : ℕ) → lex old.token b ≡ Open
-    → Pushed (record { limit = limit; left = left; read = 0 }) (state_of old) old new → PushedBy limit left old new
-open_pushed limit left old new b e h = by (shows_end old.token b (ap ends e))
+open_pushed : (left : ℕ) (old new : Reader) (b : ℕ) → lex old.token b ≡ Open
+    → Pushed (record { left = left; read = 0 }) (state_of old) old new → PushedBy left old new
+open_pushed left old new b e h = by (shows_end old.token b (ap ends e))
   where
-    by : (lex old.token b ≡ Finish AfterBar) ⊎ (may_end old.token ≡ true) → PushedBy limit left old new
+    by : (lex old.token b ≡ Finish AfterBar) ⊎ (may_end old.token ≡ true) → PushedBy left old new
     by (inl bar) = absurd (cc)
     by (inr whole) = inr (inl (h, whole))
 
-pub open_read : (limit left : ℕ) (old new : Reader) (b : ℕ) (result : Result (Unit {0}) (Failure Refusal))
+pub open_read : (left : ℕ) (old new : Reader) (b : ℕ) (result : Result (Unit {0}) (Failure Refusal))
     → lex old.token b ≡ Open
     → IfRead result old new
-    (Pushed (record { limit = limit; left = left; read = 0 }) (state_of old) old new)
-    → IfRead result old new (PushedBy limit left old new)
-open_read limit left old new b (Ok done) e h = open_pushed limit left old new b e h
-open_read limit left old new b (Err (Fault refusal)) e h = h
-open_read limit left old new b (Err Memory) e h = tt
+    (Pushed (record { left = left; read = 0 }) (state_of old) old new)
+    → IfRead result old new (PushedBy left old new)
+open_read left old new b (Ok done) e h = open_pushed left old new b e h
+open_read left old new b (Err (Fault refusal)) e h = h
+open_read left old new b (Err Memory) e h = tt
 
 settled_token : (o : Option Levels) (new : Reader) → settle o ≡ Some (state_of new) → Nothing ≡ new.token
 settled_token None new e = absurd (cc)
 settled_token (Some levels) new e = let token : Nothing ≡ new.token = cc in token
 
-pub close_read : (limit left max_depth : ℕ) (old new : Reader) (result : Result (Unit {0}) (Failure Refusal))
+pub close_read : (left max_depth : ℕ) (old new : Reader) (result : Result (Unit {0}) (Failure Refusal))
     → Goes (settle (act max_depth CloseParenthesis (flush (state_of old)))) Unfit (state_of old) result (state_of new)
     → IfRead result old new
-    (Pushed (record { limit = limit; left = left; read = 1 }) (state_of new) old new)
-    → IfRead result old new (PushedBy limit left old new)
-close_read limit left max_depth old new (Ok done) e h = inr (inr (
+    (Pushed (record { left = left; read = 1 }) (state_of new) old new)
+    → IfRead result old new (PushedBy left old new)
+close_read left max_depth old new (Ok done) e h = inr (inr (
   h,
   ap may_end (sym (settled_token (act max_depth CloseParenthesis (flush (state_of old))) new e)),
 ))
-close_read limit left max_depth old new (Err (Fault refusal)) e h = h
-close_read limit left max_depth old new (Err Memory) e h = tt
+close_read left max_depth old new (Err (Fault refusal)) e h = h
+close_read left max_depth old new (Err Memory) e h = tt

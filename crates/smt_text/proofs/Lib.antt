@@ -23,5 +23,7 @@ pub mod TreeEndLemmas
 pub mod EndingLemmas
 pub mod GapLemmas
 pub mod LayoutLemmas
-pub mod OpenerLemmas
+pub mod ScanLemmas
+pub mod AtomLemmas
+pub mod PlacesLemmas
 pub mod OrderLemmas

@@ -40,19 +40,19 @@ pub sexps_pushed : (ready more : List Ready) (tree : OwnedTree) (end : ℕ)
 sexps_pushed ready more tree end e =
     ap (λ x. sexps_of (trees_in x)) e ∙ trees_joined ready (record { tree = tree; end = end } ∷ [])
 
-pub marks_none : (limit : ℕ) (old : Reader) (text : List ℕ) (new : Reader)
-    → new.builder.ready.items ≡ old.builder.ready.items → Marks limit old text new
-marks_none limit old text new e =
+pub marks_none : (old : Reader) (text : List ℕ) (new : Reader)
+    → new.builder.ready.items ≡ old.builder.ready.items → Marks old text new
+marks_none old text new e =
     record { more = []; ready = e ∙ sym (append-nil old.builder.ready.items); marked = tt }
 
-pub marks_one : (limit : ℕ) (old : Reader) (text : List ℕ) (new : Reader) (tree : OwnedTree) (end count : ℕ)
+pub marks_one : (old : Reader) (text : List ℕ) (new : Reader) (tree : OwnedTree) (end count : ℕ)
     (shown : State)
     → new.builder.ready.items ≡ old.builder.ready.items ++ record { tree = tree; end = end } ∷ []
-    → end ≡ limit - (length text - count) → count ≤ length text
+    → end ≡ old.builder.limit - (length text - count) → count ≤ length text
     → run old.max_depth (state_of old) (take count text) ≡ Some shown
     → flush shown ≡ On [] (sexps_of (trees_in new.builder.ready.items)) → may_end (token_in shown) ≡ true
-    → Marks limit old text new
-marks_one limit old text new tree end count shown e is within runs all whole = record {
+    → Marks old text new
+marks_one old text new tree end count shown e is within runs all whole = record {
   more = record { tree = tree; end = end } ∷ [];
   ready = e;
   marked = (
@@ -77,54 +77,54 @@ step_runs : (max_depth : ℕ) (s next : State) (text : List ℕ) → 0 < length 
 step_runs max_depth s next [] some e = absurd (omega arith)
 step_runs max_depth s next (b ∷ text) some e = run-cons max_depth s next b [] e
 
-pub marks_byte : (limit : ℕ) (old : Reader) (text : List ℕ) (new : Reader) → 0 < length text
+pub marks_byte : (old : Reader) (text : List ℕ) (new : Reader) → 0 < length text
     → step old.max_depth (state_of old) (get_or text 0 0) ≡ Some (state_of new)
-    → PushedBy limit (length text) old new → Marks limit old text new
-marks_byte limit old text new some e (inl same) = marks_none limit old text new same
-marks_byte limit old text new some e (inr (inl (inl same, whole))) = marks_none limit old text new same
-marks_byte limit old text new some e (inr (inl (inr (tree, pushed, all), whole))) =
-    marks_one limit old text new tree (limit - (length text - 0)) 0 (state_of old) pushed refl (omega arith) refl all
+    → PushedBy (length text) old new → Marks old text new
+marks_byte old text new some e (inl same) = marks_none old text new same
+marks_byte old text new some e (inr (inl (inl same, whole))) = marks_none old text new same
+marks_byte old text new some e (inr (inl (inr (tree, pushed, all), whole))) =
+    marks_one old text new tree (old.builder.limit - (length text - 0)) 0 (state_of old) pushed refl (omega arith) refl all
     whole
-marks_byte limit old text new some e (inr (inr (inl same, whole))) = marks_none limit old text new same
-marks_byte limit old text new some e (inr (inr (inr (tree, pushed, all), whole))) =
-    marks_one limit old text new tree (limit - (length text - 1)) 1 (state_of new) pushed refl (omega arith)
+marks_byte old text new some e (inr (inr (inl same, whole))) = marks_none old text new same
+marks_byte old text new some e (inr (inr (inr (tree, pushed, all), whole))) =
+    marks_one old text new tree (old.builder.limit - (length text - 1)) 1 (state_of new) pushed refl (omega arith)
     (step_runs old.max_depth (state_of old) (state_of new) text some e) all whole
 
 -- ## Tokens that end in the text
 
 -- an atom that ends before a byte
-pub marks_atom : (limit : ℕ) (old new : Reader) (text : List ℕ) (mark n : ℕ) (token : AtomState)
+pub marks_atom : (old new : Reader) (text : List ℕ) (mark n : ℕ) (token : AtomState)
     → BeginsAtom old.max_depth (state_of old) text mark token → 0 < n → mark + n < length text
     → ((k : ℕ) → k < n → lex token (get_or (rest_of text mark) k 0) ≡ Push token)
     → levels_of new.builder ≡ add_if (atom_of token (take n (rest_of text mark))) (levels_of old.builder)
-    → EndsTree (record { limit = limit; left = length text; read = mark + n }) old.builder new.builder
-    → Marks limit old text new
-marks_atom limit old new text mark n token begins some lt kept adds (inl same) = marks_none limit old text new same
-marks_atom limit old new text mark n token begins some lt kept adds (inr (tree, pushed, none)) =
+    → EndsTree (record { left = length text; read = mark + n }) old.builder new.builder
+    → Marks old text new
+marks_atom old new text mark n token begins some lt kept adds (inl same) = marks_none old text new same
+marks_atom old new text mark n token begins some lt kept adds (inr (tree, pushed, none)) =
     let said = take n (rest_of text mark) in
-    marks_one limit old text new tree (limit - (length text - (mark + n))) (mark + n)
+    marks_one old text new tree (old.builder.limit - (length text - (mark + n))) (mark + n)
     (At token said (levels_of old.builder)) pushed refl (omega arith)
     (marked_run old.max_depth (state_of old) text mark n token begins some (omega arith) kept)
     (sym adds ∙ ap (λ ls. On ls (sexps_of (trees_in new.builder.ready.items))) none) begins.whole
 
 -- a list that ends with a byte
-pub marks_end : (limit : ℕ) (old new : Reader) (text : List ℕ) (count : ℕ) → count ≤ length text
+pub marks_end : (old new : Reader) (text : List ℕ) (count : ℕ) → count ≤ length text
     → Nothing ≡ new.token → run old.max_depth (state_of old) (take count text) ≡ Some (state_of new)
-    → EndsTree (record { limit = limit; left = length text; read = count }) old.builder new.builder
-    → Marks limit old text new
-marks_end limit old new text count le token runs (inl same) = marks_none limit old text new same
-marks_end limit old new text count le token runs (inr (tree, pushed, none)) =
-    marks_one limit old text new tree (limit - (length text - count)) count (state_of new) pushed refl le runs
+    → EndsTree (record { left = length text; read = count }) old.builder new.builder
+    → Marks old text new
+marks_end old new text count le token runs (inl same) = marks_none old text new same
+marks_end old new text count le token runs (inr (tree, pushed, none)) =
+    marks_one old text new tree (old.builder.limit - (length text - count)) count (state_of new) pushed refl le runs
     (flush_none new token ∙ ap (λ ls. On ls (sexps_of (trees_in new.builder.ready.items))) none)
     (ap may_end (sym token))
 
 -- a parenthesis where no token has begun
-pub marks_close : (limit : ℕ) (old new : Reader) (text : List ℕ) → 0 < length text → get_or text 0 0 ≡ 41
+pub marks_close : (old new : Reader) (text : List ℕ) → 0 < length text → get_or text 0 0 ≡ 41
     → old.token ≡ Nothing → old.bytes.items ≡ [] → new.token ≡ old.token → new.bytes ≡ old.bytes
     → 0 < depth_of (levels_of old.builder) → ended (levels_of old.builder) ≡ levels_of new.builder
-    → EndsTree (record { limit = limit; left = length text; read = 1 }) old.builder new.builder
-    → Marks limit old text new
-marks_close limit old new text some byte token bytes same kept deep closes ends =
+    → EndsTree (record { left = length text; read = 1 }) old.builder new.builder
+    → Marks old text new
+marks_close old new text some byte token bytes same kept deep closes ends =
     let levels = levels_of old.builder in
     let before : At Nothing [] levels ≡ state_of old = at_nothing old.token old.bytes.items levels token bytes in
     let after : At Nothing [] (levels_of new.builder) ≡ state_of new = at_nothing new.token new.bytes.items
@@ -133,7 +133,7 @@ marks_close limit old new text some byte token bytes same kept deep closes ends 
     ap (λ s. step old.max_depth s (get_or text 0 0)) (sym before)
     ∙ close_step old.max_depth levels (levels_of new.builder) Nothing [] (get_or text 0 0)
     (subst (λ b. lex Nothing b ≡ separated b) (sym byte) refl) byte deep closes ∙ ap Some after in
-    marks_end limit old new text 1 (omega arith) (sym (same ∙ token))
+    marks_end old new text 1 (omega arith) (sym (same ∙ token))
     (step_runs old.max_depth (state_of old) (state_of new) text some goes) ends
 
 -- ## Some bytes, and more behind them
@@ -174,16 +174,19 @@ marked_later max_depth s mid text place limit before (r ∷ ys) le e h =
       marked_later max_depth s mid text place limit (append before (Cons (sexp_of r.tree) Nil)) ys le e h.1,
     )
 
-pub marks_further : (limit : ℕ) (old mid : Reader) (text : List ℕ) (new : Reader) (place : ℕ) → place ≤ length text
+pub marks_further : (old mid : Reader) (text : List ℕ) (new : Reader) (place : ℕ) → place ≤ length text
     → run old.max_depth (state_of old) (take place text) ≡ Some (state_of mid) → mid.max_depth ≡ old.max_depth
-    → Marks limit old text mid → Marks limit mid (rest_of text place) new → Marks limit old text new
-marks_further limit old mid text new place le e m h k =
+    → mid.builder.limit ≡ old.builder.limit → Marks old text mid → Marks mid (rest_of text place) new → Marks old text new
+marks_further old mid text new place le e m same h k =
     let ready = old.builder.ready.items in
     let trees : sexps_of (trees_in mid.builder.ready.items)
     ≡ append (sexps_of (trees_in ready)) (sexps_of (trees_in h.more)) = ap (λ x. sexps_of (trees_in x)) h.ready
     ∙ trees_joined ready h.more in
+    let limit = old.builder.limit in
+    let at = subst (λ n. AreMarked mid.max_depth (state_of mid) (rest_of text place) n
+    (sexps_of (trees_in mid.builder.ready.items)) k.more) same k.marked in
     let later = subst (λ n. AreMarked n (state_of mid) (rest_of text place) limit
-    (sexps_of (trees_in mid.builder.ready.items)) k.more) m k.marked in
+    (sexps_of (trees_in mid.builder.ready.items)) k.more) m at in
     record {
       more = h.more ++ k.more;
       ready = k.ready ∙ ap (λ x. x ++ k.more) h.ready ∙ append_assoc ready h.more k.more;
@@ -194,18 +197,19 @@ marks_further limit old mid text new place le e m h k =
     }
 
 -- nothing was read, and then something
-pub marks_again : {T E : Type 0} (limit : ℕ) (old mid : Reader) (text : List ℕ) (count : ℕ) (new : Reader)
-    (result : Result T (Failure E)) → count ≡ 0 → GoesOn old text count mid → Marks limit old text mid
-    → UnlessRefused result (Marks limit mid text new) → UnlessRefused result (Marks limit old text new)
-marks_again {T} {E} limit old mid text count new result none goes h k = by result k
+pub marks_again : {T E : Type 0} (old mid : Reader) (text : List ℕ) (count : ℕ) (new : Reader)
+    (result : Result T (Failure E)) → count ≡ 0 → mid.builder.limit ≡ old.builder.limit
+    → GoesOn old text count mid → Marks old text mid
+    → UnlessRefused result (Marks mid text new) → UnlessRefused result (Marks old text new)
+marks_again {T} {E} old mid text count new result none same goes h k = by result k
   where
-    all : Marks limit mid text new → Marks limit old text new
-    all m = marks_further limit old mid text new 0 (omega arith)
-        (subst (λ n. run old.max_depth (state_of old) (take n text) ≡ Some (state_of mid)) none goes.runs) goes.limit h
-        (subst (λ t. Marks limit mid t new) (sym (rest_is text 0)) m)
+    all : Marks mid text new → Marks old text new
+    all m = marks_further old mid text new 0 (omega arith)
+        (subst (λ n. run old.max_depth (state_of old) (take n text) ≡ Some (state_of mid)) none goes.runs) goes.limit same h
+        (subst (λ t. Marks mid t new) (sym (rest_is text 0)) m)
 
-    by : (result : Result T (Failure E)) → UnlessRefused result (Marks limit mid text new)
-        → UnlessRefused result (Marks limit old text new)
+    by : (result : Result T (Failure E)) → UnlessRefused result (Marks mid text new)
+        → UnlessRefused result (Marks old text new)
     by (Ok x) m = all m
     by (Err (Fault e)) m = all m
     by (Err Memory) m = tt

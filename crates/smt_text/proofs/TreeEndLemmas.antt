@@ -120,11 +120,15 @@ pub ends_new : (reader : Reader) → reader.tree_end ≡ 0 → reader.builder.re
 ends_new reader e r = ends_if reader reader.max_depth 0 [] Nil [] refl e r
     (record { within = omega arith; end = start; runs = refl; all = refl; whole = refl }) (inr tt)
 
+-- the reader, about to read a piece that ends at the limit
+abbrev pub limited : ℕ → Reader → Reader
+limited limit reader = record reader { builder = record reader.builder { limit = limit } }
+
 -- one more piece
 ends_marked : (old new : Reader) (piece fed : List ℕ) (taken : Sexps) (limit : ℕ) → is_finished old ≡ false
     → old.failure ≡ None → new.max_depth ≡ old.max_depth → new.tree_end ≡ old.tree_end
     → limit ≡ length fed + length piece → (mid : Reader) → new.builder ≡ mid.builder
-    → Marks limit old piece mid → StandsFor old fed taken → KeepsEnds old fed taken
+    → Marks (limited limit old) piece mid → StandsFor old fed taken → KeepsEnds old fed taken
     → KeepsEnds new (fed ++ piece) taken
 ends_marked old new piece fed taken limit e n m same is mid b marks h k =
     let ready = old.builder.ready.items in
@@ -140,7 +144,7 @@ pub ends_read : (old new mid : Reader) (piece : List ℕ) (result : Result (Unit
     (fed : List ℕ) (taken : Sexps) → is_finished old ≡ false → old.failure ≡ None
     → new.max_depth ≡ old.max_depth → new.tree_end ≡ old.tree_end → new.builder ≡ mid.builder
     → new.failure ≡ result_err result
-    → UnlessRefused result (Marks (bytes_fed old + length piece) old piece mid) → StandsFor old fed taken
+    → UnlessRefused result (Marks (limited (bytes_fed old + length piece) old) piece mid) → StandsFor old fed taken
     → KeepsEnds old fed taken → KeepsEnds new (fed ++ piece) taken
 ends_read old new mid piece (Ok done) fed taken e n m same b f marks h k =
     ends_marked old new piece fed taken (bytes_fed old + length piece) e n m same (ap (λ x. x + length piece) h.0) mid b
@@ -173,21 +177,21 @@ ends_same old new fed taken m same r f k =
 -- the end of the text
 pub ends_finish : (old new started mid : Reader) (result : Result (Unit {0}) (Failure TextFlaw)) (fed : List ℕ)
     (taken : Sexps) → is_finished old ≡ false → old.failure ≡ None → new.max_depth ≡ old.max_depth
-    → new.tree_end ≡ old.tree_end → new.builder ≡ mid.builder → started.builder ≡ old.builder
-    → new.failure ≡ result_err result → Ends (state_of old) (bytes_fed old) result (state_of mid)
+    → new.tree_end ≡ old.tree_end → new.builder ≡ mid.builder → started.builder.ready ≡ old.builder.ready
+    → started.builder.limit ≡ bytes_fed old → new.failure ≡ result_err result → Ends (state_of old) (bytes_fed old) result (state_of mid)
     → IfRead result started mid
-    (Pushed (record { limit = bytes_fed old; left = 0; read = 0 }) (state_of old) started mid)
+    (Pushed (record { left = 0; read = 0 }) (state_of old) started mid)
     → StandsFor old fed taken → KeepsEnds old fed taken → KeepsEnds new fed taken
-ends_finish old new started mid (Ok done) fed taken e n m same b o f ends (inl none) h k =
+ends_finish old new started mid (Ok done) fed taken e n m same b o held f ends (inl none) h k =
     ends_if new old.max_depth old.tree_end fed taken old.builder.ready.items m same
-    (ap (λ x. x.ready.items) b ∙ none ∙ ap (λ x. x.ready.items) o) (parts old fed taken k).0 (inr (wholes old fed taken n k))
-ends_finish old new started mid (Ok done) fed taken e n m same b o f ends (inr (tree, pushed, all)) h k =
+    (ap (λ x. x.ready.items) b ∙ none ∙ ap (λ x. x.items) o) (parts old fed taken k).0 (inr (wholes old fed taken n k))
+ends_finish old new started mid (Ok done) fed taken e n m same b o held f ends (inr (tree, pushed, all)) h k =
     let ready = old.builder.ready.items in
-    let place = bytes_fed old - (0 - 0) in
+    let place = started.builder.limit - (0 - 0) in
     let one : Ready = record { tree = tree; end = place } in
-    let at : place ≡ length fed = omega (arith, h.0) in
+    let at : place ≡ length fed = omega (arith, held, h.0) in
     let s = after_taken taken (state_of old) in
-    let grown : mid.builder.ready.items ≡ ready ++ one ∷ [] = pushed ∙ ap (λ x. x.ready.items ++ one ∷ []) o in
+    let grown : mid.builder.ready.items ≡ ready ++ one ∷ [] = pushed ∙ ap (λ x. x.items ++ one ∷ []) o in
     let trees : sexps_of (trees_in mid.builder.ready.items)
     ≡ append (sexps_of (trees_in ready)) (Cons (sexp_of tree) Nil) = sexps_pushed ready mid.builder.ready.items tree
     place grown in
@@ -203,10 +207,10 @@ ends_finish old new started mid (Ok done) fed taken e n m same b o f ends (inr (
     ends_if new old.max_depth old.tree_end fed taken (ready ++ one ∷ []) m same
     (ap (λ x. x.ready.items) b ∙ grown) (parts old fed taken k).0
     (inr (whole_join old.max_depth fed taken ready (one ∷ []) (wholes old fed taken n k) (last, tt)))
-ends_finish old new started mid (Err (Fault flaw)) fed taken e n m same b o f ends none h k =
+ends_finish old new started mid (Err (Fault flaw)) fed taken e n m same b o held f ends none h k =
     ends_if new old.max_depth old.tree_end fed taken old.builder.ready.items m same
-    (ap (λ x. x.ready.items) b ∙ none ∙ ap (λ x. x.ready.items) o) (parts old fed taken k).0 (inr (wholes old fed taken n k))
-ends_finish old new started mid (Err Memory) fed taken e n m same b o f ends pushed h k =
+    (ap (λ x. x.ready.items) b ∙ none ∙ ap (λ x. x.items) o) (parts old fed taken k).0 (inr (wholes old fed taken n k))
+ends_finish old new started mid (Err Memory) fed taken e n m same b o held f ends pushed h k =
     ends_if new old.max_depth old.tree_end fed taken new.builder.ready.items m same refl
     (parts old fed taken k).0 (inl f)
 

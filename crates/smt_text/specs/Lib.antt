@@ -6,4 +6,6 @@ pub mod Internal
 pub mod Positions
 pub mod Lines
 pub mod Spans
+pub mod Places
 pub mod OpenPlaces
+pub mod Atoms

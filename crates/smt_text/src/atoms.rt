@@ -22,6 +22,7 @@ pub(crate) fn add_token(
     ensures levels { IfOk result
         (λ _. levels_of builder.new ≡ add_if (atom_of token bytes.now) (levels_of builder.old)) }
     ensures ready { IfOk result (λ _. EndsTree end builder.old builder.new) }
+    ensures limit { builder.new.limit ≡ builder.old.limit }
 {
     match token {
         AtomState::Name => add_name(builder, bytes, end),
@@ -50,6 +51,7 @@ fn add_name(builder: &mut Builder, bytes: &[u8], end: Mark) -> Result<(), Memory
     ensures levels { IfOk result (λ _. levels_of builder.new
         ≡ add (name_or_word (word_named bytes.now) bytes.now) (levels_of builder.old)) }
     ensures ready { IfOk result (λ _. EndsTree end builder.old builder.new) }
+    ensures limit { builder.new.limit ≡ builder.old.limit }
 {
     match word_of(bytes) {
         Some(word) => builder.add_word(word, end),

@@ -17,6 +17,8 @@ pub(crate) struct Builder {
     list: Tape,
     /// The trees at the top that were not returned yet.
     ready: VecDeque<Ready>,
+    /// The place, in the whole text, at which the piece ends that is read.
+    pub(crate) limit: u64,
 }
 
 /// A tree at the top, and how many bytes the text has up to its end.
@@ -41,6 +43,7 @@ impl Builder {
             alloc,
             list: Tape::new(alloc),
             ready: VecDeque::new(alloc),
+            limit: 0,
         }
     }
 
@@ -58,10 +61,11 @@ impl Builder {
         ensures levels { IfOk result
             (λ _. levels_of self.new ≡ add (Atom (kind_of kind) bytes.now) (levels_of self.old)) }
         ensures ready { IfOk result (λ _. EndsTree end self.old self.new) }
+        ensures limit { self.new.limit ≡ self.old.limit }
     {
         if self.list.depth() == 0 {
             let atom = OwnedTree::atom(self.alloc, kind, bytes)?;
-            return push_ready(&mut self.ready, atom, end);
+            return push_ready(&mut self.ready, atom, self.limit, end);
         }
         self.list.add_atom(kind, bytes)?;
         Ok(())
@@ -72,10 +76,11 @@ impl Builder {
     pub(crate) fn add_word(&mut self, word: Word, end: Mark) -> Result<(), Memory>
         ensures levels { IfOk result (λ _. levels_of self.new ≡ add (Reserved word) (levels_of self.old)) }
         ensures ready { IfOk result (λ _. EndsTree end self.old self.new) }
+        ensures limit { self.new.limit ≡ self.old.limit }
     {
         if self.list.depth() == 0 {
             let word = OwnedTree::word(self.alloc, word)?;
-            return push_ready(&mut self.ready, word, end);
+            return push_ready(&mut self.ready, word, self.limit, end);
         }
         self.list.add_word(word)?;
         Ok(())
@@ -86,6 +91,7 @@ impl Builder {
     pub(crate) fn begin_list(&mut self) -> Result<(), Memory>
         ensures levels { IfOk result (λ _. levels_of self.new ≡ begun (levels_of self.old)) }
         ensures ready { self.new.ready ≡ self.old.ready }
+        ensures limit { self.new.limit ≡ self.old.limit }
     {
         self.list.begin_list()?;
         Ok(())
@@ -97,10 +103,11 @@ impl Builder {
         requires { 0 < depth_of (levels_of self.old) }
         ensures levels { IfOk result (λ _. ended (levels_of self.old) ≡ levels_of self.new) }
         ensures ready { IfOk result (λ _. EndsTree end self.old self.new) }
+        ensures limit { self.new.limit ≡ self.old.limit }
     {
         if self.list.depth() == 1 {
             let list = self.list.take(self.alloc)?;
-            return push_ready(&mut self.ready, list, end);
+            return push_ready(&mut self.ready, list, self.limit, end);
         }
         self.list.end_list()?;
         Ok(())
@@ -116,14 +123,19 @@ impl Builder {
     }
 }
 
-// Appends a tree, which ends at a mark, to those that are ready. Few trees are at the top, so this is not
-// inlined, and only here the place of a mark is worked out.
+// Appends a tree, which ends at a mark, to those that are ready. The piece ends at the limit. Few trees are at the
+// top, so this is not inlined, and only here the place of a mark is worked out.
 #[inline(never)]
-fn push_ready(ready: &mut VecDeque<Ready>, tree: OwnedTree, end: Mark) -> Result<(), Memory>
+fn push_ready(
+    ready: &mut VecDeque<Ready>,
+    tree: OwnedTree,
+    limit: u64,
+    end: Mark,
+) -> Result<(), Memory>
     ensures { IfOk result
-        (λ _. ready.new.items ≡ ready.old.items ++ record { tree = tree; end = place_of end } ∷ []) }
+        (λ _. ready.new.items ≡ ready.old.items ++ record { tree = tree; end = place_of limit end } ∷ []) }
 {
-    let end = end.place();
+    let end = end.place(limit);
     ready.push_back(Ready { tree, end })?;
     Ok(())
 }

@@ -6,11 +6,13 @@ pub mod examples;
 ghost use Rattle.std.specs.Prelude.{◌≡◌, ◌≤◌, ℕ, List, ◌++◌, Bool, false, true, length, take, Option, Some};
 ghost use Rattle.std.specs.Prelude.{None};
 ghost use Rattle.smt_text.specs.Grammar.{Forest};
+ghost use Rattle.smt_text.specs.OpenPlaces.{AreOpenIn};
 ghost use Rattle.smt_text.specs.Positions.{after, position_after};
 ghost use Rattle.smt_text.specs.Reading.{Begins, AreComplete, Reads};
 ghost use Rattle.smt_trees.specs.Sexp.{Sexp, Sexps, Nil, Cons, append, count};
 ghost use Rattle.smt_faults.specs.declared.text_flaw.TextFlaw.{TextFlaw};
 ghost use Rattle.smt_text.specs.declared.position.Position.{Position};
+ghost use Rattle.smt_text.specs.declared.unfinished.OpenPlaces.{OpenPlaces};
 
 /// A text has at most one forest, whatever the limits on the depth of lists.
 pub fn one_forest()
@@ -65,6 +67,13 @@ pub fn more_trees_end_later()
     ensures later { (max_depth : ℕ) (text : List ℕ) (end later : ℕ) (trees : Sexps) (x : Sexp)
         → Reads max_depth true (take end text) trees None
         → Reads max_depth true (take later text) (append trees (Cons x Nil)) None → end ≤ later }
+{}
+
+/// A text of whole trees leaves nothing open at its end.
+pub fn whole_texts_leave_nothing_open()
+    ensures none { (max_depth : ℕ) (text : List ℕ) (trees : Sexps) (places : OpenPlaces)
+        → Reads max_depth true text trees None → AreOpenIn text places
+        → (places.outermost ≡ None) × (places.innermost ≡ None) × (places.token ≡ None) }
 {}
 
 /// The position after a text is the one after its second part, which stands at the position after its first

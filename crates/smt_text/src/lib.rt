@@ -5,7 +5,7 @@
 //! bytes from 0. [`read_trees`] does the same for a text that is at hand as a whole.
 //! [`Reader::tree_end`] tells where the last tree ended. From there [`gap_length`] leads to the next one, and
 //! [`Position`] and [`Lines`] give line and column of a place. [`open_places`] tells what a text leaves open that ends
-//! inside a tree.
+//! inside a tree, and [`atom_spans`] where the atoms of a text stand.
 //!
 //! The layer above uses the contract of `Reader::next`. The trees returned so far are the first ones that are
 //! read of the bytes fed (`Reads` in `specs/Reading.antt`). The answer is the next tree, or the fault after
@@ -27,6 +27,7 @@
 //! ```
 #![tactic(auto)]
 
+mod atom_places;
 mod atoms;
 mod builder;
 mod byte_class;
@@ -43,6 +44,7 @@ mod reserved;
 mod span;
 mod unfinished;
 
+pub use atom_places::atom_spans;
 pub use gap::gap_length;
 pub use layout::tree_spans;
 pub use lines::Lines;

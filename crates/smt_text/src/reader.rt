@@ -106,6 +106,7 @@ impl Reader {
             → KeepsEnds self.old fed taken → KeepsEnds self.new (fed ++ piece.now) taken }
     {
         if self.failure.is_none() {
+            self.builder.limit = self.fed + piece.len() as u64;
             self.failure = self.read(piece).err();
         }
         self.fed += piece.len() as u64;
@@ -144,6 +145,7 @@ impl Reader {
     {
         self.finished = true;
         if self.failure.is_none() {
+            self.builder.limit = self.fed;
             self.failure = self.close_text().err();
         }
     }
@@ -196,12 +198,11 @@ impl Reader {
         ensures goes { GoesThrough self.old.max_depth (state_of self.old) self.old.fed piece.now result
             (state_of self.new) }
         ensures marks { UnlessRefused result
-            (Marks (self.old.fed + length piece.now) self.old piece.now self.new) }
+            (Marks self.old piece.now self.new) }
     {
-        let limit = self.fed + piece.len() as u64;
         let mut place = 0;
         while place < piece.len() {
-            match self.read_some(&piece[place..], limit) {
+            match self.read_some(&piece[place..]) {
                 Ok(count) => place += count,
                 Err(Failure::Fault(refusal)) => {
                     return Err(Failure::Fault(refusal.at(self.fed + place as u64)));
@@ -212,48 +213,47 @@ impl Reader {
         Ok(())
     }
 
-    // Reads some bytes of a text that is not empty, and returns how many. The limit is the place, in all that is
-    // fed, at which this text ends.
-    fn read_some(&mut self, text: &[u8], limit: u64) -> Result<usize, Failure<Refusal>>
+    // Reads some bytes of a text that is not empty, and returns how many.
+    fn read_some(&mut self, text: &[u8]) -> Result<usize, Failure<Refusal>>
         requires { 0 < length text.now }
         ensures beside { IsBeside self.old self.new }
         ensures goes { GoesOver self.old.max_depth (state_of self.old) text.now result (state_of self.new) }
-        ensures marks { UnlessRefused result (Marks limit self.old text.now self.new) }
+        ensures marks { UnlessRefused result (Marks self.old text.now self.new) }
     {
         match self.token {
-            AtomState::Nothing if self.bytes.is_empty() => self.read_between(text, limit),
-            AtomState::InComment => self.read_comment(text, limit),
-            _ => self.read_run(text, limit),
+            AtomState::Nothing if self.bytes.is_empty() => self.read_between(text),
+            AtomState::InComment => self.read_comment(text),
+            _ => self.read_run(text),
         }
     }
 
     // Reads on where no token has begun.
-    fn read_between(&mut self, text: &[u8], limit: u64) -> Result<usize, Failure<Refusal>>
+    fn read_between(&mut self, text: &[u8]) -> Result<usize, Failure<Refusal>>
         requires some { 0 < length text.now }
         requires token { self.old.token ≡ Nothing }
         requires bytes { self.old.bytes.items ≡ [] }
         ensures beside { IsBeside self.old self.new }
         ensures goes { GoesOver self.old.max_depth (state_of self.old) text.now result (state_of self.new) }
-        ensures marks { UnlessRefused result (Marks limit self.old text.now self.new) }
+        ensures marks { UnlessRefused result (Marks self.old text.now self.new) }
     {
-        let count = self.read_tokens(text, limit)?;
+        let count = self.read_tokens(text)?;
         if count == 0 {
-            return self.read_byte(text, limit);
+            return self.read_byte(text);
         }
         Ok(count)
     }
 
     // Reads the tokens that end within a text, from its beginning on, and the white space between them.
-    fn read_tokens(&mut self, text: &[u8], limit: u64) -> Result<usize, Memory>
+    fn read_tokens(&mut self, text: &[u8]) -> Result<usize, Memory>
         requires token { self.old.token ≡ Nothing }
         requires bytes { self.old.bytes.items ≡ [] }
         ensures beside { IsBeside self.old self.new }
         ensures goes { IfOk result (λ count. GoesOn self.old text.now count self.new) }
-        ensures marks { IfOk result (λ _. Marks limit self.old text.now self.new) }
+        ensures marks { IfOk result (λ _. Marks self.old text.now self.new) }
     {
         let mut place = 0;
         while place < text.len() {
-            let count = self.read_token(&text[place..], limit)?;
+            let count = self.read_token(&text[place..])?;
             if count == 0 {
                 return Ok(place);
             }
@@ -265,55 +265,48 @@ impl Reader {
     // Reads an atom that ends, a parenthesis or white space at the beginning of a text that is not empty. It
     // reads nothing where something else is there, or something rare.
     #[inline(always)]
-    fn read_token(&mut self, text: &[u8], limit: u64) -> Result<usize, Memory>
+    fn read_token(&mut self, text: &[u8]) -> Result<usize, Memory>
         requires some { 0 < length text.now }
         requires token { self.old.token ≡ Nothing }
         requires bytes { self.old.bytes.items ≡ [] }
         ensures beside { IsBeside self.old self.new }
         ensures goes { IfOk result (λ count. GoesOn self.old text.now count self.new) }
-        ensures marks { IfOk result (λ _. Marks limit self.old text.now self.new) }
+        ensures marks { IfOk result (λ _. Marks self.old text.now self.new) }
     {
         match text[0] {
             b'(' if self.builder.depth() < self.max_depth => {
                 self.builder.begin_list()?;
                 Ok(1)
             }
-            first if is_letter(first) => self.read_atom(text, limit, 0, 1, AtomState::Name),
+            first if is_letter(first) => self.read_atom(text, 0, 1, AtomState::Name),
             b' ' | b'\n' => Ok(1),
             b')' if self.builder.depth() > 0 => {
                 self.builder.end_list(Mark {
-                    limit,
                     left: text.len(),
                     read: 1,
                 })?;
                 Ok(1)
             }
-            first if is_nonzero_digit(first) => self.read_atom(
-                text,
-                limit,
-                0,
-                1,
-                AtomState::Digits,
-            ),
-            b'#' => self.read_literal(text, limit),
+            first if is_nonzero_digit(first) => self.read_atom(text, 0, 1, AtomState::Digits),
+            b'#' => self.read_literal(text),
             _ => Ok(0),
         }
     }
 
     // Reads a literal of a bit vector, and the byte after it, where that ends it.
     #[inline(always)]
-    fn read_literal(&mut self, text: &[u8], limit: u64) -> Result<usize, Memory>
+    fn read_literal(&mut self, text: &[u8]) -> Result<usize, Memory>
         requires some { 0 < length text.now }
         requires first { slice_index text.now 0 ≡ 35 }
         requires token { self.old.token ≡ Nothing }
         requires bytes { self.old.bytes.items ≡ [] }
         ensures beside { IsBeside self.old self.new }
         ensures goes { IfOk result (λ count. GoesOn self.old text.now count self.new) }
-        ensures marks { IfOk result (λ _. Marks limit self.old text.now self.new) }
+        ensures marks { IfOk result (λ _. Marks self.old text.now self.new) }
     {
         match text.get(1) {
-            Some(b'x') => self.read_atom(text, limit, 2, 0, AtomState::HexDigits),
-            Some(b'b') => self.read_atom(text, limit, 2, 0, AtomState::BinDigits),
+            Some(b'x') => self.read_atom(text, 2, 0, AtomState::HexDigits),
+            Some(b'b') => self.read_atom(text, 2, 0, AtomState::BinDigits),
             _ => Ok(0),
         }
     }
@@ -324,7 +317,6 @@ impl Reader {
     fn read_atom(
         &mut self,
         text: &[u8],
-        limit: u64,
         mark: usize,
         known: usize,
         token: AtomState,
@@ -336,7 +328,7 @@ impl Reader {
         requires bytes { self.old.bytes.items ≡ [] }
         ensures beside { IsBeside self.old self.new }
         ensures goes { IfOk result (λ count. GoesOn self.old text.now count self.new) }
-        ensures marks { IfOk result (λ _. Marks limit self.old text.now self.new) }
+        ensures marks { IfOk result (λ _. Marks self.old text.now self.new) }
     {
         let said = &text[mark..];
         let count = known + token.run_length(&said[known..]);
@@ -349,19 +341,10 @@ impl Reader {
             return Ok(0);
         }
         let left = text.len();
-        self.add_atom(
-            token,
-            said,
-            count,
-            Mark {
-                limit,
-                left,
-                read: end,
-            },
-        )?;
+        self.add_atom(token, said, count, Mark { left, read: end })?;
         let read = end + 1;
         if closes {
-            self.builder.end_list(Mark { limit, left, read })?;
+            self.builder.end_list(Mark { left, read })?;
         }
         Ok(read)
     }
@@ -387,52 +370,52 @@ impl Reader {
     }
 
     // Reads on in a comment.
-    fn read_comment(&mut self, text: &[u8], limit: u64) -> Result<usize, Failure<Refusal>>
+    fn read_comment(&mut self, text: &[u8]) -> Result<usize, Failure<Refusal>>
         requires some { 0 < length text.now }
         requires token { self.old.token ≡ InComment }
         ensures beside { IsBeside self.old self.new }
         ensures goes { GoesOver self.old.max_depth (state_of self.old) text.now result (state_of self.new) }
-        ensures marks { UnlessRefused result (Marks limit self.old text.now self.new) }
+        ensures marks { UnlessRefused result (Marks self.old text.now self.new) }
     {
         let count = comment_length(text);
         if count == 0 {
-            return self.read_byte(text, limit);
+            return self.read_byte(text);
         }
         Ok(count)
     }
 
     // Reads on in a token that has begun.
-    fn read_run(&mut self, text: &[u8], limit: u64) -> Result<usize, Failure<Refusal>>
+    fn read_run(&mut self, text: &[u8]) -> Result<usize, Failure<Refusal>>
         requires { 0 < length text.now }
         ensures beside { IsBeside self.old self.new }
         ensures goes { GoesOver self.old.max_depth (state_of self.old) text.now result (state_of self.new) }
-        ensures marks { UnlessRefused result (Marks limit self.old text.now self.new) }
+        ensures marks { UnlessRefused result (Marks self.old text.now self.new) }
     {
         let count = self.token.run_length(text);
         if count == 0 {
-            return self.read_byte(text, limit);
+            return self.read_byte(text);
         }
         self.bytes.extend_from_slice(&text[..count])?;
         Ok(count)
     }
 
     // Reads the first byte of a text.
-    fn read_byte(&mut self, text: &[u8], limit: u64) -> Result<usize, Failure<Refusal>>
+    fn read_byte(&mut self, text: &[u8]) -> Result<usize, Failure<Refusal>>
         requires { 0 < length text.now }
         ensures beside { IsBeside self.old self.new }
         ensures goes { GoesOver self.old.max_depth (state_of self.old) text.now result (state_of self.new) }
-        ensures marks { UnlessRefused result (Marks limit self.old text.now self.new) }
+        ensures marks { UnlessRefused result (Marks self.old text.now self.new) }
     {
-        self.advance(text[0], limit, text.len())?;
+        self.advance(text[0], text.len())?;
         Ok(1)
     }
 
     // Reads one byte, the first of those left of a piece, where nothing has failed before.
-    fn advance(&mut self, byte: u8, limit: u64, left: usize) -> Result<(), Failure<Refusal>>
+    fn advance(&mut self, byte: u8, left: usize) -> Result<(), Failure<Refusal>>
         ensures beside { IsBeside self.old self.new }
         ensures goes { Goes (step self.old.max_depth (state_of self.old) byte) (refusal_of (lex self.old.token byte))
             (state_of self.old) result (state_of self.new) }
-        ensures pushed { IfRead result self.old self.new (PushedBy limit left self.old self.new) }
+        ensures pushed { IfRead result self.old self.new (PushedBy left self.old self.new) }
     {
         match self.token.after(byte) {
             LexerStep::Push(token) => {
@@ -446,15 +429,11 @@ impl Reader {
             }
             LexerStep::Finish(token) => {
                 let read = token.own_end();
-                self.finish_token(token, Mark { limit, left, read })?;
+                self.finish_token(token, Mark { left, read })?;
                 Ok(())
             }
-            LexerStep::Open => self.begin_list(Mark {
-                limit,
-                left,
-                read: 0,
-            }),
-            LexerStep::Close => self.end_list(limit, left),
+            LexerStep::Open => self.begin_list(Mark { left, read: 0 }),
+            LexerStep::Close => self.end_list(left),
             LexerStep::Stuck => Err(Failure::Fault(Refusal::Unfit)),
         }
     }
@@ -476,29 +455,18 @@ impl Reader {
 
     // Ends the token that has begun, and the innermost list, which ends with the first byte of those left of a
     // piece.
-    fn end_list(&mut self, limit: u64, left: usize) -> Result<(), Failure<Refusal>>
+    fn end_list(&mut self, left: usize) -> Result<(), Failure<Refusal>>
         ensures beside { IsBeside self.old self.new }
         ensures goes { Goes (settle (act self.old.max_depth CloseParenthesis (flush (state_of self.old)))) Unfit
             (state_of self.old) result (state_of self.new) }
         ensures pushed { IfRead result self.old self.new
-            (Pushed (record { limit = limit; left = left; read = 1 }) (state_of self.new) self.old self.new) }
+            (Pushed (record { left = left; read = 1 }) (state_of self.new) self.old self.new) }
     {
         if self.builder.depth() == 0 {
             return Err(Failure::Fault(Refusal::Unfit));
         }
-        self.finish_token(
-            AtomState::Nothing,
-            Mark {
-                limit,
-                left,
-                read: 0,
-            },
-        )?;
-        self.builder.end_list(Mark {
-            limit,
-            left,
-            read: 1,
-        })?;
+        self.finish_token(AtomState::Nothing, Mark { left, read: 0 })?;
+        self.builder.end_list(Mark { left, read: 1 })?;
         Ok(())
     }
 
@@ -518,17 +486,13 @@ impl Reader {
     fn close_text(&mut self) -> Result<(), Failure<TextFlaw>>
         ensures beside { IsBeside self.old self.new }
         ensures ends { Ends (state_of self.old) self.old.fed result (state_of self.new) }
-        ensures pushed { IfRead result self.old self.new (Pushed (record { limit = self.old.fed; left = 0; read = 0 })
+        ensures pushed { IfRead result self.old self.new (Pushed (record { left = 0; read = 0 })
             (state_of self.old) self.old self.new) }
     {
         if self.builder.depth() > 0 || !self.token.may_end() {
             return Err(Failure::Fault(TextFlaw::End { place: self.fed }));
         }
-        let end = Mark {
-            limit: self.fed,
-            left: 0,
-            read: 0,
-        };
+        let end = Mark { left: 0, read: 0 };
         self.finish_token(AtomState::Nothing, end)?;
         Ok(())
     }

@@ -1,9 +1,8 @@
 //! What is open at the end of a text that ends inside a tree. This file makes no tree.
 
-ghost use Rattle.std.specs.Prelude.{◌≡◌, ◌⊎◌, ℕ, List, IfOk, IfSome, OnOk};
-ghost use Rattle.smt_text.specs.Internal.Scanning.{beginning_of, IsScan};
-ghost use Rattle.smt_text.specs.Lexical.{bar, quote};
-ghost use Rattle.smt_text.specs.OpenPlaces.{AreOpenIn, IsAt};
+ghost use Rattle.std.specs.Prelude.{◌≡◌, ◌+◌, ℕ, List, length, IfOk, OnOk};
+ghost use Rattle.smt_text.specs.Internal.Scanning.{beginning_of, IsAt, IsScan};
+ghost use Rattle.smt_text.specs.OpenPlaces.{AreOpenIn, IsOpenToken};
 
 use crate::lexer::{AtomState, LexerStep};
 use smt_faults::Memory;
@@ -48,8 +47,8 @@ struct Scan {
 impl Scan {
     // Reads the byte at a place. One that cannot be there ends the token, as white space does.
     fn take(&mut self, byte: u8, place: u64) -> Result<(), Memory>
-        ensures { (text : List ℕ) → IsAt text byte place → IsScan text self.old
-            → OnOk result (IsScan text self.new) }
+        ensures { (text : List ℕ) → IsAt text byte place → IsScan text place self.old
+            → OnOk result (IsScan text (place + 1) self.new) }
     {
         let step = self.token.after(byte);
         self.begun = self.beginning(place);
@@ -76,7 +75,7 @@ impl Scan {
 
     // What is open.
     fn open(&self) -> OpenPlaces
-        ensures { (text : List ℕ) → IsScan text self.now → AreOpenIn text result }
+        ensures { (text : List ℕ) → IsScan text (length text) self.now → AreOpenIn text result }
     {
         OpenPlaces {
             outermost: self.lists.first().copied(),
@@ -87,8 +86,7 @@ impl Scan {
 
     // Where the string or the quoted symbol begins that has not ended.
     fn open_token(&self) -> Option<u64>
-        ensures { (text : List ℕ) → IsScan text self.now
-            → IfSome result (λ place. IsAt text quote place ⊎ IsAt text bar place) }
+        ensures { (text : List ℕ) → IsScan text (length text) self.now → IsOpenToken text result }
     {
         match self.token {
             AtomState::InText | AtomState::InBars => Some(self.begun),

@@ -32,16 +32,17 @@ levels_of builder = On (lists_of builder.list) (sexps_of (trees_in builder.ready
 abbrev pub state_of : Reader → State
 state_of reader = At reader.token reader.bytes.items (levels_of reader.builder)
 
--- how many bytes of the whole text are before the mark
-abbrev pub place_of : Mark → ℕ
-place_of mark = mark.limit - (mark.left - mark.read)
+-- how many bytes of the whole text are before the mark, where the piece ends at the limit
+abbrev pub place_of : ℕ → Mark → ℕ
+place_of limit mark = limit - (mark.left - mark.read)
 
 -- what became of the trees at the top: nothing, or one more is ready, which ends at the mark, and no list is
 -- open
 abbrev pub EndsTree : Mark → Builder → Builder → Type 0
 EndsTree end old new =
     (new.ready.items ≡ old.ready.items)
-    ⊎ ((tree : OwnedTree) × (new.ready.items ≡ old.ready.items ++ record { tree = tree; end = place_of end } ∷ [])
+    ⊎ ((tree : OwnedTree)
+    × (new.ready.items ≡ old.ready.items ++ record { tree = tree; end = place_of old.limit end } ∷ [])
     × (lists_of new.list ≡ []))
 
 -- trees that were handed out before those at the top
@@ -80,11 +81,12 @@ AreMarked max_depth s text limit before (r ∷ rs) =
     × IsWholeAt max_depth s text count (append before (Cons (sexp_of r.tree) Nil)))
     × AreMarked max_depth s text limit (append before (Cons (sexp_of r.tree) Nil)) rs
 
--- the trees that became ready have their ends in the text, which ends at the limit
-pub record Marks (limit : ℕ) (old : Reader) (text : List ℕ) (new : Reader) : Type 0 where
+-- the trees that became ready have their ends in the text, with which the piece ends
+pub record Marks (old : Reader) (text : List ℕ) (new : Reader) : Type 0 where
   pub more : List Ready
   pub ready : new.builder.ready.items ≡ old.builder.ready.items ++ more
-  pub marked : AreMarked old.max_depth (state_of old) text limit (sexps_of (trees_in old.builder.ready.items)) more
+  pub marked : AreMarked old.max_depth (state_of old) text old.builder.limit
+      (sexps_of (trees_in old.builder.ready.items)) more
 
 -- at the end of each of these trees, the bytes fed are read to the trees up to there
 abbrev pub AreWhole : ℕ → List ℕ → Sexps → List Ready → Type 0
@@ -98,16 +100,17 @@ abbrev pub Pushed : Mark → State → Reader → Reader → Type 0
 Pushed end shown old new =
     (new.builder.ready.items ≡ old.builder.ready.items)
     ⊎ ((tree : OwnedTree)
-    × (new.builder.ready.items ≡ old.builder.ready.items ++ record { tree = tree; end = place_of end } ∷ [])
+    × (new.builder.ready.items
+    ≡ old.builder.ready.items ++ record { tree = tree; end = place_of old.builder.limit end } ∷ [])
     × (flush shown ≡ On [] (sexps_of (trees_in new.builder.ready.items))))
 
 -- the same of one byte, the first of those left of a piece: the tree ends before it or with it
-abbrev pub PushedBy : ℕ → ℕ → Reader → Reader → Type 0
-PushedBy limit left old new =
+abbrev pub PushedBy : ℕ → Reader → Reader → Type 0
+PushedBy left old new =
     (new.builder.ready.items ≡ old.builder.ready.items)
-    ⊎ ((Pushed (record { limit = limit; left = left; read = 0 }) (state_of old) old new
+    ⊎ ((Pushed (record { left = left; read = 0 }) (state_of old) old new
     × (may_end old.token ≡ true))
-    ⊎ (Pushed (record { limit = limit; left = left; read = 1 }) (state_of new) old new
+    ⊎ (Pushed (record { left = left; read = 1 }) (state_of new) old new
     × (may_end new.token ≡ true)))
 
 -- so it is where the byte was read, and no tree became ready where it was refused
@@ -127,6 +130,7 @@ abbrev pub IsBeside : Reader → Reader → Type 0
 IsBeside old new =
     (new.fed ≡ old.fed) × (new.finished ≡ old.finished) × (new.failure ≡ old.failure)
     × (new.max_depth ≡ old.max_depth) × (new.tree_end ≡ old.tree_end)
+    × (new.builder.limit ≡ old.builder.limit)
 
 -- what a step of the reader did: it went to the state that it should, found that there is none and changed
 -- nothing, or had no memory

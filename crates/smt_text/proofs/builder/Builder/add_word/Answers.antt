@@ -12,7 +12,7 @@ returns-then-depth-eq0-clause-levels c =
     if_ok c.push_ready.result (λ pushed. add_top (lists_of c.args.self.now.list)
     (trees_in c.args.self.now.ready.items) (trees_in c.push_ready.new.ready.items) c.in_ok-word.word
     (Reserved c.args.word) (sym c.depth.ensures ∙ c.if-depth-eq0.true)
-    (trees_pushed c.args.self.now.ready.items c.push_ready.new.ready.items c.in_ok-word.word (place_of c.args.end)
+    (trees_pushed c.args.self.now.ready.items c.push_ready.new.ready.items c.in_ok-word.word (place_of c.args.self.now.limit c.args.end)
     pushed) c.in_ok-word.ensures) c.push_ready.ensures
 
 pub returns-then-depth-eq0-clause-ready : goal.returns-then-depth-eq0-clause-ready

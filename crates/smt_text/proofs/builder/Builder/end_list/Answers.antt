@@ -11,7 +11,7 @@ returns-then-depth-eq1-clause-levels c =
     if_ok c.push_ready.result (λ pushed. end_top (lists_of c.args.self.now.list) (lists_of c.take.new.self)
     (trees_in c.args.self.now.ready.items) (trees_in c.push_ready.new.ready.items) c.in_ok-list.list
     (sym c.depth.ensures ∙ c.if-depth-eq1.true) c.in_ok-list.ensures.rest
-    (trees_pushed c.args.self.now.ready.items c.push_ready.new.ready.items c.in_ok-list.list (place_of c.args.end)
+    (trees_pushed c.args.self.now.ready.items c.push_ready.new.ready.items c.in_ok-list.list (place_of c.args.self.now.limit c.args.end)
     pushed) c.in_ok-list.ensures.taken) c.push_ready.ensures
 
 pub returns-then-depth-eq1-clause-ready : goal.returns-then-depth-eq1-clause-ready

@@ -13,7 +13,8 @@ returns-clause-pushed c =
     ap depth_of (sym (flush_at Nothing (state_of c.args.self.now) mid c.in_ok-finish_token.ensures.finished))
     ∙ depth_of-flush (state_of c.args.self.now) in
     let deep : 0 < depth_of (levels_of mid.builder) = omega (arith, same, c.depth.ensures, c.if-depth-eq0.false) in
-    end_pushed (record { limit = c.args.limit; left = c.args.left; read = 0 })
-    (record { limit = c.args.limit; left = c.args.left; read = 1 }) c.args.self.now mid
-    (record mid { builder = c.end_list.new.self }) c.in_ok-finish_token.ensures.finished refl deep
+    end_pushed (record { left = c.args.left; read = 0 })
+    (record { left = c.args.left; read = 1 }) c.args.self.now mid
+    (record mid { builder = c.end_list.new.self }) c.in_ok-finish_token.ensures.finished refl
+    c.in_ok-finish_token.ensures.beside.5 deep
     c.in_ok-finish_token.ensures.ready c.in_ok-end_list.ensures.ready

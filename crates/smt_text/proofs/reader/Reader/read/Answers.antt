@@ -1,4 +1,4 @@
-use Rattle.std.proofs.Common.{◌∙◌, ◌≡◌, ◌+◌, ℕ, arith, length, subst, take, Err, Some}
+use Rattle.std.proofs.Common.{◌∙◌, ◌≡◌, ℕ, arith, subst, take, Err, Some}
 use Rattle.smt_text.proofs.MarkedLemmas.{marks_further}
 use Rattle.smt_text.proofs.RunLemmas.{further, refused, rest_length, rest_of}
 use Rattle.smt_text.specs.Internal.LexerStates.{run}
@@ -22,6 +22,7 @@ loop-place-preserved c = record {
     c.in-Ok.ensures.beside.2 ∙ c.loop-place.invariant.beside.2,
     c.in-Ok.ensures.beside.3 ∙ c.loop-place.invariant.beside.3,
     c.in-Ok.ensures.beside.4 ∙ c.loop-place.invariant.beside.4,
+    c.in-Ok.ensures.beside.5 ∙ c.loop-place.invariant.beside.5,
   );
   runs = further c.args.self.now.max_depth (state_of c.args.self.now) (state_of c.loop-place.self)
       (state_of c.read_some.new.self) c.args.piece.now c.loop-place.place c.in-Ok.count
@@ -29,9 +30,10 @@ loop-place-preserved c = record {
       (subst (λ m. run m (state_of c.loop-place.self)
       (take c.in-Ok.count (rest_of c.args.piece.now c.loop-place.place)) ≡ Some (state_of c.read_some.new.self))
       c.loop-place.invariant.beside.3 c.in-Ok.ensures.goes.2);
-  marks = marks_further (c.args.self.now.fed + length c.args.piece.now) c.args.self.now c.loop-place.self c.args.piece.now c.read_some.new.self
+  marks = marks_further c.args.self.now c.loop-place.self c.args.piece.now c.read_some.new.self
       c.loop-place.place c.loop-place.invariant.within c.loop-place.invariant.runs
-      c.loop-place.invariant.beside.3 c.loop-place.invariant.marks c.in-Ok.ensures.marks;
+      c.loop-place.invariant.beside.3 c.loop-place.invariant.beside.5 c.loop-place.invariant.marks
+      c.in-Ok.ensures.marks;
 }
 
 pub returns-in-Err-Fault-clause-goes : goal.returns-in-Err-Fault-clause-goes
@@ -49,10 +51,9 @@ returns-in-Err-Fault-clause-goes c =
 
 pub returns-in-Err-Fault-clause-marks : goal.returns-in-Err-Fault-clause-marks
 returns-in-Err-Fault-clause-marks c =
-    let limit = c.args.self.now.fed + length c.args.piece.now in
-    marks_further limit c.args.self.now c.loop-place.self c.args.piece.now c.read_some.new.self c.loop-place.place
+    marks_further c.args.self.now c.loop-place.self c.args.piece.now c.read_some.new.self c.loop-place.place
     c.loop-place.invariant.within c.loop-place.invariant.runs c.loop-place.invariant.beside.3
-    c.loop-place.invariant.marks
-    (subst (λ (e : Failure Refusal). UnlessRefused {T = ℕ} (Err e) (Marks limit c.loop-place.self
+    c.loop-place.invariant.beside.5 c.loop-place.invariant.marks
+    (subst (λ (e : Failure Refusal). UnlessRefused {T = ℕ} (Err e) (Marks c.loop-place.self
     (rest_of c.args.piece.now c.loop-place.place) c.read_some.new.self)) c.in-Err-Fault.field-0-is
     c.in-Err-Fault.ensures.marks)

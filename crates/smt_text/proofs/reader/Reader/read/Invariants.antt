@@ -9,7 +9,7 @@ invariant-loop-place l = record {
   within : l.place ≤ length l.piece;
   beside : IsBeside l.fn.self l.self;
   runs : run l.fn.self.max_depth (state_of l.fn.self) (take l.place l.piece) ≡ Some (state_of l.self);
-  marks : Marks l.limit l.fn.self l.piece l.self;
+  marks : Marks l.fn.self l.piece l.self;
 }
 
 abbrev pub decreases-loop-place : goal.decreases-loop-place

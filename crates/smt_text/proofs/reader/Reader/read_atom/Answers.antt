@@ -72,11 +72,11 @@ returns-in_ok-end_list-clause-marks c =
           (eqb-true (get_or text (c.args.mark + n) 0) 41 (sym w.closes-is ∙ c.if-closes.true)))
     ] in
     let goes = returns-in_ok-end_list-clause-goes c in
-    marks_end c.args.limit c.args.self.now (record mid { builder = c.end_list.new.self }) text (c.args.mark + n + 1)
+    marks_end c.args.self.now (record mid { builder = c.end_list.new.self }) text (c.args.mark + n + 1)
     goes.within (sym (c.in_ok-add_atom.ensures.token ∙ c.requires.token)) goes.runs
-    (ends_inside (record { limit = c.args.limit; left = length text; read = c.args.mark + n })
-    (record { limit = c.args.limit; left = length text; read = c.args.mark + n + 1 }) c.args.self.now.builder
-    mid.builder c.end_list.new.self deep c.in_ok-add_atom.ensures.ready c.in_ok-end_list.ensures.ready)
+    (ends_inside (record { left = length text; read = c.args.mark + n })
+    (record { left = length text; read = c.args.mark + n + 1 }) c.args.self.now.builder
+    mid.builder c.end_list.new.self deep c.in_ok-add_atom.ensures.beside.5 c.in_ok-add_atom.ensures.ready c.in_ok-end_list.ensures.ready)
 
 pub returns-else-closes-clause-goes : goal.returns-else-closes-clause-goes
 returns-else-closes-clause-goes c =
@@ -104,6 +104,6 @@ returns-else-closes-clause-marks c =
     let n = c.args.known + c.run_length.result in
     let kept = kept_on c.args.token c.args.text.now c.args.mark c.args.known c.run_length.result c.requires.kept
     c.run_length.ensures.kept in
-    marks_atom c.args.limit c.args.self.now c.add_atom.new.self c.args.text.now c.args.mark n c.args.token
+    marks_atom c.args.self.now c.add_atom.new.self c.args.text.now c.args.mark n c.args.token
     c.requires.begins (omega arith) (omega arith) kept c.in_ok-add_atom.ensures.added
     c.in_ok-add_atom.ensures.ready

@@ -18,6 +18,6 @@ read_atom-requires-in_default-2-clause-begins c =
 
 pub returns-in_ok-end_list-in-41-clause-marks : goal.returns-in_ok-end_list-in-41-clause-marks
 returns-in_ok-end_list-in-41-clause-marks c =
-    marks_close c.args.limit c.args.self.now (record c.args.self.now { builder = c.end_list.new.self })
+    marks_close c.args.self.now (record c.args.self.now { builder = c.end_list.new.self })
     c.args.text.now c.requires.some c.in-41.is c.requires.token c.requires.bytes refl refl (omega (arith, c.if-depth-gt0.true))
     c.in_ok-end_list-in-41.ensures.levels c.in_ok-end_list-in-41.ensures.ready

@@ -7,7 +7,7 @@ abbrev pub invariant-loop-place : goal.invariant-loop-place
 invariant-loop-place l = record {
   beside : IsBeside l.fn.self l.self;
   goes : GoesOn l.fn.self l.text l.place l.self;
-  marks : Marks l.limit l.fn.self l.text l.self;
+  marks : Marks l.fn.self l.text l.self;
 }
 
 abbrev pub decreases-loop-place : goal.decreases-loop-place
