@@ -38,8 +38,8 @@ impl<'t> Lines<'t> {
 }
 
 impl Lines<'_> {
-    /// The position of a byte of the text, which counts from 0. Where the text has no such byte, the position of its end.
-    /// The only error is want of memory.
+    /// The position of a byte of the text, which counts from 0. Where the text has no such byte, the position of its
+    /// end. The only error is want of memory.
     pub fn position(&mut self, byte: u64) -> Result<Position, Memory>
         ensures place { IfOk result (λ p. p ≡ position_after (take byte self.old.text.now)) }
         ensures text { self.new.text ≡ self.old.text }
