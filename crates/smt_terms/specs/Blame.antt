@@ -3,7 +3,8 @@
 -- the order in which parts are checked, is not said here.
 use Rattle.std.specs.Prelude.{◌≡◌, ◌⊎◌, ◌+◌, ◌-◌, ◌*◌, ◌==◌, ◌&&◌, ℕ, List, [], ◌∷◌, Bool, true, false, not}
 use Rattle.std.specs.Prelude.{Option, Some, None, Result, Ok, Err, is_some, length, option_map, option_and_then}
-use Rattle.std.specs.Prelude.{slice_get, if◌then◌else◌, IfSome}
+use Rattle.std.specs.Prelude.{slice_get, if◌then◌else◌, IfOk, IfSome}
+use Rattle.smt_faults.specs.declared.memory.Memory.{Memory}
 use Rattle.std.specs.List.{position, zip}
 use Rattle.smt_trees.specs.Sexp.{Sexp, Sexps, Atom, Reserved, Items, Nil, Cons, Binary, Hexadecimal, Numeral, Symbol}
 use Rattle.smt_trees.specs.View.{sexp_of}
@@ -25,8 +26,12 @@ use Rattle.smt_theory.specs.declared.theories.Theories.{Theories}
 use Rattle.smt_forms.specs.Identifier.{Identifier, Plain, Indexed, applied, indexed, operator_of}
 use Rattle.smt_faults.specs.declared.term_flaw.TermFlaw.{TermFlaw}
 use Rattle.smt_faults.specs.declared.term_flaw.TermFlaw.TheVariants as term_flaws
+use Rattle.smt_forms.specs.ItemForm.{ItemForm, item_form}
+use Rattle.smt_theory.specs.declared.sort.Sort.TheVariants.{Bool as Boolean}
+use Rattle.smt_terms.specs.Checking.{sort_in}
 use Rattle.smt_terms.specs.Elements.{element_sort}
-use Rattle.smt_terms.specs.Freshness.{is_sort_taken, is_taken}
+use Rattle.smt_terms.specs.Freshness.{is_defined_before, is_sort_taken, is_taken}
+use Rattle.smt_terms.specs.Items.{is_set_aside, told_item}
 use Rattle.smt_terms.specs.Signature.{Names, Rank, Signature, names_of, sort_names_of}
 use Rattle.smt_terms.specs.SortTrees.{SortNames, bit_vectors, integers, sort_named}
 use Rattle.smt_terms.specs.declared.blame.Blame.{Blame}
@@ -206,3 +211,32 @@ IsToldOver s found = IfSome found (IsToBlame s)
 -- of an item, over the names of the script or those of the items before it
 abbrev pub IsToldOf : (script items : Signature) → Option Blame → Type 0
 IsToldOf script items found = IfSome found (λ blame. IsToBlame script blame ⊎ IsToBlame items blame)
+
+-- ---- what is told for certain
+
+-- of a term of this sort that has to be of another
+abbrev pub whole_blame : (found wanted : Sort) → Option Blame
+whole_blame found wanted = if is_same_sort found wanted then None else Some (Whole found wanted)
+
+-- of a term that has a sort, that sort alone is told
+abbrev pub IsToldWhole : (wanted : Sort) → Result Sort TermFlaw → Result (Option Blame) Memory → Type 0
+IsToldWhole wanted sorted result =
+    (sort : Sort) → sorted ≡ Ok sort → IfOk result (λ found. found ≡ whole_blame sort wanted)
+
+-- the name is told as one that is there twice
+abbrev pub IsTwice : List ℕ → Option Blame → Type 0
+IsTwice x (Some (Twice name)) = name.now ≡ x
+IsTwice x _ = ⊥
+
+-- an item is told so where an earlier one has its name, and it is not set aside
+abbrev pub IsToldTwice : (script items : Signature) → Sexp → Result (Option Blame) Memory → Type 0
+IsToldTwice script items tree result =
+    (form : ItemForm) → told_item script tree ≡ None → item_form tree ≡ Ok form
+    → is_set_aside script form.name ≡ false → is_defined_before items.entries form.name ≡ true
+    → IfOk result (IsTwice form.name)
+
+-- of terms that are assumed, the first one is told as a whole where it has another sort than Bool
+abbrev pub IsFirstTold : Names → Sexps → Result (Option Blame) Memory → Type 0
+IsFirstTold names terms result =
+    (t : Sexp) (ts : Sexps) (sort : Sort) → terms ≡ Cons t ts → sort_in names [] t ≡ Ok sort
+    → is_same_sort sort Boolean ≡ false → IfOk result (λ found. found ≡ Some (Whole sort Boolean))

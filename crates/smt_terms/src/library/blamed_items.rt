@@ -1,10 +1,13 @@
 //! What is to blame for an item of a model that is refused. This file adds no name to a library, and does not know
 //! which names a model lacks.
 
-ghost use Rattle.std.specs.Prelude.{◌≡◌, ℕ, List, IfOk, IfSome, Some};
+ghost use Rattle.std.specs.Prelude.{◌≡◌, ℕ, List, IfOk, IfSome, Some, false, true};
 ghost use Rattle.smt_theory.specs.declared.misfits.RankFlaw.TheVariants.{Argument};
 ghost use Rattle.smt_terms.specs.Blame as blame;
-ghost use Rattle.smt_terms.specs.Blame.{IsBlamed, IsToldOf};
+ghost use Rattle.smt_trees.specs.View.{sexp_of};
+ghost use Rattle.smt_terms.specs.Blame.{IsBlamed, IsToldOf, IsToldTwice, IsTwice};
+ghost use Rattle.smt_terms.specs.Freshness.{is_defined_before};
+ghost use Rattle.smt_terms.specs.Items.{is_set_aside};
 ghost use Rattle.smt_terms.specs.Internal.Blamed.{IsTold};
 ghost use Rattle.smt_terms.specs.Internal.Blamed as internal;
 ghost use Rattle.smt_terms.specs.Internal.LibraryView.{names_of_library, rank_of};
@@ -15,6 +18,7 @@ ghost use Rattle.smt_terms.specs.SortTrees.{SortNames};
 
 use crate::blame::Blame;
 use crate::labels::Labels;
+use crate::library::blamed_names::in_use;
 use crate::library::blamed_parts::parameter_flaw;
 use crate::library::blames::other_sort;
 use crate::library::params::{sorted_params, sorts_of_variables};
@@ -22,7 +26,7 @@ use crate::library::told::declared_parts;
 use crate::library::{Entry, Found, Library};
 use crate::sorts::are_equal;
 use smt_faults::{Memory, TermFault};
-use smt_forms::{ItemForm, Param, Variable, item_form, params_of};
+use smt_forms::{ItemForm, Variable, item_form, params_of};
 use smt_theory::{RankFlaw, Sort, Wanted};
 use smt_trees::Tree;
 
@@ -38,7 +42,9 @@ impl Library<'_> {
         script: &Library<'_>,
         item: Tree<'t>,
     ) -> Result<Option<Blame<'t>>, Memory>
-        ensures { (s m : Signature) → StandsFor script.now s → StandsFor self.now m → IfOk result (IsToldOf s m) }
+        ensures told { (s m : Signature) → StandsFor script.now s → StandsFor self.now m → IfOk result (IsToldOf s m) }
+        ensures twice { (s m : Signature) → StandsFor script.now s → StandsFor self.now m
+            → IsToldTwice s m (sexp_of item.entry) result }
     {
         self.blame_in_item(script, item)
     }
@@ -48,17 +54,32 @@ impl Library<'_> {
         script: &Library<'_>,
         item: Tree<'t>,
     ) -> Result<Option<Blame<'t>>, Memory>
-        ensures { IfOk result (internal.IsToldOf script.now self.now) }
+        ensures told { IfOk result (internal.IsToldOf script.now self.now) }
+        ensures twice { (s m : Signature) → StandsFor script.now s → StandsFor self.now m
+            → IsToldTwice s m (sexp_of item.entry) result }
     {
         if script.told(item).is_some() {
             return Ok(script.blame_of_told(item));
         }
-        let Ok(form) = item_form(item) else {
-            return Ok(None);
-        };
-        let params = params_of(self.alloc, form.parameters)?;
+        match item_form(item) {
+            Ok(form) => self.blame_of_item_form(script, form),
+            Err(_) => Ok(None),
+        }
+    }
+
+    // The same of an item of this form.
+    fn blame_of_item_form<'t>(
+        &self,
+        script: &Library<'_>,
+        form: ItemForm<'t>,
+    ) -> Result<Option<Blame<'t>>, Memory>
+        ensures told { IfOk result (internal.IsToldOf script.now self.now) }
+        ensures twice { (s m : Signature) → StandsFor script.now s → StandsFor self.now m
+            → is_set_aside s form.entry.name.now ≡ false → is_defined_before m.entries form.entry.name.now ≡ true
+            → IfOk result (IsTwice form.entry.name.now) }
+    {
         if script.sets_aside(form.name) {
-            return script.blame_of_rank(form, params.as_slice(), true);
+            return script.blame_of_repeated(form);
         }
         if self.has_entry(form.name) {
             return Ok(Some(Blame::Twice { name: form.name }));
@@ -66,43 +87,82 @@ impl Library<'_> {
         if script.is_unfit(form.name) {
             return Ok(script.blame_of_item_name(form.name));
         }
-        self.blame_of_form(script, form, params.as_slice())
+        self.blame_of_new_item(script, form)
     }
 
-    // The same of an item whose name may be defined: its rank, or its body.
-    fn blame_of_form<'t>(
-        &self,
-        script: &Library<'_>,
-        form: ItemForm<'t>,
-        params: &[Param<'t>],
-    ) -> Result<Option<Blame<'t>>, Memory>
-        ensures { IfOk result (internal.IsToldOf script.now self.now) }
+    // The same of an item that repeats a definition of this script: it has to have its rank.
+    fn blame_of_repeated<'t>(&self, form: ItemForm<'t>) -> Result<Option<Blame<'t>>, Memory>
+        ensures { IfOk result (IsTold self.now) }
     {
-        if let Some(blame) = script.blame_of_rank(form, params, false)? {
-            return Ok(Some(blame));
+        let params = params_of(self.alloc, form.parameters)?;
+        match sorted_params(self.alloc, &self.sorts, params.as_slice()) {
+            Ok(variables) => self.blame_of_repeated_rank(form, variables.as_slice()),
+            Err(TermFault::Memory) => Err(Memory),
+            Err(_) => self.blame_of_params(params.as_slice()),
         }
-        self.blame_of_item_body(script, form, params)
     }
 
-    // The same of the body of an item, if its parameters and its sort have no fault.
-    fn blame_of_item_body<'t>(
+    // The same, with these parameters.
+    fn blame_of_repeated_rank<'t>(
         &self,
-        script: &Library<'_>,
         form: ItemForm<'t>,
-        params: &[Param<'t>],
+        variables: &[Variable<'t, Sort>],
     ) -> Result<Option<Blame<'t>>, Memory>
         ensures { IfOk result (IsTold self.now) }
     {
-        let Ok(wanted) = script.sorts.sort_of(form.sort) else {
-            return Ok(None);
-        };
-        match sorted_params(self.alloc, &script.sorts, params) {
-            Ok(variables) => {
-                let labels = Labels::refused(self.alloc);
-                self.blame_of_term(variables.as_slice(), labels, form.body, wanted)
-            }
+        match self.sorts.sort_of(form.sort) {
+            Ok(sort) => self.blame_of_rank(form.name, variables, &sort, true),
+            Err(_) => Ok(self.blame_of_sort(form.sort)),
+        }
+    }
+
+    // The same of an item whose name may be defined.
+    fn blame_of_new_item<'t>(
+        &self,
+        script: &Library<'_>,
+        form: ItemForm<'t>,
+    ) -> Result<Option<Blame<'t>>, Memory>
+        ensures { IfOk result (internal.IsToldOf script.now self.now) }
+    {
+        let params = params_of(self.alloc, form.parameters)?;
+        match sorted_params(self.alloc, &script.sorts, params.as_slice()) {
+            Ok(variables) => self.blame_of_sorted_item(script, form, variables.as_slice()),
             Err(TermFault::Memory) => Err(Memory),
-            Err(_) => Ok(None),
+            Err(_) => script.blame_of_params(params.as_slice()),
+        }
+    }
+
+    // The same, with these parameters.
+    fn blame_of_sorted_item<'t>(
+        &self,
+        script: &Library<'_>,
+        form: ItemForm<'t>,
+        variables: &[Variable<'t, Sort>],
+    ) -> Result<Option<Blame<'t>>, Memory>
+        ensures { IfOk result (internal.IsToldOf script.now self.now) }
+    {
+        match script.sorts.sort_of(form.sort) {
+            Ok(sort) => self.blame_of_ranked_item(script, form, variables, sort),
+            Err(_) => Ok(script.blame_of_sort(form.sort)),
+        }
+    }
+
+    // The same, with this sort: its rank, or its body.
+    fn blame_of_ranked_item<'t>(
+        &self,
+        script: &Library<'_>,
+        form: ItemForm<'t>,
+        variables: &[Variable<'t, Sort>],
+        sort: Sort,
+    ) -> Result<Option<Blame<'t>>, Memory>
+        ensures { IfOk result (internal.IsToldOf script.now self.now) }
+    {
+        match script.blame_of_rank(form.name, variables, &sort, false) {
+            Ok(None) => {
+                self.blame_of_term(variables, Labels::refused(self.alloc), form.body, sort)
+            }
+            Ok(Some(blame)) => Ok(Some(blame)),
+            Err(Memory) => Err(Memory),
         }
     }
 
@@ -111,38 +171,28 @@ impl Library<'_> {
         ensures { IsTold self.now result }
     {
         if self.is_element_name(name) {
-            return Some(Blame::InUse { name });
+            in_use(name, true)
+        } else {
+            self.blame_of_name(name)
         }
-        self.blame_of_name(name)
     }
 
-    // What is to blame in this script for the parameters and the sort of an item. They have to fit those of its name,
-    // if a command declared it, or if the item repeats its definition.
+    // What is to blame in this script for the rank of an item. It has to be that of its name, if a command declared it,
+    // or if the item repeats its definition.
     fn blame_of_rank<'t>(
         &self,
-        form: ItemForm<'t>,
-        params: &[Param<'t>],
+        name: &'t [u8],
+        variables: &[Variable<'t, Sort>],
+        sort: &Sort,
         repeats: bool,
     ) -> Result<Option<Blame<'t>>, Memory>
         ensures { IfOk result (IsTold self.now) }
     {
-        if let Some(param) = self.first_unfit(params)? {
-            return Ok(self.blame_of_param(param));
-        }
-        let Ok(sort) = self.sorts.sort_of(form.sort) else {
-            return Ok(self.blame_of_sort(form.sort));
-        };
-        let Some(entry) = self.entry_to_fit(form.name, repeats) else {
+        let Some(entry) = self.entry_to_fit(name, repeats) else {
             return Ok(None);
         };
-        match sorted_params(self.alloc, &self.sorts, params) {
-            Ok(variables) => {
-                let sorts = sorts_of_variables(self.alloc, variables.as_slice())?;
-                Ok(other_rank(entry, sorts.as_slice(), &sort))
-            }
-            Err(TermFault::Memory) => Err(Memory),
-            Err(_) => Ok(None),
-        }
+        let sorts = sorts_of_variables(self.alloc, variables)?;
+        Ok(other_rank(entry, sorts.as_slice(), sort))
     }
 
     // What a name means, if a command declared it, or if an item repeats its definition.
@@ -170,10 +220,18 @@ impl Library<'_> {
             return None;
         };
         if self.has_entry(name) {
-            return self.blame_of_name(name);
+            self.blame_of_name(name)
+        } else {
+            self.blame_unless_sort(tree, &element)
         }
+    }
+
+    // The same of the tree of a sort that has to be this one.
+    fn blame_unless_sort<'t>(&self, tree: Tree<'t>, wanted: &Sort) -> Option<Blame<'t>>
+        ensures { IsTold self.now result }
+    {
         match self.sorts.sort_of(tree) {
-            Ok(sort) => other_sort(&sort, &element),
+            Ok(sort) => other_sort(&sort, wanted),
             Err(_) => self.blame_of_sort(tree),
         }
     }
@@ -218,10 +276,14 @@ fn other_parameter(sorts: &[Sort], place: usize, wanted: Wanted) -> Option<Blame
     let Wanted::Only(wanted) = wanted else {
         return None;
     };
-    let found = sorts.get(place)?;
-    let place = (place as u64).checked_add(1)?;
+    let Some(found) = sorts.get(place) else {
+        return None;
+    };
+    let Some(number) = (place as u64).checked_add(1) else {
+        return None;
+    };
     Some(Blame::Parameter {
-        place,
+        place: number,
         found: *found,
         wanted,
     })

@@ -1,16 +1,16 @@
 //! Names that are to blame: unknown ones, those that a logic lacks, and those that are in use. This file knows no
 //! terms but symbols and literals.
 
-ghost use Rattle.std.specs.Prelude.{◌≡◌, IfSome, Some};
-ghost use Rattle.smt_trees.specs.Sexp.{Items};
+ghost use Rattle.std.specs.Prelude.{◌≡◌, IfSome, None, Some, if◌then◌else◌};
+ghost use Rattle.smt_trees.specs.Sexp.{Cons, Items, Reserved};
 ghost use Rattle.smt_trees.specs.View.{sexp_of, sexps_of};
 ghost use Rattle.smt_forms.specs.IdentifierView.{identifier_view};
 ghost use Rattle.smt_terms.specs.Blame as blame;
-ghost use Rattle.smt_terms.specs.Blame.{IsBlamed, IsIdentifier, IsLacking};
-ghost use Rattle.smt_terms.specs.Internal.Blamed.{IsTold};
+ghost use Rattle.smt_terms.specs.Blame.{IsIdentifier};
+ghost use Rattle.smt_terms.specs.Internal.Blamed.{IsTold, blame_of_unknown, unknown_by};
 ghost use Rattle.smt_terms.specs.Internal.LibraryView.{names_of_library, sort_names};
-ghost use Rattle.smt_terms.specs.Signature.{Names};
-ghost use Rattle.smt_terms.specs.SortTrees as trees;
+ghost use Rattle.smt_terms.specs.declared.blame.Blame.TheVariants.{InUse, Lacks};
+ghost use Rattle.smt_trees.specs.declared.reserved.Word.TheVariants.{Underscore};
 
 use crate::blame::{Blame, Theory};
 use crate::library::Library;
@@ -30,67 +30,42 @@ impl Library<'_> {
         requires { IsIdentifier (sexp_of part) (identifier_view identifier.now) }
         ensures { IsTold self.now result }
     {
+        let name = Some(name_of(identifier));
+        unknown_part(part, name, self.unknown_identifier(identifier))
+    }
+
+    // Under which theories an identifier is unknown.
+    fn unknown_identifier(&self, identifier: &Identifier<'_>) -> Unknown
+        ensures { result ≡ unknown_by (λ theories. blame.is_unknown (names_of_library self.now) theories
+            (identifier_view identifier.now)) self.now.sorts.theories }
+    {
         let theories = self.sorts.theories;
-        if !self.is_unknown(theories, identifier) {
-            return None;
+        Unknown {
+            here: self.is_unknown(theories, identifier),
+            with_integers: self.is_unknown(with_theory(Theory::Integers, theories), identifier),
+            with_vectors: self.is_unknown(with_theory(Theory::BitVectors, theories), identifier),
         }
-        if !self.is_unknown(with_theory(Theory::Integers, theories), identifier) {
-            return Some(lacking(part, Theory::Integers));
-        }
-        if !self.is_unknown(with_theory(Theory::BitVectors, theories), identifier) {
-            return Some(lacking(part, Theory::BitVectors));
-        }
-        Some(Blame::Unknown {
-            name: name_of(identifier),
-        })
     }
 
     // What is to blame for a literal of a theory that the logic lacks.
     pub(super) fn blame_of_literal<'t>(&self, part: Tree<'t>) -> Option<Blame<'t>>
         ensures { IsTold self.now result }
     {
-        let theories = self.sorts.theories;
-        if !is_unknown_literal(theories, part) {
-            return None;
-        }
-        if !is_unknown_literal(with_theory(Theory::Integers, theories), part) {
-            return Some(lacking(part, Theory::Integers));
-        }
-        if !is_unknown_literal(with_theory(Theory::BitVectors, theories), part) {
-            return Some(lacking(part, Theory::BitVectors));
-        }
-        None
+        unknown_part(part, None, unknown_literal(self.sorts.theories, part))
     }
 
     // What is to blame for a tree that names no sort, if a name is.
     pub(super) fn blame_of_sort<'t>(&self, tree: Tree<'t>) -> Option<Blame<'t>>
         ensures { IsTold self.now result }
     {
-        let theories = self.sorts.theories;
-        if !names_no_sort(&self.sorts, theories, tree) {
-            return None;
-        }
-        if !names_no_sort(&self.sorts, with_theory(Theory::Integers, theories), tree) {
-            return Some(lacking(tree, Theory::Integers));
-        }
-        if !names_no_sort(&self.sorts, with_theory(Theory::BitVectors, theories), tree) {
-            return Some(lacking(tree, Theory::BitVectors));
-        }
-        let Some(name) = sort_word(tree) else {
-            return None;
-        };
-        Some(Blame::Unknown { name })
+        unknown_part(tree, sort_word(tree), unknown_sort(&self.sorts, tree))
     }
 
     // What is to blame for a new name of a function, if it is taken.
     pub(super) fn blame_of_name<'t>(&self, name: &'t [u8]) -> Option<Blame<'t>>
         ensures { IsTold self.now result }
     {
-        if self.is_taken(name) {
-            Some(Blame::InUse { name })
-        } else {
-            None
-        }
+        in_use(name, self.is_taken(name))
     }
 
     // Whether an identifier is no name in force, and no operator of these theories.
@@ -111,11 +86,48 @@ impl Library<'_> {
     }
 }
 
-fn lacking<'t>(part: Tree<'t>, theory: Theory) -> Blame<'t>
-    ensures { (names : Names) (sorts : trees.SortNames) → IsLacking names sorts (sexp_of part.entry) theory
-        → IsBlamed names sorts result }
+// Whether something is unknown in the theories of a logic, and in these with one more.
+#[derive(Clone, Copy)]
+struct Unknown {
+    here: bool,
+    with_integers: bool,
+    with_vectors: bool,
+}
+
+// What is to blame for a part, which may have a name: a theory that the logic lacks, or else the name.
+fn unknown_part<'t>(part: Tree<'t>, name: Option<&'t [u8]>, unknown: Unknown) -> Option<Blame<'t>>
+    ensures { result ≡ blame_of_unknown part.entry name.entry unknown }
 {
-    Blame::Lacks { part, theory }
+    if !unknown.here {
+        return None;
+    }
+    if !unknown.with_integers {
+        return lacking(part, Theory::Integers);
+    }
+    if !unknown.with_vectors {
+        return lacking(part, Theory::BitVectors);
+    }
+    match name {
+        Some(name) => Some(Blame::Unknown { name }),
+        None => None,
+    }
+}
+
+fn lacking<'t>(part: Tree<'t>, theory: Theory) -> Option<Blame<'t>>
+    ensures { result ≡ Some (Lacks part.entry theory) }
+{
+    Some(Blame::Lacks { part, theory })
+}
+
+// The blame of a new name, if it is in use.
+pub(super) fn in_use<'t>(name: &'t [u8], is_taken: bool) -> Option<Blame<'t>>
+    ensures { result ≡ (if is_taken then Some (InUse name.entry) else None) }
+{
+    if is_taken {
+        Some(Blame::InUse { name })
+    } else {
+        None
+    }
 }
 
 // The name of an identifier.
@@ -150,6 +162,30 @@ fn is_unknown_literal(theories: Theories, part: Tree<'_>) -> bool
     }
 }
 
+// Under which theories a tree is an unknown literal.
+fn unknown_literal(theories: Theories, part: Tree<'_>) -> Unknown
+    ensures { result ≡ unknown_by (λ t. blame.is_unknown_literal t (sexp_of part.entry)) theories }
+{
+    Unknown {
+        here: is_unknown_literal(theories, part),
+        with_integers: is_unknown_literal(with_theory(Theory::Integers, theories), part),
+        with_vectors: is_unknown_literal(with_theory(Theory::BitVectors, theories), part),
+    }
+}
+
+// Under which theories a tree names no sort.
+fn unknown_sort(sorts: &SortNames, tree: Tree<'_>) -> Unknown
+    ensures { result ≡ unknown_by (λ t. blame.names_no_sort (sort_names sorts.now) t (sexp_of tree.entry))
+        sorts.now.theories }
+{
+    let theories = sorts.theories;
+    Unknown {
+        here: names_no_sort(sorts, theories, tree),
+        with_integers: names_no_sort(sorts, with_theory(Theory::Integers, theories), tree),
+        with_vectors: names_no_sort(sorts, with_theory(Theory::BitVectors, theories), tree),
+    }
+}
+
 // Whether a tree names no sort of these theories.
 fn names_no_sort(sorts: &SortNames, theories: Theories, tree: Tree<'_>) -> bool
     ensures { result ≡ blame.names_no_sort (sort_names sorts.now) theories (sexp_of tree.entry) }
@@ -180,10 +216,18 @@ fn first_word(parts: Trees<'_>) -> Option<&[u8]>
 {
     match parts.split_first() {
         Some((Tree::Symbol(name), _)) => Some(name),
-        Some((Tree::Reserved(Word::Underscore), rest)) => match rest.split_first() {
-            Some((Tree::Symbol(name), _)) => Some(name),
-            _ => None,
-        },
+        Some((Tree::Reserved(Word::Underscore), rest)) => indexed_word(rest),
+        _ => None,
+    }
+}
+
+// The same of `(_ symbol index ..)`, by the parts after the `_`.
+fn indexed_word(parts: Trees<'_>) -> Option<&[u8]>
+    ensures { IfSome result (λ name. blame.sort_word
+        (Items (Cons (Reserved Underscore) (sexps_of parts.entry))) ≡ Some name.now) }
+{
+    match parts.split_first() {
+        Some((Tree::Symbol(name), _)) => Some(name),
         _ => None,
     }
 }

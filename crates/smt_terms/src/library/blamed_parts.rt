@@ -1,20 +1,24 @@
 //! Parts of terms that are to blame, where the walk over a term stopped at a fault. This file finds no fault.
 
-ghost use Rattle.std.specs.Prelude.{◌≡◌, ◌≤◌, IfOk, IfSome, length, option_map};
+ghost use Rattle.std.specs.Prelude.{◌≡◌, IfOk, IfSome, Some, option_map};
+ghost use Rattle.smt_theory.specs.declared.misfits.RankFlaw.TheVariants.{Widths};
+ghost use Rattle.smt_trees.specs.Sexp.{Cons, Reserved, Sexp, Sexps};
+ghost use Rattle.smt_trees.specs.declared.reserved.Word.TheVariants.{Underscore};
 ghost use Rattle.smt_trees.specs.View.{sexp_of, sexps_of};
 ghost use Rattle.smt_forms.specs.IdentifierView.{identifier_view};
 ghost use Rattle.smt_terms.specs.Blame as blame;
-ghost use Rattle.smt_terms.specs.Blame.{IsAlone};
+ghost use Rattle.smt_terms.specs.Blame.{IsAlone, IsIdentifier};
+ghost use Rattle.smt_terms.specs.declared.blame.Blame.TheVariants.{Arity};
 ghost use Rattle.smt_terms.specs.Internal.Blamed.{IsApplied, IsMisfitOf, IsTold};
-ghost use Rattle.smt_terms.specs.Internal.DraftView.{argument_sorts};
 ghost use Rattle.smt_terms.specs.Internal.LibraryView.{names_of_library};
 
 use crate::blame::Blame;
 use crate::labels::Label;
 use crate::library::Library;
+use crate::library::arguments::Arguments;
 use crate::library::checker::is_variable;
 use crate::library::draft::Draft;
-use crate::sorts::are_equal;
+use crate::sorts::{SortNames, are_equal};
 use smt_faults::{Memory, TermFault};
 use smt_forms::{
     Identifier, applied_identifier, indexed_identifier, label_at, split_let, split_named,
@@ -37,10 +41,26 @@ impl Library<'_> {
         };
         match parts.split_first() {
             Some((Tree::Reserved(Word::Underscore), _)) => self.blame_of_atom(part),
-            Some((Tree::Reserved(Word::Let), args)) => self.blame_of_let(draft, args, around),
-            Some((Tree::Reserved(Word::Bang), args)) => Ok(self.blame_of_label(draft, args)),
-            Some((Tree::Reserved(Word::As), args)) => Ok(self.blame_of_qualified(args)),
+            Some((Tree::Reserved(word), args)) => self.blame_of_form(draft, word, args, around),
             _ => self.blame_of_list(draft, parts, around),
+        }
+    }
+
+    // The same of a list that begins with a reserved word, by the trees after it.
+    fn blame_of_form<'t>(
+        &self,
+        draft: &Draft<'_>,
+        word: Word,
+        args: Trees<'t>,
+        around: usize,
+    ) -> Result<Option<Blame<'t>>, Memory>
+        ensures { IfOk result (IsTold self.now) }
+    {
+        match word {
+            Word::Let => self.blame_of_let(draft, args, around),
+            Word::Bang => Ok(self.blame_of_label(draft, args)),
+            Word::As => Ok(self.blame_of_qualified(args)),
+            _ => Ok(None),
         }
     }
 
@@ -59,9 +79,21 @@ impl Library<'_> {
     fn blame_of_indexed<'t>(&self, parts: Trees<'t>) -> Result<Option<Blame<'t>>, Memory>
         ensures { IfOk result (IsTold self.now) }
     {
-        let Some((Tree::Reserved(Word::Underscore), args)) = parts.split_first() else {
-            return Ok(None);
-        };
+        match parts.split_first() {
+            Some((Tree::Reserved(Word::Underscore), args)) => self.blame_behind(parts, args),
+            _ => Ok(None),
+        }
+    }
+
+    // The same, where these trees stand behind the `_`.
+    fn blame_behind<'t>(
+        &self,
+        parts: Trees<'t>,
+        args: Trees<'t>,
+    ) -> Result<Option<Blame<'t>>, Memory>
+        requires { sexps_of parts ≡ Cons (Reserved Underscore) (sexps_of args) }
+        ensures { IfOk result (IsTold self.now) }
+    {
         match indexed_identifier(self.alloc, args) {
             Ok(identifier) => Ok(self.blame_of_alone(Tree::List(parts), &identifier)),
             Err(TermFault::Memory) => Err(Memory),
@@ -74,16 +106,9 @@ impl Library<'_> {
         requires { IsAlone (sexp_of part) (identifier_view identifier.now) }
         ensures { IsTold self.now result }
     {
-        if let Some(blame) = self.blame_of_identifier(part, identifier) {
-            return Some(blame);
-        }
         match self.call_flaw(identifier, &[]) {
-            Some(RankFlaw::Count { wanted }) => Some(Blame::Arity {
-                part,
-                given: 0,
-                wanted: wanted as u64,
-            }),
-            _ => None,
+            Some(RankFlaw::Count { wanted }) => other_count(part, 0, wanted),
+            _ => self.blame_of_identifier(part, identifier),
         }
     }
 
@@ -99,74 +124,96 @@ impl Library<'_> {
     ) -> Result<Option<Blame<'t>>, Memory>
         ensures { IfOk result (IsTold self.now) }
     {
+        let Some((_, args)) = parts.split_first() else {
+            return Ok(None);
+        };
+        match tree_at(args, draft.arguments.len().saturating_sub(around)) {
+            Some(argument) => self.blame_of_atom(argument),
+            None => self.blame_of_application(draft, parts, around),
+        }
+    }
+
+    // The same of an application of these parts, whose arguments are all checked and wait from this one on.
+    fn blame_of_application<'t>(
+        &self,
+        draft: &Draft<'_>,
+        parts: Trees<'t>,
+        start: usize,
+    ) -> Result<Option<Blame<'t>>, Memory>
+        ensures { IfOk result (IsTold self.now) }
+    {
         let Some((head, args)) = parts.split_first() else {
             return Ok(None);
         };
-        let Some(checked) = draft.arguments.len().checked_sub(around) else {
-            return Ok(None);
-        };
-        if let Some(argument) = tree_at(args, checked) {
-            return self.blame_of_atom(argument);
-        }
         match applied_identifier(self.alloc, head, args) {
-            Ok(identifier) => self.blame_of_call(draft, parts, &identifier, around),
+            Ok(identifier) => self.blame_of_call(draft, parts, head, &identifier, start),
             Err(TermFault::Memory) => Err(Memory),
             Err(_) => Ok(None),
         }
     }
 
-    // The same of an application of these parts, whose arguments are all checked and wait from this one on.
+    // The same of such an application of an identifier, by its head.
     fn blame_of_call<'t>(
         &self,
         draft: &Draft<'_>,
         parts: Trees<'t>,
+        head: Tree<'t>,
         identifier: &Identifier<'t>,
         start: usize,
     ) -> Result<Option<Blame<'t>>, Memory>
         requires call { IsApplied (sexps_of parts) (identifier_view identifier.now) }
-        requires start { start ≤ length (argument_sorts draft.now.arguments) }
+        requires head { IsIdentifier (sexp_of head) (identifier_view identifier.now) }
         ensures { IfOk result (IsTold self.now) }
     {
-        let Some((head, _)) = parts.split_first() else {
-            return Ok(None);
-        };
         if is_variable(&draft.scope, identifier) {
             return Ok(Some(Blame::Variable {
                 part: Tree::List(parts),
             }));
         }
-        if let Some(blame) = self.blame_of_identifier(head, identifier) {
-            return Ok(Some(blame));
+        let sorts = sorts_waiting(&draft.arguments, start);
+        match self.call_flaw(identifier, sorts) {
+            Some(flaw) => self.blame_of_flaw(parts, identifier, sorts, flaw),
+            None => Ok(self.blame_of_identifier(head, identifier)),
         }
-        self.blame_of_sorts(parts, identifier, draft.arguments.sorts(start))
     }
 
-    // The same of an application to arguments of these sorts.
-    fn blame_of_sorts<'t>(
+    // The same of an application to arguments of these sorts, which have this flaw.
+    fn blame_of_flaw<'t>(
+        &self,
+        parts: Trees<'t>,
+        identifier: &Identifier<'t>,
+        sorts: &[Sort],
+        flaw: RankFlaw,
+    ) -> Result<Option<Blame<'t>>, Memory>
+        requires call { IsApplied (sexps_of parts) (identifier_view identifier.now) }
+        requires flaw { blame.call_flaw (names_of_library self.now) (identifier_view identifier.now) sorts.now
+            ≡ Some flaw }
+        ensures { IfOk result (IsTold self.now) }
+    {
+        match flaw {
+            RankFlaw::Argument { place, wanted } => Ok(misfit_at(parts, sorts, place, wanted)),
+            RankFlaw::Count { wanted } => Ok(other_count(Tree::List(parts), sorts.len(), wanted)),
+            RankFlaw::Widths => self.blame_of_widths(parts, identifier, sorts),
+        }
+    }
+
+    // The same where the widths do not fit.
+    fn blame_of_widths<'t>(
         &self,
         parts: Trees<'t>,
         identifier: &Identifier<'t>,
         sorts: &[Sort],
     ) -> Result<Option<Blame<'t>>, Memory>
-        requires { IsApplied (sexps_of parts) (identifier_view identifier.now) }
+        requires call { IsApplied (sexps_of parts) (identifier_view identifier.now) }
+        requires flaw { blame.call_flaw (names_of_library self.now) (identifier_view identifier.now) sorts.now
+            ≡ Some Widths }
         ensures { IfOk result (IsTold self.now) }
     {
-        let part = Tree::List(parts);
-        match self.call_flaw(identifier, sorts) {
-            Some(RankFlaw::Argument { place, wanted }) => {
-                Ok(misfit_at(parts, sorts, place, wanted))
-            }
-            Some(RankFlaw::Count { wanted }) => Ok(Some(Blame::Arity {
-                part,
-                given: sorts.len() as u64,
-                wanted: wanted as u64,
-            })),
-            Some(RankFlaw::Widths) => {
-                let found = Vec::from_slice(self.alloc, sorts)?;
-                Ok(Some(Blame::Sorts { part, found }))
-            }
-            None => Ok(None),
-        }
+        let found = Vec::from_slice(self.alloc, sorts)?;
+        Ok(Some(Blame::Sorts {
+            part: Tree::List(parts),
+            found,
+        }))
     }
 
     // Why an identifier that is no variable does not take arguments of these sorts.
@@ -199,16 +246,25 @@ impl Library<'_> {
         let Some((bindings, _)) = split_let(args) else {
             return Ok(None);
         };
-        let Some(checked) = draft.arguments.len().checked_sub(around) else {
-            return Ok(None);
-        };
+        self.blame_of_binding(bindings, draft.arguments.len().saturating_sub(around))
+    }
+
+    // The same of bindings, of which so many are checked.
+    fn blame_of_binding<'t>(
+        &self,
+        bindings: Trees<'t>,
+        checked: usize,
+    ) -> Result<Option<Blame<'t>>, Memory>
+        ensures { IfOk result (IsTold self.now) }
+    {
         let Some((name, term)) = binding_at(bindings, checked) else {
             return Ok(None);
         };
         if is_bound_before(bindings, checked, name) {
-            return Ok(Some(Blame::Twice { name }));
+            Ok(Some(Blame::Twice { name }))
+        } else {
+            self.blame_of_atom(term)
         }
-        self.blame_of_atom(term)
     }
 
     // The same of an annotated term, by the trees after the `!`: its first label that is not given.
@@ -221,13 +277,11 @@ impl Library<'_> {
         let Some(name) = label_behind(attributes, self.labels_of_last(draft)) else {
             return None;
         };
-        if self.is_taken(name) {
-            return Some(Blame::InUse { name });
-        }
         if draft.labels.is_given(name) {
-            return Some(Blame::Label { name });
+            Some(Blame::Label { name })
+        } else {
+            self.blame_of_name(name)
         }
-        None
     }
 
     // How many labels the last node has: they are the last ones.
@@ -247,14 +301,23 @@ impl Library<'_> {
             return None;
         };
         if elements.is_taken(symbol) || self.has_entry(symbol) {
-            return self.blame_of_name(symbol);
+            self.blame_of_name(symbol)
+        } else {
+            self.blame_of_first_sort(&elements.sorts, rest)
         }
-        let Some((tree, _)) = rest.split_first() else {
+    }
+
+    // The same of the first of these trees, if it is none of these sorts.
+    fn blame_of_first_sort<'t>(&self, sorts: &SortNames, trees: Trees<'t>) -> Option<Blame<'t>>
+        ensures { IsTold self.now result }
+    {
+        let Some((tree, _)) = trees.split_first() else {
             return None;
         };
-        match elements.sorts.sort_of(tree) {
-            Ok(_) => None,
-            Err(_) => self.blame_of_sort(tree),
+        if sorts.sort_of(tree).is_ok() {
+            None
+        } else {
+            self.blame_of_sort(tree)
         }
     }
 }
@@ -278,7 +341,10 @@ pub(super) fn parameter_flaw(parameters: &[Sort], sorts: &[Sort]) -> Option<Rank
     if sorts.len() != wanted {
         return Some(RankFlaw::Count { wanted });
     }
-    other_argument(parameters, other_place(parameters, sorts)?)
+    match other_place(parameters, sorts) {
+        Some(place) => other_argument(parameters, place),
+        None => None,
+    }
 }
 
 fn other_place(parameters: &[Sort], sorts: &[Sort]) -> Option<usize>
@@ -311,17 +377,49 @@ fn misfit_at<'t>(
 ) -> Option<Blame<'t>>
     ensures { IfSome result (IsMisfitOf (sexps_of parts.entry) sorts.now place wanted) }
 {
-    let (_, args) = parts.split_first()?;
-    let argument = tree_at(args, place)?;
-    let found = sorts.get(place)?;
-    let place = (place as u64).checked_add(1)?;
+    let Some(argument) = argument_at(parts, place) else {
+        return None;
+    };
+    let Some(found) = sorts.get(place) else {
+        return None;
+    };
+    let Some(number) = (place as u64).checked_add(1) else {
+        return None;
+    };
     Some(Blame::Misfit {
         part: Tree::List(parts),
-        place,
+        place: number,
         argument,
         found: *found,
         wanted,
     })
+}
+
+// The argument at a place, from 0, of an application of these parts.
+fn argument_at<'t>(parts: Trees<'t>, place: usize) -> Option<Tree<'t>>
+    ensures { IfSome result (λ argument. (head : Sexp) × (args : Sexps) × (sexps_of parts.entry ≡ Cons head args)
+        × (blame.tree_at args place ≡ Some (sexp_of argument))) }
+{
+    let Some((_, args)) = parts.split_first() else {
+        return None;
+    };
+    tree_at(args, place)
+}
+
+// The blame of a part whose head takes another number of arguments.
+fn other_count<'t>(part: Tree<'t>, given: usize, wanted: usize) -> Option<Blame<'t>>
+    ensures { result ≡ Some (Arity part.entry given wanted) }
+{
+    Some(Blame::Arity {
+        part,
+        given: given as u64,
+        wanted: wanted as u64,
+    })
+}
+
+// The sorts of the arguments that wait from this one on.
+fn sorts_waiting(arguments: &Arguments, start: usize) -> &[Sort] {
+    arguments.sorts(start.min(arguments.len()))
 }
 
 // ---- places

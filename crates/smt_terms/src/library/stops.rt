@@ -15,9 +15,18 @@ pub(super) fn stop_of<'t>(whole: Trees<'t>, frames: &[Frame]) -> Option<(Tree<'t
     let Some((last, outer)) = frames.split_last() else {
         return Some((annotated_in(stripped(whole)), 0));
     };
-    let (parts, around) = list_in(whole, outer)?;
-    let (part, before) = waiting_for(stripped(parts), *last)?;
-    Some((without_annotations(part), around.saturating_add(before)))
+    let Some((parts, around)) = list_in(whole, outer) else {
+        return None;
+    };
+    part_in(parts, *last, around)
+}
+
+// The part for which a frame in a list of these parts waits, without annotations; so many arguments wait outside it.
+fn part_in<'t>(parts: Trees<'t>, frame: Frame, around: usize) -> Option<(Tree<'t>, usize)> {
+    let Some((part, before)) = waiting_for(stripped(parts), frame) else {
+        return None;
+    };
+    Some((without_annotations(part), add(around, before)))
 }
 
 // The list for which the innermost of these frames waits, and how many arguments wait outside it.
@@ -50,7 +59,9 @@ fn list_waiting_for<'t>(parts: Trees<'t>, frame: Frame) -> Option<(Trees<'t>, us
 
 // The part for which a frame in a list of these parts waits, and how many terms before it wait too.
 fn waiting_for<'t>(parts: Trees<'t>, frame: Frame) -> Option<(Tree<'t>, usize)> {
-    let (_, args) = parts.split_first()?;
+    let Some((_, args)) = parts.split_first() else {
+        return None;
+    };
     match frame {
         Frame::Argument {
             application,
@@ -58,18 +69,34 @@ fn waiting_for<'t>(parts: Trees<'t>, frame: Frame) -> Option<(Tree<'t>, usize)> 
             ..
         } => argument_before(args, left.saturating_sub(application.end) as usize),
         Frame::Binding { binder, left, .. } => {
-            let (bindings, _) = split_let(args)?;
-            term_before(bindings, left.saturating_sub(binder.body) as usize)
+            binding_before(args, left.saturating_sub(binder.body) as usize)
         }
-        Frame::Body { .. } => {
-            let (bindings, body) = split_let(args)?;
-            Some((body, bindings.len()))
-        }
-        Frame::Labelled(_) => {
-            let (term, _) = args.split_first()?;
-            Some((term, 0))
-        }
+        Frame::Body { .. } => body_of(args),
+        Frame::Labelled(_) => first_of(args),
     }
+}
+
+// The term of the binding of a `let` behind which so many cells come, and how many bindings come before it.
+fn binding_before<'t>(args: Trees<'t>, behind: usize) -> Option<(Tree<'t>, usize)> {
+    let Some((bindings, _)) = split_let(args) else {
+        return None;
+    };
+    term_before(bindings, behind)
+}
+
+// The body of a `let`, and how many bindings it has.
+fn body_of<'t>(args: Trees<'t>) -> Option<(Tree<'t>, usize)> {
+    let Some((bindings, body)) = split_let(args) else {
+        return None;
+    };
+    Some((body, bindings.len()))
+}
+
+fn first_of<'t>(args: Trees<'t>) -> Option<(Tree<'t>, usize)> {
+    let Some((term, _)) = args.split_first() else {
+        return None;
+    };
+    Some((term, 0))
 }
 
 // The argument behind which so many cells come, and how many arguments come before it.
@@ -123,10 +150,31 @@ fn stripped<'t>(parts: Trees<'t>) -> Trees<'t> {
 fn annotated_list<'t>(parts: Trees<'t>) -> Option<Trees<'t>>
     ensures { IfSome result (λ inner. size_of inner < size_of parts.entry) }
 {
-    let (head, args) = parts.split_placed()?;
-    let (term, attributes) = args.split_placed()?;
+    let Some((head, args)) = parts.split_placed() else {
+        return None;
+    };
+    if is_bang(head) {
+        unlabelled_list(args)
+    } else {
+        None
+    }
+}
+
+// The parts of the list that the first of these trees is, where the others give it no label.
+fn unlabelled_list<'t>(args: Trees<'t>) -> Option<Trees<'t>>
+    ensures { IfSome result (λ inner. size_of inner < size_of args.entry) }
+{
+    let Some((term, attributes)) = args.split_placed() else {
+        return None;
+    };
     match term {
-        Tree::List(inner) if is_bang(head) && !has_label(attributes) => Some(inner),
+        Tree::List(inner) => {
+            if has_label(attributes) {
+                None
+            } else {
+                Some(inner)
+            }
+        }
         _ => None,
     }
 }
@@ -136,8 +184,21 @@ fn annotated_in<'t>(parts: Trees<'t>) -> Tree<'t> {
     let Some((head, args)) = parts.split_first() else {
         return Tree::List(parts);
     };
-    match args.split_first() {
-        Some((term, attributes)) if is_bang(head) && !has_label(attributes) => term,
-        _ => Tree::List(parts),
+    if is_bang(head) {
+        unlabelled_of(args, parts)
+    } else {
+        Tree::List(parts)
+    }
+}
+
+// The first of these trees, or a list of these parts where the others give it a label.
+fn unlabelled_of<'t>(args: Trees<'t>, parts: Trees<'t>) -> Tree<'t> {
+    let Some((term, attributes)) = args.split_first() else {
+        return Tree::List(parts);
+    };
+    if has_label(attributes) {
+        Tree::List(parts)
+    } else {
+        term
     }
 }

@@ -21,4 +21,4 @@ pub returns-in-Some : goal.returns-in-Some
 returns-in-Some c = λ s stands.
     let behind = c.take_items.ensures s [] stands (c.in_ok-definitions.ensures.names s stands) in
     some_items s behind.0 c.blame_of_item.result
-    (c.blame_of_item.ensures s (items_before s behind.0) stands behind.1)
+    (c.blame_of_item.ensures.told s (items_before s behind.0) stands behind.1)

@@ -1,10 +1,9 @@
-use Rattle.std.proofs.Common.{inr, subst, sym, ◌∙◌}
+use Rattle.std.proofs.Common.{subst, sym, ◌∙◌}
 use Rattle.smt_trees.specs.Sexp.{Items}
 use Rattle.smt_trees.specs.View.{sexps_of}
 use Rattle.smt_forms.specs.IdentifierView.{identifier_view}
 use Rattle.smt_forms.specs.ScopeOf.{scope_of}
 use Rattle.smt_terms.specs.Blame.{IsCall}
-use Rattle.smt_terms.specs.Internal.Blamed.{IsApplied}
 use Rattle.smt_terms.specs.Internal.DraftView.{sorts_of}
 use Rattle.smt_terms.proofs.BlameLemmas.{called, symbol_of}
 use Rattle.smt_terms.proofs.library.Library.blame_of_call.Goals as goal
@@ -16,10 +15,3 @@ returns-then-is_variable c =
     let v =
     symbol_of (sorts_of (scope_of c.args.draft.now.scope)) f (sym c.is_variable.ensures ∙ c.if-is_variable.true) in
     (v.0, k.0, subst (λ g. IsCall (Items (sexps_of c.args.parts)) g k.0) v.1 k.1)
-
-pub blame_of_identifier-requires : goal.blame_of_identifier-requires
-blame_of_identifier-requires c =
-    inr (
-      sexps_of c.in-Some.field-0-1,
-      subst (λ parts. IsApplied parts (identifier_view c.args.identifier.now)) c.in-Some.ensures c.requires.call,
-    )

@@ -1,5 +1,4 @@
-use Rattle.smt_terms.specs.Internal.LibraryView.{names_of_library, sort_names}
 use Rattle.smt_terms.proofs.library.Library.blame_of_whole_atom.Goals as goal
 
-pub returns-in-Ok : goal.returns-in-Ok
-returns-in-Ok c = c.other_sort.ensures (names_of_library c.args.self.now) (sort_names c.args.self.now.sorts)
+pub returns-clause-whole : goal.returns-clause-whole
+returns-clause-whole c = c.blame_of_checked_atom.ensures.whole _ c.sort_of-checked.ensures.sort
