@@ -47,7 +47,7 @@ FewTrees = (bound : ℕ) (text : List ℕ) (trees : Sexps) (f : Option TextFlaw)
 
 -- ---- counts
 
-commands_count : (profile : Profile) (pairs : List Pair) (trees later : Sexps) → AreCommands profile pairs trees later
+pub commands_count : (profile : Profile) (pairs : List Pair) (trees later : Sexps) → AreCommands profile pairs trees later
     → count trees ≡ length pairs + count later
 commands_count profile [] trees later h = ap count h ∙ omega arith
 commands_count profile (p ∷ ps) Nil later h = absurd h

@@ -40,3 +40,5 @@ pub mod ClaimLemmas
 pub mod TakenClaimLemmas
 pub mod AnswerLawLemmas
 pub mod AnswerFormLemmas
+pub mod GivenLemmas
+pub mod ReplayLemmas

@@ -197,7 +197,7 @@ command_read old new texts pairs later rest t c none some dialogue answers ready
 -- ---- the command in turn
 
 -- one more pair
-paired_push : (start : Start) (script answers : TextSoFar) (pairs : List Pair) (tree : Sexp) (c : commands.Command)
+pub paired_push : (start : Start) (script answers : TextSoFar) (pairs : List Pair) (tree : Sexp) (c : commands.Command)
     (o : Option Sexp) (left rest after : Sexps) → command_of start.profile tree ≡ Ok c → has_exited_after pairs ≡ false
     → rest ≡ with_answer o after
     → taken (is_over answers) (need_after start pairs c) (next_of rest) ≡ Takes o

@@ -9,5 +9,8 @@ pub mod PairingView
 pub mod SessionStep
 pub mod SessionView
 pub mod RunStep
+pub mod GivenView
+pub mod ReplayView
+pub mod ReplaySteps
 pub mod StreamsView
 pub mod Claims

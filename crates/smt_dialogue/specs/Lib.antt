@@ -14,4 +14,5 @@ pub mod Session
 pub mod Validity
 pub mod VerdictLaws
 pub mod Run
+pub mod Replays
 pub mod Internal

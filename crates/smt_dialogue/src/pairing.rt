@@ -26,8 +26,8 @@ use smt_text::laws::{every_text_reads, read_trees_stay, trees_are_no_more_than_b
 use smt_trees::OwnedTree;
 use std::alloc::Global;
 
-// A law: no more trees are read from a text than it has bytes, whether its end was reported or not.
-fn trees_are_few()
+/// A law: no more trees are read from a text than it has bytes, whether its end was reported or not.
+pub(crate) fn trees_are_few()
     ensures few { TreesAreFew }
 {
     every_text_reads();

@@ -7,7 +7,7 @@ ghost use Rattle.smt_trees.specs.Sexp.{Cons, Sexps};
 ghost use Rattle.smt_trees.specs.Owned.{sexp_of};
 ghost use Rattle.smt_dialogue.specs.FirstFault.{TextSoFar};
 ghost use Rattle.smt_dialogue.specs.Report.{IsRead};
-ghost use Rattle.smt_dialogue.specs.Internal.TreeQueueView.{GoesOnFrom, HasQueue, IsAhead};
+ghost use Rattle.smt_dialogue.specs.Internal.TreeQueueView.{GoesOnFrom, HasQueue, IsAhead, is_wait};
 
 use smt_eval::Memory;
 use smt_faults::TextFlaw;
@@ -34,6 +34,15 @@ pub enum Ahead {
     End(Option<TextFlaw>),
 }
 
+impl Ahead {
+    /// Whether more of the text is waited for.
+    pub(crate) fn is_wait(self) -> bool
+        ensures { result ≡ is_wait self }
+    {
+        matches!(self, Ahead::Wait)
+    }
+}
+
 impl TreeQueue {
     /// A text of which nothing has come, whose lists nest no deeper than `max_depth`.
     pub(crate) fn new(alloc: Global, max_depth: usize) -> Self
@@ -56,6 +65,8 @@ impl TreeQueue {
         ensures goes_on { (bytes : List ℕ)
             → GoesOnFrom self.old self.new bytes false (bytes ++ piece.now) }
         ensures next { self.new.next ≡ self.old.next }
+        ensures fed { bytes_fed self.new.reader ≡ bytes_fed self.old.reader + length piece.now }
+        ensures finished { is_finished self.new.reader ≡ false }
         ensures limit { depth_limit self.new.reader ≡ depth_limit self.old.reader }
     {
         // Laws: a text has one reading, and trees and faults that are read stay.
@@ -70,6 +81,8 @@ impl TreeQueue {
         requires open { is_finished self.old.reader ≡ false }
         ensures goes_on { (bytes : List ℕ) → GoesOnFrom self.old self.new bytes true bytes }
         ensures next { self.new.next ≡ self.old.next }
+        ensures fed { bytes_fed self.new.reader ≡ bytes_fed self.old.reader }
+        ensures finished { is_finished self.new.reader ≡ true }
         ensures limit { depth_limit self.new.reader ≡ depth_limit self.old.reader }
     {
         one_reading();

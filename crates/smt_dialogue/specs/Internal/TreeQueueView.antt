@@ -41,3 +41,7 @@ IsAhead comes.Tree next text rest =
     (tree : OwnedTree) × (later : Sexps) × (next ≡ Some tree) × (rest ≡ Cons (sexp_of tree) later)
 IsAhead comes.Wait next text rest = (rest ≡ Nil) × (is_over text ≡ false)
 IsAhead (comes.End fault) next text rest = (rest ≡ Nil) × (text.fault ≡ fault) × (is_over text ≡ true)
+
+abbrev pub is_wait : Ahead → Bool
+is_wait comes.Wait = true
+is_wait _ = false
