@@ -40,11 +40,12 @@ doubling() {
 echo '(assert true)(check-sat)(get-model)' | report 'an unused constant of the model' 'check 1 at command 2: sat, confirmed' \
     "sat ($(doubling)(define-fun c () Int (f63 0)))"
 
-# Lists that nest 1,000,000 deep, with 256 KB of stack.
+# Lists that nest 1,000,000 deep, with 256 KB of stack, explained too.
 deep() {
     cat >"$work/script"
     status=0
-    (ulimit -s 256 && exec timeout 120 "$program" --profile wide --steps 100000000 --print-success off "$work/script" "$work/answers") \
+    (ulimit -s 256 &&
+        exec timeout 120 "$program" --profile wide --steps 100000000 --explain --print-success off "$work/script" "$work/answers") \
         >"$work/report" 2>"$work/errors" || status=$?
     [ "$(head -n 1 "$work/report")" = "$2" ] || { echo "deep terms: $1: status $status, $(cat "$work/errors" "$work/report")"; exit 1; }
 }
@@ -70,6 +71,10 @@ nested 999999 "$head" '(and true ' x0 ')' "$tail" | deep 'last arguments' "$conf
 nested 999999 "$head" '(= ' x0 ' true)' "$tail" | deep 'first arguments' "$confirmed"
 nested 999996 "$head" '(let ((x%d (and x%d x%d))) ' x999996 ')' "$tail" | deep lets "$confirmed"
 nested 333332 "$head" '(let ((y true) (x ' x0 ')) (and x y))' "$tail" | deep "lets' values" "$confirmed"
+refuted='check 1 at command 3: sat, model of command 4: refuted by the assertion of command 2'
+nested 999997 "$head" '(not ' true ')' "$tail" | deep 'not, false' "$refuted"
+nested 999999 "$head" '(and ' false ' x0)' "$tail" | deep 'conjunctions, false' "$refuted"
+nested 333332 "$head" '(let ((y true) (x ' '(not x0)' ')) (and x y))' "$tail" | deep "lets' values, false" "$refuted"
 nested 142856 "$head" '(let ((x (= (! (ite true (and true ' x0 ' x0) false) :a) true))) x)' "$tail" | deep 'all mixed' "$confirmed"
 nested 999998 "$head" '(and true ' '(and 1 true)' ')' "$tail" | deep 'a fault inside' 'fault C7 F4 at command 2'
 nested 999999 "$head" '(and (' true ') nobody)' "$tail" | deep 'lists beyond the limit' 'fault X2 in the script at byte 3000030'
@@ -88,7 +93,7 @@ refused() {
 
 refused -s 255
 refused -v 8191
-refused -s 3071 --explain
+refused -s 255 --explain
 refused -v 8191 --explain
 
 # Within them the deepest term has its report.

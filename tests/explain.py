@@ -1,7 +1,8 @@
 """Compares what `--explain` tells with a scanner of its own and with the second validator's evaluator.
 
-explain.py PROGRAM: the dialogues in crates/dialogue_rows/data with a changed model, a script of 1,536 lines, and hostile names. Each place
-told is that of the tree that it names, and each part that is told false is false. Says what is wrong, or nothing.
+explain.py PROGRAM [COUNT]: the dialogues in crates/dialogue_rows/data with a changed model, a script of 1,536 lines, hostile names, and
+COUNT invented dialogues, or 100, that are refuted, half of them in each profile. Each place told is that of the tree that it names, each part
+that is told false is false, and each value that is told is right. Says what is wrong, or nothing.
 """
 import os
 import random
@@ -14,12 +15,15 @@ TOP = os.path.join(os.path.dirname(os.path.abspath(__file__)), "..")
 sys.path.insert(0, os.path.join(TOP, "tests", "fuzz"))
 sys.setrecursionlimit(100000)
 
+from dialogues import invent
 from models import Structure, bodies_of
 from rows import dialogues_of
 from script import Definition, Force, command_of
-from terms import check_assertion
-from text import read
-from validator import NONE, is_no_effect, takes
+from sorts import BASE, WIDE, Faulty
+from terms import Checker, Context
+from text import begins_with, read
+from validator import NONE, is_no_effect, takes, with_deep_stack
+from wide import invent_wide
 
 BLANK = re.compile(rb"(?:[ \t\r\n]+|;[^\r\n]*)*")
 TOKEN = re.compile(rb'"(?:[^"]|"")*"|\|[^|]*\||[^ \t\r\n();"|]+')
@@ -110,11 +114,49 @@ def check_places(script, answers, told):
     return count
 
 
-VALUE = re.compile(r"(?:^|, )((?:\|[^|]*\||[^ ,()]+)) = (?:[^,]* = )?(true|false|\(- \d+\)|\d+|#b[01]+)(?=, |$)")
+# A value that is told at the end of a line, or before the next: of a term, or of a name whose value is that of another term.
+VALUE = re.compile(r"(.*?) = (?:.* = )?(true|false|open|\(- \d+\)|\d+|#b[01]+|#x[0-9a-f]+|[^ ()]+)$")
 
 
-def check_false(script, answers, prints, report, told):
-    """The parts told false are false by the other evaluator, over the model of the check and the values told of variables."""
+# A value that no term is: its digits are over the largest integer that has a value.
+LOWEST = "(- %d)" % 2**127
+
+
+# A value that a term can name where nothing tells its sort.
+NAMED = re.compile(r"true|false|open|\(- \d+\)|\d+|#b[01]+|#x[0-9a-f]+|\S+!val!\d+|@uc_\S+_\d+")
+
+
+def pieces(line):
+    """The pieces of a line of values, which commas outside parentheses and bars divide."""
+    found, depth, bars, begin = [], 0, False, 0
+    for place, letter in enumerate(line):
+        if letter == "|":
+            bars = not bars
+        elif not bars:
+            depth += (letter == "(") - (letter == ")")
+            if letter == "," and depth == 0:
+                found.append(line[begin:place].strip())
+                begin = place + 1
+    return found + [line[begin:].strip()]
+
+
+def values_of(told, index):
+    """The terms whose values are told from a line on, each with its value; None where a term is cut, or a name is not as it is written."""
+    found = {}
+    while index < len(told) and re.match(r"    +[^ ]", told[index]) and not told[index].startswith("    items: "):
+        if " .. " in told[index] or "\\x" in told[index]:
+            return None
+        for piece in pieces(told[index].strip()):
+            match = VALUE.match(piece)
+            if match and match.group(2) != LOWEST:
+                found[match.group(1)] = match.group(2)
+        index += 1
+    return found
+
+
+def check_false(script, answers, prints, report, told, profile=BASE):
+    """The parts told false are false by the other evaluator, and the values are right, over the model of the check and the values told of
+    variables."""
     checked = 0
     check = None
     for index, line in enumerate(told):
@@ -122,42 +164,65 @@ def check_false(script, answers, prints, report, told):
         if found:
             check = int(found.group(2))
         found = re.match(r"  (false|true): (.*?)(   at .*)?$", line)
-        if not found or " .. " in line or check is None or len(line) >= 200:
+        if not found or " .. " in line or "\\x" in line or check is None or len(line) >= 200:
             continue
-        values = dict(VALUE.findall(told[index + 1].strip())) if index + 1 < len(told) and told[index + 1].startswith("    ") else {}
+        values = values_of(told, index + 1)
+        if values is None or not all(map(NAMED.fullmatch, values.values())):
+            continue
         said = [each for each in report if " at command %d: " % check in each][0]
         model = re.search(r"model of command (\d+)", said)
-        value = evaluated(script, answers, prints, check, int(model.group(1)), found.group(2), values)
+        world = World(script, answers, prints, check, int(model.group(1)), profile)
+        names = {name: value for name, value in values.items() if not name.startswith("(") and value != "open"}
+        value = world.value(found.group(2), names)
         if value is not (found.group(1) == "true"):
             raise Wrong("%s: it is %s" % (line, value))
+        for term, value in values.items():
+            if term.startswith("(") and value != "open" and world.value("(= %s %s)" % (term, value), names) is not True:
+                raise Wrong("%s: %s is not %s" % (line, term, value))
         checked += 1
     return checked
 
 
-def evaluated(script, answers, prints, check, model, text, values):
-    """The value of a term over the model that answers a command."""
-    force = Force(prints)
-    given = read(answers).trees
-    commands = [command_of(tree) for tree in read(script).trees[:model]]
-    place = 0
-    printed = None
-    for number, command in enumerate(commands, 1):
-        need, fits = takes(command, force.print_success)
-        answer = None
-        if need is not NONE and place < len(given) and fits(given[place]):
-            answer = given[place]
-            place += 1
-        if number == model:
-            printed = answer
-        if number < check and (answer is None or not is_no_effect(answer)):
-            force.take(number, command)
-    bodies = dict(bodies_of(printed, force))
-    for thing in force.of_kind(Definition):
-        bodies[thing.name] = thing.body
-    bound = " ".join("(%s %s)" % pair for pair in values.items() if pair[0].strip("|") not in force.ranks)
-    tree = read(("(let (%s) %s)" % (bound, text) if bound else text).encode("latin-1")).trees[0]
-    node, _ = check_assertion(force.context(), tree)
-    return Structure(bodies).value(node, {})
+def bare(tree):
+    """A tree without its annotations."""
+    if type(tree) is not list:
+        return tree
+    if begins_with(tree, "!"):
+        return bare(tree[1])
+    return [bare(each) for each in tree]
+
+
+class World:
+    """What is in force at a check, and the model that answers a command."""
+
+    def __init__(self, script, answers, prints, check, model, profile):
+        self.force = Force(prints, profile)
+        given = read(answers).trees
+        commands = [command_of(tree, profile) for tree in read(script).trees[:model]]
+        place = 0
+        printed = None
+        for number, command in enumerate(commands, 1):
+            need, fits = takes(command, self.force.print_success, profile)
+            answer = None
+            if need is not NONE and place < len(given) and fits(given[place]):
+                answer = given[place]
+                place += 1
+            if number == model:
+                printed = answer
+            if number < check and (answer is None or not is_no_effect(answer)):
+                self.force.take(number, command)
+        self.bodies = dict(bodies_of(printed, self.force))
+        for thing in self.force.of_kind(Definition):
+            self.bodies[thing.name] = thing.body
+
+    def value(self, text, names):
+        """The value of a formula, where these names have these values."""
+        force = self.force
+        context = Context(force.theories, force.abbreviations, force.ranks, force.profile == WIDE, force.ranks)
+        bound = " ".join("(%s %s)" % pair for pair in names.items())
+        tree = read(("(let (%s) %s)" % (bound, text) if bound else text).encode("latin-1")).trees[0]
+        _, node = Checker(context, []).check(bare(tree), {})
+        return Structure(self.bodies).value(node, {})
 
 
 def spoiled(answers, random_source):
@@ -195,6 +260,29 @@ def spoiled_dialogues(program, wanted):
         done += 1
     if done < wanted or parts < wanted // 2:
         raise Wrong("%d dialogues and %d parts are too few" % (done, parts))
+
+
+def invented_dialogues(program, wanted, profile):
+    """Invented dialogues that are refuted, some of them since a value of a model is changed."""
+    source = random.Random(53)
+    done = parts = seed = 0
+    while done < wanted:
+        seed += 1
+        each = (invent_wide if profile == WIDE else invent)(seed)
+        more = ["--profile", profile]
+        for answers in (each.answers, spoiled(each.answers, source)):
+            if answers is None or b" refuted by " not in run(program, each.script, answers, each.print_success, False, more)[0]:
+                continue
+            report, told = explained(program, each.script, answers, each.print_success, more)
+            try:
+                if check_places(each.script, answers, told) < 1:
+                    raise Wrong("no place is told: %s" % told)
+                parts += check_false(each.script, answers, each.print_success, report, told, profile)
+            except Wrong as wrong:
+                raise Wrong("seed %d of %s: %s" % (seed, profile, wrong))
+            done += 1
+    if parts < wanted // 2:
+        raise Wrong("%d parts of %d dialogues are too few" % (parts, done))
 
 
 def generated():
@@ -278,7 +366,9 @@ def check_hostile(program):
 
 def main():
     program = os.path.abspath(sys.argv[1])
-    for part in (check_generated, check_hostile, lambda each: spoiled_dialogues(each, 50)):
+    count = int(sys.argv[2]) if len(sys.argv) > 2 else 100
+    invented = [lambda each, profile=profile: invented_dialogues(each, count // 2, profile) for profile in (BASE, WIDE)]
+    for part in (check_generated, check_hostile, lambda each: spoiled_dialogues(each, 50), *invented):
         try:
             part(program)
         except Wrong as wrong:

@@ -73,7 +73,8 @@ explains F3 off '(assert (or (let ((a true)) a) a (f true)))' '' 'fault: s:1:1, 
 explains F3 off '(define-sort S () Bool)(define-fun f ((x S)) T x)' '' 'fault: s:1:24, command 2: (define-fun f ((x S)) T x)' \
     '  C7: F3: a name, a sort or a literal is unknown there' '  unknown: T'
 ill='  C7: F4: arguments that the head does not take, or another sort than is needed'
-explains F4 off '(assert (and true))' '' 'fault: s:1:1, command 1: (assert (and true))' "$ill" '  ill sorted: (and true)' '    the sorts of its arguments: Bool'
+explains F4 off '(assert (and true))' '' 'fault: s:1:1, command 1: (assert (and true))' "$ill" '  ill sorted: (and true)' \
+    '    arguments needed: 2, and there are 1'
 explains F4 off '(declare-const x Int)(assert (! x :named a))' '' 'fault: s:1:22, command 2: (assert (! x :named a))' "$ill" \
     '  its term is of sort Int, and Bool is needed'
 explains F4 off '(declare-const x Int)(declare-const p Bool)
@@ -203,28 +204,29 @@ sed -n '/^| fault | meaning | likely cause/,/^$/p' docs/LANGUAGE.md | sed -n '3,
 grep -v '^-$' "$work/rows" | LC_ALL=C sort -u >"$work/told"
 cmp -s "$work/wanted" "$work/told" || fail 'the rows of the table of faults'
 
-# The parts of a check that are told cost no more than --steps, and the place of the claim is told however few these are. Here those in
-# each call of f are evaluated for some 160 steps, and the claim costs 253.
+# The parts of a check that are told cost no more than --steps, and the place of the claim is told however few these are. Here the conclusion of
+# each implication is evaluated anew, in some 3,600 steps, and the claim costs 122.
 many=$(printf '%040d' 0 | sed 's/0/ p/g')
 printf '%s' "(declare-const p Bool)(assert (and$many))(check-sat)(get-model)" >"$work/s"
 printf '%s' 'sat ((define-fun p () Bool false))' >"$work/a"
 "$program" --explain --steps 90 --print-success off "$work/s" "$work/a" >"$work/told" || [ $? = 1 ]
 grep -qx '  false: p' "$work/told" || fail '90 steps'
-printf '%s' "(declare-const p Bool)(define-fun f ((x Bool)) Bool (and$many))(assert (or (f p) (f p) (f p)))(check-sat)(get-model)" >"$work/s"
-"$program" --explain --steps 253 --print-success off "$work/s" "$work/a" >"$work/told" || [ $? = 1 ]
+deep="$(printf '%060d' 0 | sed 's/0/(=> p /g')p$(printf '%060d' 0 | tr 0 ')')"
+printf '%s' "(declare-const p Bool)(assert (not $deep))(check-sat)(get-model)" >"$work/s"
+printf '%s' 'sat ((define-fun p () Bool true))' >"$work/a"
+"$program" --explain --steps 200 --print-success off "$work/s" "$work/a" >"$work/told" || [ $? = 1 ]
 grep -q 'no more was looked at: the steps are used up' "$work/told" || fail 'few steps'
 "$program" --explain --print-success off "$work/s" "$work/a" >"$work/told" || [ $? = 1 ]
-grep -qx '  false: p   at .*, in f' "$work/told" || fail 'enough steps'
+grep -qx '  true: p' "$work/told" || fail 'enough steps'
 
-# The value of a term is told that is 1,100 deep with its definitions, and of no deeper one: p is, each of the items behind it, and the body of
-# the last. The parts of a connective need no value where they have it by that of the whole.
+# Values are told however deep a term is with its definitions: p is 5,000 deep, with the items behind it. What leaves a value open is told where it
+# is, in the body of an item too.
 chain() { awk -v n="$1" -v last="$2" 'BEGIN { for (i = 0; i < n; i++) printf "(define-fun h%d () Bool %s)", i, i ? "h" i - 1 : last }'; }
 items() { printf 'sat (%s(define-fun p () Bool h%d)(define-fun q () Bool false))' "$(chain "$1" "${2-false}")" "$(($1 - 1))"; }
 column() { items "$1" "${2-false}" | awk -v name="(define-fun $3 " '{ print index($0, name) }'; }
-p=$(column 1099 false p)
-q=$(column 1099 false q)
+p=$(column 5000 false p)
+q=$(column 5000 false q)
 open='(= 0 (div 1 0))'
-hidden='(not shown: its definitions are nested too deep)'
 # deep ANSWERS CLAIM TEXT..: the explanation of a claim of p and q.
 deep() {
     deep_answers=$1
@@ -233,15 +235,12 @@ deep() {
     explains - off "(declare-const p Bool)(declare-const q Bool)$deep_claim(check-sat)(get-model)" "$deep_answers" \
         "check 1: s:1:$((45 + ${#deep_claim})), command 4: (check-sat)" "  claim: s:1:45, command 3: $deep_claim" "$@" '  model: a:1:5'
 }
-deep "$(items 1098)" p '  false: p' '    p = false' "    items: p at a:1:$(column 1098 false p)"
-deep "$(items 1099)" p '  false: p' "    p = $hidden" "    items: p at a:1:$p"
-deep "$(items 1099)" '(or (not (not p)) q)' '  false: p' "    p = $hidden" "    items: p at a:1:$p" '  false: q' '    q = false' "    items: q at a:1:$q"
-deep "$(items 1099)" '(let ((x p)) (= x (not q)))' '  false: (= x (not q))' "    x = p = $hidden, (not q) = true, q = false" \
+deep "$(items 5000)" p '  false: p' '    p = false' "    items: p at a:1:$p"
+deep "$(items 5000)" '(or (not (not p)) q)' '  false: p' '    p = false' "    items: p at a:1:$p" '  false: q' '    q = false' "    items: q at a:1:$q"
+deep "$(items 5000)" '(let ((x p)) (= x (not q)))' '  false: (= x (not q))' '    x = p = false, (not q) = true, q = false' \
     "    items: p at a:1:$p, q at a:1:$q"
-deep "$(items 1099)" '(ite p q q)' '  false: (ite p q q)' "    p = $hidden, q = false" "    items: p at a:1:$p, q at a:1:$q"
-deep "$(items 1099 "$open")" p '  open: p' "    $hidden" "    p = $hidden" "    items: p at a:1:$(column 1099 "$open" p)"
-deep "$(items 1099 "$open")" '(= p q)' '  open: (= p q)' "    $hidden" "    p = $hidden, q = false" \
-    "    items: p at a:1:$(column 1099 "$open" p), q at a:1:$(column 1099 "$open" q)"
+deep "$(items 5000)" '(ite p q q)' '  false: q' '    q = false' "    items: q at a:1:$q" '  false: p' '    p = false' "    items: p at a:1:$p"
+deep "$(items 5000 "$open")" '(= p q)' '  open: (div 1 0)   at a:1:6, in h0' '    a division by zero'
 
 # A tree in the value of an attribute labels nothing.
 explains - off '(declare-const p Bool)(declare-const z Bool)(assert (! p :a ((! false :named z))))(assert (distinct p z))(check-sat)(get-model)' \
@@ -249,16 +248,14 @@ explains - off '(declare-const p Bool)(declare-const z Bool)(assert (! p :a ((! 
     'check 1: s:1:106, command 5: (check-sat)' '  claim: s:1:83, command 4: (assert (distinct p z))' '  false: (distinct p z)' '    p = true, z = true' \
     '    items: p at a:1:6, z at a:1:33' '  model: a:1:5'
 
-# Other sorts are tried for 10,000 steps: of 34 arguments in all places, of 60 in the last ones.
-arguments() { awk -v n="$1" 'BEGIN { printf "(and 1"; for (i = 1; i < n; i++) printf " p"; printf ")" }'; }
-printf '%s' "(declare-const p Bool)(assert $(arguments 34))" >"$work/s"
-: >"$work/a"
-"$program" --explain --print-success off "$work/s" "$work/a" >"$work/told" || [ $? = 3 ]
-grep -qx '    argument 1, 1, is of sort Int, and Bool is needed' "$work/told" || fail '34 arguments'
-printf '%s' "(declare-const p Bool)(assert $(arguments 60))" >"$work/s"
-"$program" --explain --print-success off "$work/s" "$work/a" >"$work/told" || [ $? = 3 ]
-grep -q '^    the sorts of its arguments: Int Bool Bool' "$work/told" || fail '60 arguments'
-grep -qx '    (not all sorts were tried in the places of these)' "$work/told" || fail '60 arguments'
+# Of many arguments the first is told that does not fit.
+arguments() { awk -v n="$1" -v at="$2" 'BEGIN { printf "(and"; for (i = 1; i <= n; i++) printf i == at ? " 1" : " p"; printf ")" }'; }
+for place in 1 60 100000; do
+    printf '%s' "(declare-const p Bool)(assert $(arguments 100000 "$place"))" >"$work/s"
+    : >"$work/a"
+    "$program" --explain --print-success off "$work/s" "$work/a" >"$work/told" || [ $? = 3 ]
+    grep -qx "    argument $place, 1, is of sort Int, and Bool is needed" "$work/told" || fail "argument $place"
+done
 
 # What a model costs that is too long is what the limit has to be.
 printf '%s' '(declare-const x Int)(define-fun f () Int (+ x x))(assert (< (+ f f) 9))(check-sat)(get-model)' >"$work/s"
@@ -270,11 +267,43 @@ cost=$(sed -n 's/^  too long: the claims of this check cost \([0-9]*\) steps.*/\
 grep -q ': too long$' "$work/told" || fail "too long: $cost"
 
 # Pipes are explained as files are, and nothing is told of a dialogue that is confirmed.
+# ---- what explanations have told wrongly before
+explains - off '(declare-const a Int)(assert (= a 0))(check-sat)(get-model)' \
+    'sat ((define-fun a () Int (+ 1000000000000000000000000000000000000 4)))' 'check 1: s:1:38, command 3: (check-sat)' \
+    '  claim: s:1:22, command 2: (assert (= a 0))' '  false: (= a 0)' '    a = 1000000000000000000000000000000000004' \
+    '    items: a at a:1:6' '  model: a:1:5'
+unknown='  C7: F3: a name, a sort or a literal is unknown there'
+explains C7 off '(declare-const p Bool)(assert (and (! p :pattern ((k 1)(k 2))) (let ((z p)(z p)) z)))' '' \
+    'fault: s:1:23, command 2: (assert (and (! p :pattern ((k 1) (k 2))) (let ((z p) (z p)) z)))' '  C7: F6: a name is bound twice' \
+    '  bound twice: z'
+explains C7 off '(set-logic QF_UF)(declare-const p Bool)(declare-const q Bool)(assert (and (! p :named bvadd) (! q :named q)))' '' \
+    'fault: s:1:62, command 4: (assert (and (! p :named bvadd) (! q :named q)))' \
+    "  C7: F7: the name is in use, or is an operator's" '  label: s:1:106: q' '  in use: s:1:40, command 3: (declare-const q Bool)'
+explains C7 off '(set-logic QF_UF)(declare-const p Bool)(assert (and (bvult p p) zz))' '' \
+    'fault: s:1:40, command 3: (assert (and (bvult p p) zz))' "$unknown" '  bvult needs bit vectors, which the logic lacks'
+explains C7 off '(set-logic QF_BV)(assert (and (= 1 2) zz))' '' 'fault: s:1:18, command 2: (assert (and (= 1 2) zz))' "$unknown" \
+    '  1 needs integers, which the logic lacks'
+explains C7 off '(set-logic QF_UF)(declare-const x Int)' '' 'fault: s:1:18, command 2: (declare-const x Int)' "$unknown" \
+    '  Int needs integers, which the logic lacks'
+explains - off '(declare-const |a  b| Bool)(declare-const |let| Bool)(declare-const |a b| Bool)(assert (or |a  b| |a b| |let|))
+(check-sat)(get-model)' 'sat ((define-fun |a  b| () Bool false)(define-fun |a b| () Bool false)(define-fun |let| () Bool false))' \
+    'check 1: s:2:1, command 5: (check-sat)' '  claim: s:1:80, command 4: (assert (or |a  b| |a b| |let|))' \
+    '  false: |a  b|' '    |a  b| = false' '    items: |a  b| at a:1:6' \
+    '  false: |a b|' '    |a b| = false' '    items: |a b| at a:1:39' \
+    '  false: |let|' '    |let| = false' '    items: |let| at a:1:71' '  model: a:1:5'
+explains - off '(assert (let ((x 5)) (let ((y (+ x 1)) (x 2)) (= y x))))(check-sat)(get-model)' 'sat ()' \
+    'check 1: s:1:57, command 2: (check-sat)' '  claim: s:1:1, command 1: (assert (let ((x 5)) (let ((y (+ x 1)) (x 2)) (= y x))))' \
+    '  false: (= y x)' '    y = 6, x = 2' '  model: a:1:5'
+explains - off '(declare-const x Int)(declare-const y Int)(assert (= y x))(check-sat)(get-model)' \
+    'sat ((define-fun x () Int 1)(define-fun y () Int (div 1 0)))' 'check 1: s:1:59, command 4: (check-sat)' \
+    '  claim: s:1:43, command 3: (assert (= y x))' '  open: (div 1 0)   at a:1:29, in y' '    a division by zero' '  model: a:1:5'
+
 # ---- names with two meanings, in the profile wide
 profile=wide
 used="  F7: the name is in use, or is an operator's"
 explains F7 off '(declare-sort U 0)(declare-const d U)(define-fun @a () U d)(check-sat)(get-model)' 'sat ((define-fun d () U (as @a U)))' \
-    'check 1: s:1:60, command 4: (check-sat)' '  item 1: a:1:6: (define-fun d () U (as @a U))' "$used"
+    'check 1: s:1:60, command 4: (check-sat)' '  item 1: a:1:6: (define-fun d () U (as @a U))' "$used" \
+    '  in use: s:1:38, command 3: (define-fun @a () U d)'
 explains F7 off '(declare-sort U 0)(declare-const d U)(define-fun U!val!0 () U d)(check-sat)(get-model)' 'sat ((define-fun U!val!0 () U d))' \
     'check 1: s:1:65, command 4: (check-sat)' '  item 1: a:1:6: (define-fun U!val!0 () U d)' "$used" \
     '  it is also the name of an element: s:1:1, command 1: (declare-sort U 0)'
@@ -285,14 +314,25 @@ explains F3 off '(declare-sort U 0)(define-sort V () U)(declare-const c U)(check
     'check 1: s:1:58, command 4: (check-sat)' '  item 1: a:1:6: (define-fun c () U V!val!0)' \
     '  F3: a name, a sort or a literal is unknown there' '  unknown: V!val!0'
 
+# A term that names an element costs a step, and a name that is too long leaves it open.
+explains - off '(declare-sort U 0)(declare-const c U)(declare-const d U)(assert (= c d))(check-sat)(get-model)' \
+    'sat ((define-fun c () U (as @aaaaaaaaaaaaaaaaaaaaaaaaaaaaaaaaaaaaaaaaaa U))(define-fun d () U (as @b U)))' \
+    'check 1: s:1:73, command 5: (check-sat)' '  claim: s:1:57, command 4: (assert (= c d))' \
+    '  open: (as @aaaaaaaaaaaaaaaaaaaaaaaaaaaaaaaaaaaaaaaaaa U)   at a:1:6, in c' '    an element whose name has over 31 bytes' '  model: a:1:5'
+printf '%s' '(declare-sort U 0)(declare-const c U)(assert (= c c))(check-sat)(get-model)' >"$work/s"
+printf '%s' 'sat ((define-fun c () U (as @a U)))' >"$work/a"
+"$program" --explain --profile wide --steps 4 --print-success off "$work/s" "$work/a" >"$work/told" || [ $? = 2 ]
+grep -qx '  too long: the claims of this check cost 5 steps; --steps sets the limit' "$work/told" || fail 'the cost of an element'
+"$program" --profile wide --steps 5 --print-success off "$work/s" "$work/a" >"$work/told" || fail 'the cost of an element'
+
 # ---- lists that nest deep, in the profile wide
 explains X2 off "$(printf '%01000001d' 0 | tr 0 '(')" '' 'fault: s:1:1000001: a list at a depth over 1,000,000'
-# Of a tree over 1,000 deep the claim and the model are shown, and no part of it.
+# Their parts are told too.
 deep="$(printf '%01500d' 0 | sed 's/0/(not /g')p$(printf '%01500d' 0 | tr 0 ')')"
 printf '%s' "(declare-const p Bool)(assert $deep)(check-sat)(get-model)" >"$work/s"
 printf '%s' 'sat ((define-fun p () Bool false))' >"$work/a"
 "$program" --explain --profile wide --print-success off "$work/s" "$work/a" >"$work/told" || [ $? = 1 ]
-[ "$(sed '1,/^verdict: /d' "$work/told" | sed 's/:.*//' | tr '\n' ' ')" = 'check 1   claim   model ' ] || fail 'a deep claim'
+[ "$(sed '1,/^verdict: /d' "$work/told" | sed 's/:.*//' | tr '\n' ' ')" = 'check 1   claim   false     p = false     items   model ' ] || fail 'a deep claim'
 profile=base
 
 printf '%s' "$asked" >"$work/s"

@@ -3,8 +3,8 @@
 honest, and prints what each takes: seconds of the processor and memory, at a quarter, at half and at all of its size.
 
 --part N makes each N times smaller, and --stack limits the machine's stack. With --bound the status is 1 where the whole takes more than its
-shape may: a second, or what stands beside the shape; or more than its memory; and where it does not end with the status of its report. Needs
-what `rt ci` has built, or another program: SMTCHECK names it."""
+shape may: a second, or what stands beside the shape; or more than its memory; and where it does not end with the status of its report, or
+takes too many times what it takes where it is not explained. Needs what `rt ci` has built, or another program: SMTCHECK names it."""
 import argparse
 import os
 import random
@@ -17,6 +17,7 @@ from measured import can_measure, run
 TOP = os.path.dirname(os.path.dirname(os.path.abspath(__file__)))
 DECLARED = "(declare-const p Bool)"
 MODEL = "((define-fun p () Bool true))"
+FALSE = "((define-fun p () Bool false))"
 ASK = "(check-sat)(get-model)"
 
 # A shape: what makes its texts from a size, that size, the most seconds where some are promised, and the most bytes of memory for each byte
@@ -159,6 +160,49 @@ def many_sorts(n):
     return declared + "(assert (= %s))" % " ".join("c%d" % i for i in names), ""
 
 
+def levels_before_checks(n):
+    """Many levels, and then checks that are refuted."""
+    return "(push 10000)(pop 10000)" * n + "(assert false)" + ASK * 20, "sat ()" * 20
+
+
+def deep_function(n):
+    """Functions that are deep together, under checks that are refuted."""
+    bodies = [("(not " * 980, "(f%d x)" % (i - 1) if i else "x", ")" * 980) for i in range(n)]
+    script = DECLARED + "".join("(define-fun f%d ((x Bool)) Bool %s%s%s)" % (i, *body) for i, body in enumerate(bodies))
+    return script + "(assert (f%d p))" % (n - 1) + ASK * 4, ("sat" + FALSE) * 4
+
+
+def global_label(n):
+    """A wide assertion with a label, under global declarations, whose levels are gone."""
+    script = "(set-option :global-declarations true)" + DECLARED + "(push 9000)(assert (! (and" + " p" * n + ") :named a))"
+    return script + "(pop 1)" * 9000 + "(assert a)" + ASK, "sat" + FALSE
+
+
+def wide_disjunction(n):
+    """A wide assertion that is false."""
+    return DECLARED + "(assert (or" + " p" * n + "))" + ASK, "sat" + FALSE
+
+
+def deep_conjunction(n):
+    """A deep assertion that is false."""
+    return DECLARED + "(assert " + "(and " * n + "p" + " p)" * n + ")" + ASK, "sat" + FALSE
+
+
+def deep_choices(n):
+    """The same of choices."""
+    return DECLARED + "(assert " + "(ite " * n + "p" + " p p)" * n + ")" + ASK, "sat" + FALSE
+
+
+def many_assertions(n):
+    """Many assertions, of which the last is false."""
+    return DECLARED + "(assert (or p (not p)))\n" * n + "(assert p)" + ASK, "sat" + FALSE
+
+
+def many_refuted_checks(n):
+    """Many checks of many assertions, each refuted by the last one."""
+    return DECLARED + "(assert (or p (not p)))" * 1000 + "(assert p)" + ASK * n, ("sat" + FALSE) * n
+
+
 SHAPES = {
     "unused body": Shape(models_over_an_unused_body, 250_000, 1, 200),
     "assumptions, models": Shape(assumptions_with_models, 16_000, 1, 0),
@@ -180,9 +224,20 @@ SHAPES = {
     "trees in an attribute": Shape(trees_in_an_attribute, 5_000, 2, 200, (1,), True),
     "ill sorted": Shape(wide_and_ill_sorted, 500_000, 2, 200, (3,), True),
     "many sorts": Shape(many_sorts, 1_600, 2, 200, (3,), True),
+    "levels before checks": Shape(levels_before_checks, 40_000, 2, 200, (1,), True),
+    "deep function": Shape(deep_function, 8, 2, 200, (1,), True),
+    "global label": Shape(global_label, 375_000, 2, 200, (1,), True),
+    "wide disjunction": Shape(wide_disjunction, 2_500_000, 3, 200, (1,), True),
+    "deep conjunction": Shape(deep_conjunction, 300_000, 3, 200, (1,), True),
+    "deep choices": Shape(deep_choices, 300_000, 3, 200, (1,), True),
+    "many assertions": Shape(many_assertions, 1_000_000, 6, 200, (1,), True),
+    "many refuted checks": Shape(many_refuted_checks, 3_000, 6, 200, (1,), True),
 }
 # What any program has: bytes of memory that no text accounts for.
 OWN = 10_000_000
+# An explained run takes at most so many times the seconds and the memory of the run without its explanation, and so many seconds more.
+TIMES = 3
+MORE = 0.1
 # A run that takes so many seconds is ended.
 PATIENCE = 120
 
@@ -228,6 +283,11 @@ def main():
                     wrong |= chosen.bound
             print("%-21s %5.1f MB: %s, %6.1f MB of memory, %5.1f bytes a byte: %s" % (
                 name, size / 1e6, " ".join(cells), took.memory / 1e6, took.memory / size, took.last), flush=True)
+            if chosen.bound and shape.explained:
+                _, plain = measured(words + ["--profile", "wide"], shape, shape.size // chosen.part, work, chosen.patience)
+                if took.seconds > TIMES * plain.seconds + MORE or took.memory > TIMES * plain.memory + OWN:
+                    print("hostile: %s: without its explanation %.2f s, %.1f MB" % (name, plain.seconds, plain.memory / 1e6))
+                    wrong = 1
             if chosen.bound and (took.seconds > (shape.seconds or chosen.patience) or took.memory > OWN + shape.memory * size):
                 print("hostile: %s: more than it may take" % name)
                 wrong = 1

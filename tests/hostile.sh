@@ -12,10 +12,13 @@ command -v python3 >"$work/python" || { echo 'hostile: skipped, no python3' >&2;
 PYTHONDONTWRITEBYTECODE=1 python3 tests/hostile.py --part 4 --bound --patience 20 \
     'unused body' 'assumptions, models' assumptions 'honest assumptions' 'honest models' 'global declarations' 'wide model' 'wide script' \
     'deep and wide' levels 'levels beside names' >"$work/table" || { cat "$work/table"; exit 1; }
-# Those that are explained, on the usual stack and on the smallest that the program takes.
-for stack in 8192 3072; do
+# Those that are explained, on the usual stack and on the smallest that the program takes, beside what they take without an explanation.
+for stack in 8192 256; do
     PYTHONDONTWRITEBYTECODE=1 python3 tests/hostile.py --bound --patience 20 --stack "$stack" \
         'deep items' 'many items' 'deep definitions' 'honest definitions' \
-        'trees in an attribute' 'ill sorted' 'many sorts' >"$work/table" ||
+        'trees in an attribute' 'ill sorted' 'many sorts' 'levels before checks' 'deep function' 'global label' \
+        'wide disjunction' 'deep conjunction' 'deep choices' >"$work/table" ||
         { echo "hostile: $stack KB of stack:"; cat "$work/table"; exit 1; }
 done
+PYTHONDONTWRITEBYTECODE=1 python3 tests/hostile.py --part 4 --bound --patience 20 'many assertions' 'many refuted checks' >"$work/table" ||
+    { cat "$work/table"; exit 1; }

@@ -1,6 +1,6 @@
 /* small_stack BYTES [explain]: checks dialogues whose lists stand in one another to the limits of 1,000, and of 1,000,000 in the wide
-   profile, on a thread with so many bytes of stack, through smtcheck_validate and through a session; or it explains those of the first
-   limit, and dialogues whose definitions are deep together. Prints each dialogue whose verdict is another than the right one, and nothing
+   profile, on a thread with so many bytes of stack, through smtcheck_validate and through a session; or it explains them, and dialogues
+   whose definitions are deep together. Prints each dialogue whose verdict is another than the right one, and nothing
    where all is well. A stack that is too small ends it by a signal. */
 #include "smtcheck.h"
 #include <pthread.h>
@@ -71,6 +71,9 @@ static const struct dialogue deep[] = {
     CHECKED("(let ((x false) (y ", 333333, "true", ")) y)", SMTCHECK_VALID),
     CHECKED("(not ", 999999, "1", ")", SMTCHECK_REFUSED),
     MODEL("(ite true ", 999998, "true", " false)", SMTCHECK_VALID),
+    CHECKED("(and ", 999999, "false", " true)", SMTCHECK_INVALID),
+    CHECKED("(ite true ", 999999, "false", " true)", SMTCHECK_INVALID),
+    CHECKED("(let ((x false)) ", 999997, "x", ")", SMTCHECK_INVALID),
     {"a sort", {"(declare-const x ", "(Array Int ", 999999, "Bool", ")", ")"}, PLAIN(""), SMTCHECK_REFUSED},
     {"information", {"(set-info :a ", "(", 999999, "", ")", ")"}, PLAIN(""), SMTCHECK_VALID},
     {"lists that are too deep", {"", "(", 1000001, "", ")", ""}, PLAIN(""), SMTCHECK_REFUSED},
@@ -102,10 +105,10 @@ static uint32_t whole(const struct smtcheck_options *options, const char *script
 }
 
 /* The verdict on two whole texts that comes with their explanation. */
-static uint32_t explained(const char *script, const char *answers) {
+static uint32_t explained(const struct smtcheck_options *options, const char *script, const char *answers) {
     static char text[1 << 16];
     size_t wanted = 0;
-    return smtcheck_explain(script, strlen(script), answers, strlen(answers), &options, text, sizeof text, &wanted);
+    return smtcheck_explain(script, strlen(script), answers, strlen(answers), options, text, sizeof text, &wanted);
 }
 
 /* The verdict of a session that is told the script, and then the answers, in pieces of seven bytes. */
@@ -143,7 +146,7 @@ static char *chain(const char *head, int count, const char *sort, const char *fi
 
 /* Explains what definitions that are deep together make false: those of a model, or of a script. */
 static int explains(const char *name, const char *script, const char *answers) {
-    uint32_t outcome = explained(script, answers);
+    uint32_t outcome = explained(&options, script, answers);
     if (outcome != SMTCHECK_INVALID) printf("%s: %u\n", name, (unsigned)outcome);
     return outcome != SMTCHECK_INVALID;
 }
@@ -179,13 +182,17 @@ static void *check_all(void *wrong) {
     return wrong;
 }
 
+static int explain(const struct smtcheck_options *options, const struct dialogue *it) {
+    char *script = written(&it->script), *answers = written(&it->answers);
+    int wrong = differs(it, "explained", explained(options, script, answers));
+    free(script), free(answers);
+    return wrong;
+}
+
 static void *explain_each(void *wrong) {
     *(int *)wrong |= explain_all();
-    for (size_t i = 0; i < sizeof dialogues / sizeof *dialogues; i++) {
-        char *script = written(&dialogues[i].script), *answers = written(&dialogues[i].answers);
-        *(int *)wrong |= differs(&dialogues[i], "explained", explained(script, answers));
-        free(script), free(answers);
-    }
+    for (size_t i = 0; i < sizeof dialogues / sizeof *dialogues; i++) *(int *)wrong |= explain(&options, &dialogues[i]);
+    for (size_t i = 0; i < sizeof deep / sizeof *deep; i++) *(int *)wrong |= explain(&wide, &deep[i]);
     return wrong;
 }
 

@@ -41,4 +41,5 @@ pub mod TakenClaimLemmas
 pub mod AnswerLawLemmas
 pub mod AnswerFormLemmas
 pub mod GivenLemmas
+pub mod ReplayAnswerLemmas
 pub mod ReplayLemmas

@@ -1,4 +1,1 @@
-pub mod Internal
-pub mod Places
-pub mod Values
-pub mod Sorts
+pub mod InForce

@@ -16,24 +16,13 @@
 //! ```
 #![tactic(auto)]
 
-mod evaluation;
+mod blames;
+mod claims;
+mod dialogue;
 mod faults;
-mod force;
-mod ill_sorted;
-mod library;
-mod names;
-mod page;
-mod pairs;
-mod parts;
-mod scan;
-mod show;
-mod sorts;
+mod items;
 mod told;
-mod unknown;
-mod values;
-mod walk;
-mod world;
 
-pub use scan::{Place, Scan, Span, find_trees};
+pub use dialogue::Texts;
 pub use smt_faults::Memory;
-pub use told::{Texts, explain};
+pub use told::explain;

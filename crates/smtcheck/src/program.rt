@@ -49,7 +49,7 @@ pub(crate) fn run_words<R: Files + Input + AllocGlobal + Print + Eprint>(
     on_terminal: bool,
 ) -> u8 {
     match settings(rt.alloc(), words) {
-        Ok(settings) if !has_room(rt, settings.explain) => tell_fault(rt, RunFault::Memory),
+        Ok(_) if !has_room(rt) => tell_fault(rt, RunFault::Memory),
         Ok(settings) => run_settings(rt, settings, on_terminal),
         Err(fault) => refuse(rt, fault),
     }

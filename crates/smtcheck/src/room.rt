@@ -1,49 +1,38 @@
 //! What the program asks of the machine before it begins. A stack that can't grow ends a program by a signal, without
-//! a message. Only explanations need more stack where lists nest deeper. This file knows no dialogue and no verdict.
+//! a message. This file knows no dialogue and no verdict.
 
 use std::fs;
 use std::rt::Files;
 
-/// The bytes of stack that are enough for the report on any texts, and for the words of the command line and the
-/// environment. Linux keeps these words on the stack, and they have at most a quarter of this limit.
+/// The bytes of stack that are enough for the report on any texts and its explanation, and for the words of the command
+/// line and the environment. Linux keeps these words on the stack, and they have at most a quarter of this limit.
 const STACK: u64 = 256 << 10;
-
-/// The bytes of stack that are enough where the report is explained besides.
-const EXPLAINING_STACK: u64 = 3 << 20;
 
 /// The bytes of address space that are enough for the program and that stack.
 const ADDRESSES: u64 = 8 << 20;
 
-/// The bytes of a block of stack, and two numbers of blocks that no report, and no explanation, needs in full. The
-/// blocks fit on the least stack beside the words with their quarter.
+/// The bytes of a block of stack, and a number of blocks that no report and no explanation needs in full. The blocks
+/// fit on the least stack beside the words with their quarter.
 const BLOCK: usize = 4096;
 
 const BLOCKS: usize = 40;
 
-const EXPLAINING_BLOCKS: usize = 550;
-
-/// Whether the limits of the process leave room for the stack that any texts need, with an explanation of the report
-/// where `explains`. Where address space is limited, the heap could use all of it: so the program claims that stack at
-/// once. Otherwise the stack grows when it is needed. Linux has the limits in a file; a system without this file counts
-/// as one without limits.
-pub(crate) fn has_room<R: Files + AllocGlobal>(rt: &R, explains: bool) -> bool {
-    let (stack, blocks) = if explains {
-        (EXPLAINING_STACK, EXPLAINING_BLOCKS)
-    } else {
-        (STACK, BLOCKS)
-    };
+/// Whether the limits of the process leave room for the stack that any texts need. Where address space is limited, the
+/// heap could use all of it: so the program claims that stack at once. Otherwise the stack grows when it is needed.
+/// Linux has the limits in a file; a system without this file counts as one without limits.
+pub(crate) fn has_room<R: Files + AllocGlobal>(rt: &R) -> bool {
     let Ok(limits) = fs::read_to_string(rt, "/proc/self/limits") else {
         return true;
     };
     let mut is_limited = false;
     for line in limits.as_str().lines() {
-        if !allows(line, "Max stack size", stack) || !allows(line, "Max address space", ADDRESSES) {
+        if !allows(line, "Max stack size", STACK) || !allows(line, "Max address space", ADDRESSES) {
             return false;
         }
         is_limited |= !allows(line, "Max address space", u64::MAX);
     }
     let mark = limits.as_str().as_bytes().first().copied().unwrap_or(0);
-    !is_limited || takes_stack(blocks, mark)
+    !is_limited || takes_stack(BLOCKS, mark)
 }
 
 // Claims this number of blocks of stack and one more: it fills each with a mark, and returns whether each holds the

@@ -15,9 +15,8 @@
  *    its size.
  *
  * A call keeps no pointer that it is given, so any number of threads may call at a time; a session stays on the thread
- * that began it. 256 KB of the machine's stack are enough for a call, however deep lists nest. smtcheck_explain uses it
- * for lists inside other lists, up to 1,000 deep, and for definitions inside other definitions, with these at most
- * 1,100 deep: it needs 3 MB. Nothing checks it, and a stack that is too small ends the process by a signal.
+ * that began it. 256 KB of the machine's stack are enough for a call, however deep lists nest. Nothing checks it, and a
+ * stack that is too small ends the process by a signal.
  */
 #ifndef SMTCHECK_H
 #define SMTCHECK_H

@@ -1,5 +1,6 @@
 use Rattle.std.proofs.Common.{refl, subst}
-use Rattle.smt_dialogue.proofs.ReplayLemmas.{found_none, found_one, found_unfit, tree_in_turn}
+use Rattle.smt_dialogue.proofs.ReplayAnswerLemmas.{found_none, found_one, found_unfit}
+use Rattle.smt_dialogue.proofs.ReplayLemmas.{tree_in_turn}
 use Rattle.smt_dialogue.specs.Internal.GivenView.{IsTakenOf}
 use Rattle.smt_dialogue.specs.Internal.NextAnswerView.{IsKnown}
 use Rattle.smt_dialogue.specs.declared.next_answer.NextAnswer.{NextAnswer}

@@ -4,7 +4,8 @@ use Rattle.smt_trees.specs.View as view
 use Rattle.smt_script.specs.CommandView.{command_view}
 use Rattle.smt_script.specs.StackView.{profile_of}
 use Rattle.smt_dialogue.proofs.PairingLemmas.{read_again}
-use Rattle.smt_dialogue.proofs.ReplayLemmas.{needs_none, needs_one, needs_unread, never_in_turn}
+use Rattle.smt_dialogue.proofs.ReplayAnswerLemmas.{needs_none, needs_one, needs_unread}
+use Rattle.smt_dialogue.proofs.ReplayLemmas.{never_in_turn}
 use Rattle.smt_dialogue.specs.Answers.{need_of_kind}
 use Rattle.smt_dialogue.specs.Pairs.{effective_commands}
 use Rattle.smt_dialogue.proofs.replay.Replay.need.Goals as goal

@@ -1,5 +1,5 @@
 use Rattle.std.proofs.Common.{refl}
-use Rattle.smt_dialogue.proofs.ReplayLemmas.{next_is, next_none}
+use Rattle.smt_dialogue.proofs.ReplayAnswerLemmas.{next_is, next_none}
 use Rattle.smt_dialogue.proofs.replay.Replay.next_answer.Goals as goal
 
 pub returns-in-Tree-clause-next : goal.returns-in-Tree-clause-next

@@ -1,0 +1,351 @@
+//! The lines on a smallest part: its text, its place, and the values in it. This file evaluates no term itself.
+
+use crate::page::Page;
+use crate::parts::{Known, Part, Walk, is_literal};
+use crate::show::{put_name, put_tree, text_of, value_text};
+use crate::trees::{each, tree_from};
+use crate::world::Defined;
+use smt_faults::Memory;
+use smt_trees::{Tree, Word};
+use smt_values::{OpenReason, Reason, Value, why};
+
+/// Why an integer is open.
+const TOO_LARGE: &[u8] = b"an integer below -2^127 or over 2^127 - 1";
+
+/// The most terms of a part whose values are looked at.
+const MOST_VALUES: usize = 24;
+
+/// Writes a smallest part, with the values in it.
+pub(crate) fn tell_part<'a>(page: &mut Page<'_>, walk: &mut Walk<'a, '_>, part: Part<'a>) {
+    let reason = reason(walk, part);
+    if walk.stop().is_some() {
+        return;
+    }
+    page.put(match part.value {
+        Known::True => b"  true: ",
+        Known::False => b"  false: ",
+        Known::Else => b"  value: ",
+        Known::Open => b"  open: ",
+    });
+    put_tree(page, part.term);
+    if let Some((name, origin)) = part.within {
+        page.put(b"   at ");
+        page.put_place(origin.side, origin.start);
+        page.put(b", in ");
+        put_name(page, name);
+    }
+    page.end();
+    if let Some(reason) = reason {
+        page.put(b"    ");
+        page.line(reason);
+    }
+    tell_values(page, walk, part);
+}
+
+// The reason why a smallest part is open.
+fn reason(walk: &mut Walk<'_, '_>, part: Part<'_>) -> Option<&'static [u8]> {
+    if part.value != Known::Open {
+        return None;
+    }
+    if walk.work.evaluator.parts.is_element(part.node) {
+        return Some(b"an element whose name has over 31 bytes");
+    }
+    let look = walk.look(part.node);
+    let Some(op) = look.op() else {
+        return Some(TOO_LARGE);
+    };
+    let mut values = Vec::new(walk.alloc);
+    if let Tree::List(parts) = part.term {
+        for place in 0..parts.len() {
+            if let Some(node) = look.part(place) {
+                let value = walk.value(part.scope, node);
+                if values.push(value).is_err() {
+                    walk.refuse();
+                }
+            }
+        }
+    }
+    match why(op, values.as_slice()) {
+        Reason::Open(OpenReason::DivisionByZero) => Some(b"a division by zero"),
+        _ => Some(TOO_LARGE),
+    }
+}
+
+// A term whose value is to be written.
+#[derive(Clone, Copy)]
+struct Seen<'a> {
+    term: Tree<'a>,
+    scope: usize,
+    /// Its node, unless it is a name in a larger term.
+    node: Option<usize>,
+}
+
+// The terms whose values are to be written, and the items that give the values.
+#[derive(Drop)]
+struct Told<'a> {
+    seen: Vec<Seen<'a>>,
+    texts: Vec<Vec<u8>>,
+    items: Vec<Defined<'a>>,
+    is_refused: bool,
+}
+
+impl<'a> Told<'a> {
+    fn see(&mut self, term: Tree<'a>, scope: usize, node: Option<usize>) {
+        if self.seen.len() < MOST_VALUES && self.seen.push(Seen { term, scope, node }).is_err() {
+            self.is_refused = true;
+        }
+    }
+
+    // Adds the names in a term.
+    fn see_names(&mut self, term: Tree<'a>, scope: usize) {
+        let Tree::List(parts) = term else {
+            return self.see(term, scope, None);
+        };
+        for before in 0..parts.size() {
+            if self.seen.len() >= MOST_VALUES {
+                return;
+            }
+            if let Some((tree, _)) = tree_from(parts, parts.size() - before)
+                && let Tree::Symbol(_) = tree
+            {
+                self.see(tree, scope, None);
+            }
+        }
+    }
+
+    // Adds an item of the model, unless it is there.
+    fn add_item(&mut self, defined: Defined<'a>) {
+        if !defined.is_item() || self.has_item(defined.name) {
+            return;
+        }
+        if self.items.push(defined).is_err() {
+            self.is_refused = true;
+        }
+    }
+
+    fn has_item(&self, name: &[u8]) -> bool {
+        for item in self.items.as_slice() {
+            if item.name == name {
+                return true;
+            }
+        }
+        false
+    }
+
+    fn has_text(&self, text: &[u8]) -> bool {
+        for other in self.texts.as_slice() {
+            if other.as_slice() == text {
+                return true;
+            }
+        }
+        false
+    }
+}
+
+fn tell_values<'a>(page: &mut Page<'_>, walk: &mut Walk<'a, '_>, part: Part<'a>) {
+    let alloc = walk.alloc;
+    let mut told = Told {
+        seen: Vec::new(alloc),
+        texts: Vec::new(alloc),
+        items: Vec::new(alloc),
+        is_refused: false,
+    };
+    first_seen(walk, part, &mut told);
+    for index in 0..MOST_VALUES {
+        if let Some(next) = told.seen.get(index).copied() {
+            tell_seen(page, walk, next, &mut told);
+        }
+    }
+    if !told.texts.is_empty() {
+        page.end();
+    }
+    tell_items(page, told.items.as_slice());
+    if told.is_refused {
+        walk.refuse();
+    }
+}
+
+// Adds the arguments of a part that are no literals, or the part itself where it is no list.
+fn first_seen<'a>(walk: &Walk<'a, '_>, part: Part<'a>, told: &mut Told<'a>) {
+    let Tree::List(parts) = part.term else {
+        return told.see(part.term, part.scope, Some(part.node));
+    };
+    let Some((head, args)) = parts.split_first() else {
+        return;
+    };
+    let look = walk.look(part.node);
+    for (place, arg, _) in each(args) {
+        if place >= MOST_VALUES {
+            break;
+        }
+        if !is_literal(arg) {
+            told.see(arg, part.scope, look.part(place));
+        }
+    }
+    told.see(head, part.scope, None)
+}
+
+// Writes the value of a term, unless its text is there already.
+fn tell_seen<'a>(
+    page: &mut Page<'_>,
+    walk: &mut Walk<'a, '_>,
+    next: Seen<'a>,
+    told: &mut Told<'a>,
+) {
+    let Ok(text) = text_of(walk.alloc, next.term) else {
+        return walk.refuse();
+    };
+    if told.has_text(text.as_slice()) || !has_value(walk, next) {
+        return see_function(walk, next, told);
+    }
+    let value = value_of(walk, next);
+    if walk.stop().is_some() {
+        return;
+    }
+    page.put(if told.texts.is_empty() {
+        b"    "
+    } else {
+        b", "
+    });
+    tell_value(page, walk, next, text.as_slice(), value);
+    see_more(walk, next, told);
+    if told.texts.push(text).is_err() {
+        walk.refuse();
+    }
+}
+
+// Whether a term has a value: a list that is no attribute or index, a variable, or a name without parameters.
+fn has_value(walk: &Walk<'_, '_>, seen: Seen<'_>) -> bool {
+    match seen.term {
+        Tree::Symbol(name) => {
+            walk.work.find(seen.scope, name).is_some()
+                || match walk.world.find(name) {
+                    Some(defined) => defined.parameters.split_first().is_none(),
+                    None => false,
+                }
+        }
+        Tree::List(parts) => {
+            !matches!(
+                parts.split_first(),
+                None | Some((Tree::Keyword(_) | Tree::Reserved(Word::Underscore), _))
+            )
+        }
+        _ => false,
+    }
+}
+
+// Adds the item of a function of the model that a name is.
+fn see_function<'a>(walk: &Walk<'a, '_>, seen: Seen<'a>, told: &mut Told<'a>) {
+    if let Tree::Symbol(name) = seen.term
+        && let Some(defined) = walk.world.find(name)
+        && walk.work.find(seen.scope, name).is_none()
+    {
+        told.add_item(defined);
+    }
+}
+
+// The value of a term: of its node, of a variable, or of a name.
+fn value_of(walk: &mut Walk<'_, '_>, next: Seen<'_>) -> Option<Value> {
+    if let Some(node) = next.node {
+        return walk.value(next.scope, node);
+    }
+    let Tree::Symbol(name) = next.term else {
+        return None;
+    };
+    if let Some(bound) = walk.work.find(next.scope, name) {
+        return bound.value;
+    }
+    match walk.work.evaluator.parts.body_of(name) {
+        Some(node) => walk.value(0, node),
+        None => None,
+    }
+}
+
+fn tell_value<'a>(
+    page: &mut Page<'_>,
+    walk: &Walk<'a, '_>,
+    next: Seen<'a>,
+    text: &[u8],
+    value: Option<Value>,
+) {
+    page.put_cut(text);
+    if let Tree::Symbol(name) = next.term {
+        tell_source(page, walk, next.scope, name);
+    }
+    page.put(b" = ");
+    match value {
+        Some(value) => match value_text(walk.alloc, &value) {
+            Ok(text) => page.put_uncut(text.as_slice()),
+            Err(Memory) => page.refuse(),
+        },
+        None => page.put(b"open"),
+    }
+}
+
+// Writes the term that gives a variable its value, unless that is a literal, or its names mean something else here.
+fn tell_source(page: &mut Page<'_>, walk: &Walk<'_, '_>, scope: usize, name: &[u8]) {
+    if let Some(bound) = walk.work.find(scope, name)
+        && !is_literal(bound.term)
+        && means_the_same(walk, scope, bound.term_scope, bound.term)
+    {
+        page.put(b" = ");
+        put_tree(page, bound.term);
+    }
+}
+
+// Whether each name in a term is the same variable in two scopes, or no variable in both.
+fn means_the_same(walk: &Walk<'_, '_>, here: usize, there: usize, term: Tree<'_>) -> bool {
+    match term {
+        Tree::Symbol(name) => is_same(walk, here, there, name),
+        Tree::List(parts) => {
+            for before in 0..parts.size() {
+                if let Some((Tree::Symbol(name), _)) = tree_from(parts, parts.size() - before)
+                    && !is_same(walk, here, there, name)
+                {
+                    return false;
+                }
+            }
+            true
+        }
+        _ => true,
+    }
+}
+
+fn is_same(walk: &Walk<'_, '_>, here: usize, there: usize, name: &[u8]) -> bool {
+    walk.work.scope_of(here, name) == walk.work.scope_of(there, name)
+}
+
+// After a term whose value was written: adds the names in it, or the item of the model that gives its value.
+fn see_more<'a>(walk: &Walk<'a, '_>, next: Seen<'a>, told: &mut Told<'a>) {
+    let Tree::Symbol(name) = next.term else {
+        return told.see_names(next.term, next.scope);
+    };
+    if let Some(bound) = walk.work.find(next.scope, name) {
+        if let Tree::Symbol(inner) = bound.term
+            && bound.term_scope == 0
+            && let Some(defined) = walk.world.find(inner)
+            && defined.is_item()
+        {
+            return told.add_item(defined);
+        }
+        return told.see_names(bound.term, bound.term_scope);
+    }
+    match walk.world.find(name) {
+        Some(defined) if defined.is_item() => told.add_item(defined),
+        Some(defined) => told.see_names(defined.body, 0),
+        None => {}
+    }
+}
+
+// Writes the places of the items of the model that give the written names their values.
+fn tell_items(page: &mut Page<'_>, items: &[Defined<'_>]) {
+    for (index, item) in items.iter().enumerate() {
+        page.put(if index == 0 { b"    items: " } else { b", " });
+        put_name(page, item.name);
+        page.put(b" at ");
+        page.put_place(item.origin.side, item.origin.start);
+    }
+    if !items.is_empty() {
+        page.end();
+    }
+}
