@@ -102,7 +102,9 @@ page() {
 put 755 "$program" bin/smtcheck
 "$top/scripts/man_page.sh" "$program" "$top/docs/LANGUAGE.md" >"$work/smtcheck.1"
 put 644 "$work/smtcheck.1" share/man/man1/smtcheck.1
-put 644 "$top/LICENSE" share/doc/smtcheck/LICENSE
+for file in LICENSE docs/explanation.schema.json docs/explanation.sarif.schema.json; do
+    put 644 "$top/$file" "share/doc/smtcheck/$(basename "$file")"
+done
 (cd "$top" && ls README.md CHANGELOG.md docs/*.md) >"$work/pages"
 while read -r file; do
     page "$file"
@@ -122,7 +124,7 @@ if [ -z "$library" ] && [ -e "$built" ] && [ -z "$(find "$top/crates/smtcheck_c/
     "$top/scripts/c_library.sh" "$library" >"$work/log" 2>&1 || { cat "$work/log"; library=; }
 fi
 if [ -n "$library" ]; then
-    soname=libsmtcheck.so.1
+    soname=libsmtcheck.so.2
     put 755 "$library/$soname" "lib/$soname"
     link "$soname" lib/libsmtcheck.so
     put 644 "$library/libsmtcheck.a" lib/libsmtcheck.a

@@ -96,6 +96,9 @@ def options_of_smtcheck() -> List[str]:
     options = os.environ.get("SMTCHECK_OPTIONS", "").split()
     if any(option.split("=")[0] == "--print-success" for option in options):
         raise Refused("SMTCHECK_OPTIONS has --print-success: set PRINT_SUCCESS")
+    for option in options:
+        if option in ("--explain=json", "--explain=sarif"):
+            raise Refused(f"SMTCHECK_OPTIONS has {option}, which prints no report: write --explain")
     return options
 
 

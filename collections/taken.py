@@ -112,6 +112,9 @@ def main(words: Sequence[str]) -> int:
     program, options = os.environ.get("SMTCHECK") or "smtcheck", os.environ.get("SMTCHECK_OPTIONS", "").split()
     if any(option.split("=")[0] == "--print-success" for option in options):
         parser.error("SMTCHECK_OPTIONS has --print-success, which is always off here")
+    for option in options:
+        if option in ("--explain=json", "--explain=sarif"):
+            parser.error(f"SMTCHECK_OPTIONS has {option}, which prints no report")
     status = 0
     for script in given.scripts:
         status = max(status, tell(program, options, script))

@@ -1,5 +1,5 @@
 #!/bin/sh
-# Puts the library for C into a folder: libsmtcheck.a, with the three functions over `malloc` that it calls, libsmtcheck.so.1, which exports
+# Puts the library for C into a folder: libsmtcheck.a, with the three functions over `malloc` that it calls, libsmtcheck.so.2, which exports
 # the calls of smtcheck.h alone, with the link libsmtcheck.so to it, and smtcheck.h.
 # Needs the kit's `rt`, a C compiler, and the libraries below crates/smtcheck_c: those that `rt lib` there, `rt run` in crates/smtcheck or
 # `rt ci` has built. The archive of `rt lib` is taken if it is newer than the code. Else the kit's compiler builds it over these libraries,
@@ -42,6 +42,6 @@ if [ ! -e "$built" ] || [ -n "$(find crates/smtcheck_c/src crates.txt -newer "$b
 fi
 cp crates/smtcheck_c/include/smtcheck.h "$to"
 printf 'create %s\naddlib %s\naddlib %s\nsave\nend\n' "$to/libsmtcheck.a" "$built" "$kit/c/liblibc_c.a" | ar -M
-"${CC:-cc}" -shared -o "$to/libsmtcheck.so.1" -Wl,-soname,libsmtcheck.so.1 -Wl,--version-script="$top/scripts/c_library.map" \
+"${CC:-cc}" -shared -o "$to/libsmtcheck.so.2" -Wl,-soname,libsmtcheck.so.2 -Wl,--version-script="$top/scripts/c_library.map" \
     -Wl,--whole-archive "$to/libsmtcheck.a" -Wl,--no-whole-archive
-ln -sf libsmtcheck.so.1 "$to/libsmtcheck.so"
+ln -sf libsmtcheck.so.2 "$to/libsmtcheck.so"

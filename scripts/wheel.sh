@@ -13,6 +13,6 @@ trap 'rm -rf "$work"' EXIT
 scripts/c_library.sh "$work"
 cp bindings/python/pyproject.toml bindings/python/smtcheck.py bindings/python/smtcheck_wheel.py "$work"
 rm "$work/libsmtcheck.so"
-mv "$work/libsmtcheck.so.1" "$work/libsmtcheck.so"
+mv "$work/libsmtcheck.so.2" "$work/libsmtcheck.so"
 cd "$work"
 PYTHONDONTWRITEBYTECODE=1 python3 -c 'import sys, smtcheck_wheel as w; print(sys.argv[1] + "/" + w.build_wheel(sys.argv[1]))' "$to"

@@ -29,7 +29,7 @@ if command -v nm >"$work/found" && command -v readelf >"$work/found"; then
     nm -D --defined-only "$work/libsmtcheck.so" | awk '{ print $3 }' | LC_ALL=C sort >"$work/exported"
     sed -n 's/^[a-z].* \**\(smtcheck_[a-z_]*\)(.*/\1/p' "$work/smtcheck.h" | LC_ALL=C sort >"$work/declared"
     cmp -s "$work/exported" "$work/declared" || fail "it exports $(cat "$work/exported")"
-    readelf -d "$work/libsmtcheck.so" | grep -q 'SONAME.*\[libsmtcheck\.so\.1\]' || fail 'the shared object has no name'
+    readelf -d "$work/libsmtcheck.so" | grep -q 'SONAME.*\[libsmtcheck\.so\.2\]' || fail 'the shared object has no name'
 fi
 
 # the library's version is the program's

@@ -155,8 +155,8 @@ ends 2 "$all" "$work/strict" "$work/strictly"
 ends 0 "$top/collections/table.sh" --fails-on 'not decided' "$work/strict"
 ends 2 "$top/collections/table.sh" --fails-on 'not strict' "$work/strict"
 ends 0 "$top/collections/taken.sh" plain/unsat.smt2
-# A misspelt option keeps nothing, and writes no run.txt that would refuse the right one.
-for wrong in '--profile wied' '--print-success on' --stepps; do
+# A misspelt option, or one that prints no report, keeps nothing, and writes no run.txt that would refuse the right one.
+for wrong in '--profile wied' '--print-success on' --stepps --explain=json '--strict --explain=sarif'; do
     SMTCHECK_OPTIONS=$wrong ends 5 "$one" "$work/misspelt" plain/sudoku.smt2
     SMTCHECK_OPTIONS=$wrong ends 5 "$all" "$work/misspelt" . 4
     SMTCHECK_OPTIONS=$wrong ends 5 "$top/collections/taken.sh" plain/sudoku.smt2
@@ -289,6 +289,8 @@ SMTCHECK_OPTIONS=--explain ends 1 "$all" ../refuted .
 [ "$(tail -n +2 "$work/table" | cut -f 1,3,4,6,9,16)" = 'lost.smt2	3	no answer	0	fault P1 at command 5	unsat
 then.smt2	3	invalid	1	check 1 at command 3: sat, model of command 4: refuted by the assertion of command 2	-' ] ||
     fail "lines: $(cat "$work/table")"
+grep -q '"explanation": \["[^"]*then.smt2:1:[0-9]*: check 1, command 3: (check-sat)", "[^"]*then.smt2:1:[0-9]*: claim, command 2: ' ../refuted/then.smt2.json ||
+    fail "the explanation: $(cat ../refuted/then.smt2.json)"
 ends 1 "$top/collections/table.sh" --fails-on invalid ../refuted
 ends 2 "$top/collections/table.sh" --fails-on 'no answer' ../refuted
 awk -F '\t' 'NR > 1 && !($14 == "-" && $15 ~ /^[0-9.]+$/) { exit 1 }' "$work/table" || fail "seconds of the processor: $(cat "$work/table")"

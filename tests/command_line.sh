@@ -77,6 +77,13 @@ named '--explain a b' a b on
 named 'a b --explain' a b on
 named '--explain --print-success off --steps 5 a b' a b off
 named '-- --strict --explain' --strict --explain on
+for form in text json sarif; do
+    named "--explain=$form a b" a b on
+    named "a b --explain=$form" a b on
+    named "--explain=$form --print-success off --steps 5 a b" a b off
+    named "-- --explain=$form x" "--explain=$form" x on
+    named "--explain $form b" "$form" b on
+done
 rm -f ./*
 
 # profile WANTED LINE: a script of the profile `wide` has this status with this line.
@@ -288,6 +295,26 @@ error: a value is required for '--hints <on|off>' but none was supplied
 For more information, try '--help'.
 END
 done
+refused '--explain=wrong a b' <<'END'
+error: invalid value 'wrong' for '--explain [<FORM>]'
+  [possible values: text, json, sarif]
+
+For more information, try '--help'.
+END
+refused '--explain= a b' <<'END'
+error: a value is required for '--explain [<FORM>]' but none was supplied
+  [possible values: text, json, sarif]
+
+For more information, try '--help'.
+END
+# (the form stands behind a `=`: another word is a file)
+refused '--explain json a b' <<'END'
+error: unexpected argument 'b' found
+
+Usage: smtcheck [OPTIONS] <SCRIPT> <ANSWERS>
+
+For more information, try '--help'.
+END
 refused '--solver yices a b' <<'END'
 error: invalid value 'yices' for '--solver <NAME>'
   [possible values: z3, cvc5, cvc4, bitwuzla, boolector, smtinterpol]
@@ -380,6 +407,10 @@ twice --profile 'base|wide' wide wide
 twice --solver NAME z3 z3
 twice --solver NAME z3 cvc5
 twice --hints 'on|off' off on
+for line in '--explain --explain' '--explain --explain=json' '--explain=json --explain' '--explain=json --explain=json'; do
+    run "$line a b"
+    [ "$status" = 5 ] && [ ! -s output ] && grep -qx "error: the argument '--explain.*<FORM>]' cannot be used multiple times" errors || fail "$line"
+done
 
 # helped LINE: the line asks for help, which is printed with status 5.
 cat >wanted <<'END'
@@ -427,10 +458,10 @@ Options:
           
           [default: 10000000]
 
-      --explain
-          After the report, say of each check that is not confirmed, and of the fault, where it stands in the files, by line and column, and why: of an assertion or an assumption that is false the part that makes it so, with the values of what stands in it.
+      --explain[=<FORM>]
+          Say of each check that is not confirmed, and of the fault, where it stands in the files, by line and column, and why: of an assertion or an assumption that is false the part that makes it so, with the values of what stands in it.
           
-          The report and the status stay the same. Both texts are kept in memory until then.
+          As text, which --explain alone means too, it is for people and follows the report. As json (an object for each line of the report) or sarif (a document for code review) it stands in place of the report. The status stays the same. Both texts are kept in memory until then.
 
       --hints <on|off>
           Whether standard error gets a hint at a usual mistake, as at exchanged files or a missing option. Without this option there are hints where standard error is a terminal, and with --explain.
@@ -461,6 +492,7 @@ run 'a b -h'
 grep -qxF '      --profile <base|wide>     which language is taken [default: base]' output || fail 'a b -h'
 grep -qxF '      --print-success <on|off>  whether the solver printed `success` from the start [default: on]' output || fail 'a b -h'
 grep -qxF '      --steps <N>               how many steps the evaluation of a model may take [default: 10000000]' output || fail 'a b -h'
+grep -qxF '      --explain[=<FORM>]        say where what is not confirmed stands, and why' output || fail 'a b -h'
 
 # The version is that of CHANGELOG.md, and the kit is the one that is here.
 version=$(sed -n 's/^## //p' "$top/CHANGELOG.md" | head -n 1)

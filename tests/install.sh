@@ -19,7 +19,7 @@ version=$(sed -n 's/^## //p' CHANGELOG.md | head -n 1)
 grep -q "^smtcheck $version (.*) is installed: $work/to/bin/smtcheck\$" "$work/said" || fail "it said $(cat "$work/said")"
 (cd "$work" && PATH=$work/to/bin:$PATH smtcheck "$data/script.smt2" "$data/answers.txt" >report) || fail 'the installed program has another status'
 cmp -s "$work/report" crates/smtcheck/stdout || fail 'the installed program has another report'
-for file in LICENSE CHANGELOG.md LANGUAGE.md SOLVERS.md COLLECTIONS.md CLAIMS.md CONTRACTS.md TESTING.md; do
+for file in LICENSE CHANGELOG.md LANGUAGE.md SOLVERS.md COLLECTIONS.md CLAIMS.md CONTRACTS.md TESTING.md explanation.schema.json; do
     [ -s "$work/to/share/doc/smtcheck/$file" ] || fail "no $file"
 done
 
@@ -78,12 +78,12 @@ if command -v "${CC:-cc}" >"$work/found"; then
     cp crates/smtcheck_c/include/smtcheck.h "$work/library"
     printf '#include "smtcheck.h"\nsize_t smtcheck_version(char *text, size_t room) { (void)text; return room + 7; }\nint other(void) { return 1; }\n' >"$work/stand_in.c"
     (cd "$work" && "${CC:-cc}" -fPIC -Ilibrary -c stand_in.c && ar rc library/libsmtcheck.a stand_in.o)
-    "${CC:-cc}" -shared -o "$work/library/libsmtcheck.so.1" -Wl,-soname,libsmtcheck.so.1 -Wl,--version-script=scripts/c_library.map \
+    "${CC:-cc}" -shared -o "$work/library/libsmtcheck.so.2" -Wl,-soname,libsmtcheck.so.2 -Wl,--version-script=scripts/c_library.map \
         -Wl,--whole-archive "$work/library/libsmtcheck.a" -Wl,--no-whole-archive
     DESTDIR=$work/staged ./install.sh --library "$work/library" /opt/kit >"$work/said" || fail "$(cat "$work/said")"
     [ ! -e /opt/kit ] && grep -qx 'prefix=/opt/kit' "$work/staged/opt/kit/lib/pkgconfig/smtcheck.pc" || fail 'DESTDIR'
     if command -v nm >"$work/found"; then
-        [ "$(nm -D --defined-only "$work/staged/opt/kit/lib/libsmtcheck.so.1" | awk '{ print $3 }')" = smtcheck_version ] || fail 'other names are exported'
+        [ "$(nm -D --defined-only "$work/staged/opt/kit/lib/libsmtcheck.so.2" | awk '{ print $3 }')" = smtcheck_version ] || fail 'other names are exported'
     fi
     printf '#include <smtcheck.h>\nint main(void) { char text[1]; return (int)smtcheck_version(text, 1) - 8; }\n' >"$work/use.c"
     flags="-I$work/staged/opt/kit/include -L$work/staged/opt/kit/lib -lsmtcheck"
@@ -92,7 +92,7 @@ if command -v "${CC:-cc}" >"$work/found"; then
     fi
     # (flags stand between spaces)
     "${CC:-cc}" -o "$work/use" "$work/use.c" $flags || fail 'a program over the installed library'
-    ! "$work/use" 2>"$work/said" && grep -q 'libsmtcheck\.so\.1' "$work/said" || fail 'the library has another name at run time'
+    ! "$work/use" 2>"$work/said" && grep -q 'libsmtcheck\.so\.2' "$work/said" || fail 'the library has another name at run time'
     LD_LIBRARY_PATH=$work/staged/opt/kit/lib "$work/use" || fail 'the installed library'
     [ -e "$work/staged/opt/kit/share/smtcheck/python/libsmtcheck.so" ] || fail 'no library beside the Python module'
 

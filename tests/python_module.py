@@ -1,5 +1,6 @@
 #!/usr/bin/env python3
 """Tests bindings/python/smtcheck.py over the shared library that SMTCHECK_LIBRARY names: python_module.py. Says nothing where all is well."""
+import ctypes
 import importlib.util
 import json
 import os
@@ -169,7 +170,49 @@ class Main(Files):
         done = run("--print-success=off", "--explain", *self.files)
         report, told = (made(SCRIPT, WRONG, print_success=False) for made in (smtcheck.check, smtcheck.explain))
         self.assertEqual((done.returncode, done.stdout.decode()), (1, f"{report}{told}"))
-        self.assertIn("claim: script:1:22", str(told))
+        self.assertIn("\nscript:1:22: claim, command 2: (assert (< 5 x))\n", str(told))
+        self.assertEqual(run("--print-success=off", "--explain=text", *self.files).stdout, done.stdout)
+        self.assertEqual(run("--print-success=off", *self.files, "--explain").stdout, done.stdout)
+
+    def test_an_explanation_in_json(self) -> None:
+        """An object a line, for each check, the fault and the verdict, and no report."""
+        for answers, status, wanted in (
+            (WRONG, 1, [(1, "refuted", 4), (None, "invalid", 0)]),
+            (RIGHT, 0, [(1, "confirmed", 0), (None, "valid", 0)]),
+            ("sat", 3, [(1, "no-model", 2), (None, "missing-answer", 3), (None, "refused", 0)]),
+        ):
+            pathlib.Path(self.files[1]).write_text(answers)
+            done = run("--print-success=off", "--explain=json", *self.files)
+            told = [json.loads(line) for line in done.stdout.decode().splitlines()]
+            self.assertEqual((done.returncode, done.stderr), (status, b""))
+            self.assertEqual([(each["check"], each["outcome"], len(each["remarks"])) for each in told], wanted)
+        self.assertEqual(run("--strict", "--print-success=off", "--explain=json", "/dev/null", "/dev/null").returncode, 2)
+
+    def test_an_explanation_in_sarif(self) -> None:
+        """One document, whose results say what the text does."""
+        done = run("--print-success=off", "--explain=sarif", *self.files)
+        self.assertEqual((done.returncode, done.stderr), (1, b""))
+        document = json.loads(done.stdout)
+        (one,) = document["runs"]
+        (result,) = one["results"]
+        self.assertEqual((document["version"], one["tool"]["driver"]["name"]), ("2.1.0", "smtcheck"))
+        self.assertEqual((result["ruleId"], result["level"]), ("refuted", "error"))
+        self.assertEqual(result["message"]["text"], str(smtcheck.explain(SCRIPT, WRONG, print_success=False)))
+        (place,) = [each["physicalLocation"] for each in result["locations"]]
+        self.assertEqual(place, {"artifactLocation": {"uri": "script"}, "region": {"startLine": 1, "startColumn": 22}})
+        pathlib.Path(self.files[1]).write_text(RIGHT)
+        done = run("--print-success=off", "--explain=sarif", *self.files)
+        self.assertEqual((done.returncode, json.loads(done.stdout)["runs"][0]["results"]), (0, []))
+
+    def test_forms_that_are_refused(self) -> None:
+        """A form stands behind `=`: no next word is taken for one, nor a file that is named like the option."""
+        for line in (["--explain=yaml"], ["--explain="], ["--explain", "json"], ["--explain", "--explain"], ["--explain=json", "--explain"]):
+            self.assertEqual(run(*line, *self.files).returncode, 5, line)
+        for word in ("--explain", "--explain=json"):
+            done = run("--print-success=off", "--", self.files[0], word)
+            self.assertEqual((done.returncode, done.stderr), (4, f"smtcheck: answers\n{word}: No such file or directory\n".encode()))
+        with open("/dev/full", "wb") as full:
+            self.told(4, "smtcheck: output", "--explain=json", *self.files, output=full)
 
     def test_a_strict_status(self) -> None:
         for answers, status in ((RIGHT, 0), (WRONG, 1), ("unsat", 3), ("unsat ()", 2)):
@@ -232,12 +275,17 @@ class Reports(unittest.TestCase):
         self.assertIn("refuted by the assertion of command 2", str(raised.exception))
 
     def test_json_of_an_explanation(self) -> None:
-        """Each part has its name."""
+        """Each remark has its names."""
         told = json.loads(smtcheck.explain(SCRIPT, WRONG, print_success=False).to_json())
         self.assertEqual(told["verdict"], "invalid")
-        part = told["told"][0]["parts"][0]
-        self.assertEqual((part["known"], part["term"], part["values"]), ("false", "(< 5 x)", [{"term": "x", "given": [], "value": "3"}]))
-        self.assertEqual(part["items"], [{"name": "x", "spot": {"text": "answers", "line": 1, "column": 6}}])
+        (each,) = told["told"]
+        self.assertEqual((each["check"], each["outcome"], each["left_out"]), (1, "refuted", 0))
+        self.assertEqual(each["remarks"][1]["spot"], {"text": "script", "line": 1, "column": 22})
+        self.assertEqual(each["remarks"][2], {
+            "kind": "false", "number": None, "spot": {"text": "script", "line": 1, "column": 22}, "command": None, "within": None,
+            "text": "(< 5 x)", "reason": None, "values": [{"term": "x", "given": None, "value": "3"}],
+            "items": [{"name": "x", "spot": {"text": "answers", "line": 1, "column": 6}}],
+        })
 
     def test_json(self) -> None:
         report = smtcheck.check(SCRIPT + "(check-sat)(frob)", WRONG + "unsat", print_success=False)
@@ -275,21 +323,23 @@ class Explanations(unittest.TestCase):
 (check-sat)(get-model)"""
         answers = "sat (\n  (define-fun start () Int 3))"
         (told,) = smtcheck.explain(script, answers, print_success=False).told
-        self.assertEqual((told.check, told.command, told.spot, told.text), (1, 4, smtcheck.Spot("script", 5, 1), "(check-sat)"))
-        (part,) = told.parts
-        self.assertEqual((part.known, part.term, part.within), ("false", "(<= (ends start 2) 4)", None))
-        self.assertEqual(part.values, (smtcheck.Value("(ends start 2)", (), "5"), smtcheck.Value("start", (), "3")))
+        self.assertEqual((told.check, told.outcome, told.command, told.spot), (1, "refuted", 4, smtcheck.Spot("script", 5, 1)))
+        check, claim, part, model = told.remarks
+        self.assertEqual((check.kind, check.number, check.text), ("check", 1, "(check-sat)"))
+        self.assertEqual(told.parts, (part,))
+        self.assertEqual((part.kind, part.text, part.within, part.reason), ("false", "(<= (ends start 2) 4)", None, None))
+        self.assertEqual(part.values, (smtcheck.Value("(ends start 2)", None, "5"), smtcheck.Value("start", None, "3")))
         self.assertEqual(part.items, (smtcheck.Item("start", smtcheck.Spot("answers", 2, 3)),))
-        claim, model = told.details
         self.assertEqual((claim.kind, claim.spot, claim.command), ("claim", smtcheck.Spot("script", 3, 1), 3))
-        self.assertEqual((model.kind, model.spot), ("model", smtcheck.Spot("answers", 1, 5)))
+        self.assertEqual((model.kind, model.spot, model.text), ("model", smtcheck.Spot("answers", 1, 5), ""))
+        self.assertEqual(told.left_out, 0)
 
     def test_a_part_in_a_definition(self) -> None:
         script = "(declare-const |a, b = c| Bool)\n(define-fun not-so ((x Bool)) Bool (= x false))\n(assert (not-so |a, b = c|))(check-sat)(get-model)"
         (told,) = smtcheck.explain(script, "sat ((define-fun |a, b = c| () Bool true))", print_success=False).told
         (part,) = told.parts
-        self.assertEqual((part.term, part.within, part.spot), ("(= x false)", "not-so", smtcheck.Spot("script", 2, 1)))
-        self.assertEqual(part.values, (smtcheck.Value("x", ("|a, b = c|",), "true"),))
+        self.assertEqual((part.text, part.within, part.spot), ("(= x false)", "not-so", smtcheck.Spot("script", 2, 1)))
+        self.assertEqual(part.values, (smtcheck.Value("x", "|a, b = c|", "true"),))
         self.assertEqual(part.items, (smtcheck.Item("|a, b = c|", smtcheck.Spot("answers", 1, 6)),))
 
     def test_names_of_items(self) -> None:
@@ -300,28 +350,70 @@ class Explanations(unittest.TestCase):
             (told,) = smtcheck.explain(script, answers, print_success=False).told
             self.assertEqual([item for part in told.parts for item in part.items], [smtcheck.Item(name, smtcheck.Spot("answers", 3, 3))])
 
+    def test_names_that_forge_nothing(self) -> None:
+        """A name between bars may read like a value, an item, a line or JSON: it stays in the members that it is told in."""
+        for name in ("|b = 5, c|", "|a at answers:1:1, b|", "|a\nanswers:1:1: item b|", '|a","value":"0"}],"items":[{"name":"b|', '|"|', "|} {|"):
+            script = f"(declare-const {name} Int)(declare-const y Int)(assert (< {name} y))(check-sat)(get-model)"
+            explanation = smtcheck.explain(script, f"sat ((define-fun {name} () Int 4)(define-fun y () Int 3))", print_success=False)
+            (told,) = explanation.told
+            (part,) = told.parts
+            shown = name.replace("\n", "\\x0a")
+            self.assertEqual([remark.kind for remark in told.remarks], ["check", "claim", "false", "model"])
+            self.assertEqual(part.values, (smtcheck.Value(shown, None, "4"), smtcheck.Value("y", None, "3")))
+            self.assertEqual([item.name for item in part.items], [name, "y"])
+            places = [f"answers:{spot.line}:{spot.column}:" for spot in (*(item.spot for item in part.items), told.remarks[3].spot)]
+            self.assertEqual([line.split(" ")[0] for line in explanation.text.splitlines() if line.startswith("answers")], places)
+
     def test_an_open_claim(self) -> None:
         script = "(declare-const x Int)(assert (< (div 1 x) 5))(check-sat)(get-model)"
         (told,) = smtcheck.explain(script, "sat ((define-fun x () Int 0))", print_success=False).told
-        self.assertEqual((told.parts[0].known, told.parts[0].term, told.parts[0].reason), ("open", "(div 1 x)", "a division by zero"))
-        self.assertEqual(told.parts[0].values, (smtcheck.Value("x", (), "0"),))
+        (part,) = told.parts
+        self.assertEqual((told.outcome, part.kind, part.text, part.reason), ("not-decided", "open", "(div 1 x)", "a division by zero"))
+        self.assertEqual(part.values, (smtcheck.Value("x", None, "0"),))
+
+    def test_other_checks(self) -> None:
+        """Each check that is not confirmed has its outcome, and its remark."""
+        declared = "(declare-const x Int)(declare-const y Int)"
+        ask = "(check-sat)(get-model)"
+        for script, answers, outcome, kind, text in (
+            ("(check-sat)", "unsat", "unchecked", "answer", "unsat"),
+            ("(check-sat)", "sat", "no-model", "no model", "no (get-model) was answered by a model before the next check or change"),
+            (declared + ask, "sat ((define-fun x () Int 1))", "lacks", "lacks", "(declare-const y Int)"),
+            (declared + ask, "sat ((define-fun x () Int 1)(define-fun x () Int 1))", "item-fault", "item", "(define-fun x () Int 1)"),
+        ):
+            (told,) = smtcheck.explain(script, answers, print_success=False).told
+            self.assertEqual((told.check, told.outcome, told.remarks[1].kind, told.remarks[1].text), (1, outcome, kind, text))
+        (told,) = smtcheck.explain(SCRIPT, RIGHT, print_success=False, steps=0).told
+        self.assertEqual((told.outcome, [remark.kind for remark in told.remarks]), ("too-long", ["check", "too long", "most of it", "model"]))
+
+    def test_what_is_confirmed_is_not_told(self) -> None:
+        """But whatever comes before it and behind it is."""
+        told = smtcheck.explain("(check-sat)" + SCRIPT + "(check-sat)", "unknown " + RIGHT + "unsat", print_success=False)
+        self.assertEqual([(each.check, each.outcome) for each in told.told], [(1, "unchecked"), (3, "unchecked")])
+        self.assertEqual(told.verdict, "valid")
 
     def test_faults(self) -> None:
         told = smtcheck.explain("(assert (! true :named a))\n(assert (! true :named a))", "", print_success=False)
         self.assertEqual(told.verdict, "refused")
         (fault,) = told.told
-        self.assertEqual((fault.check, fault.command, fault.spot), (None, 2, smtcheck.Spot("script", 2, 1)))
-        self.assertEqual([(each.kind, each.spot) for each in fault.details[1:]], [("label", smtcheck.Spot("script", 2, 24)), ("in use", smtcheck.Spot("script", 1, 1))])
+        self.assertEqual((fault.check, fault.outcome, fault.command, fault.spot), (None, "command-fault", 2, smtcheck.Spot("script", 2, 1)))
+        label, other = fault.remarks[2:]
+        self.assertEqual((label.kind, label.spot, other.kind), ("label", smtcheck.Spot("script", 2, 24), "in use"))
+        self.assertEqual(other.spot, smtcheck.Spot("script", 1, 1))
         (fault,) = smtcheck.explain("(assert\n (and p", "", print_success=False).told
-        self.assertEqual((fault.spot, fault.text), (smtcheck.Spot("script", 2, 8), "the text ends here"))
-        self.assertEqual([each.spot for each in fault.details], [smtcheck.Spot("script", 2, 2), smtcheck.Spot("script", 1, 1)])
+        self.assertEqual((fault.outcome, fault.spot, fault.remarks[0].text), ("text-fault", smtcheck.Spot("script", 2, 8), "the text ends here"))
+        self.assertEqual([each.spot for each in fault.remarks[1:]], [smtcheck.Spot("script", 2, 2), smtcheck.Spot("script", 1, 1)])
         (fault,) = smtcheck.explain("(assert (f q))", "", print_success=False).told
-        self.assertEqual((fault.details[1].kind, fault.details[1].text), ("unknown", "q"))
+        self.assertEqual((fault.remarks[2].kind, fault.remarks[2].text), ("unknown", "q"))
         (fault,) = smtcheck.explain("(assert (= 1 true))", "", print_success=False).told
-        self.assertEqual((fault.details[1].kind, fault.details[1].text), ("ill sorted", "(= 1 true)"))
-        self.assertEqual(fault.details[2].text, "argument 2, true, is of sort Bool, and Int is needed")
+        self.assertEqual((fault.remarks[2].kind, fault.remarks[2].text), ("ill sorted", "(= 1 true)"))
+        argument = fault.remarks[3]
+        self.assertEqual((argument.kind, argument.number, argument.text), ("argument", 2, "true is of sort Bool, and Int is needed"))
         check, fault = smtcheck.explain("(check-sat)(frob)", "unsat", print_success=False).told
-        self.assertEqual((check.details[0].kind, check.details[0].text), ("answer", "unsat"))
+        self.assertEqual((check.remarks[1].kind, check.remarks[1].text), ("answer", "unsat"))
+        for script, answers, outcome in (("(check-sat)", "", "missing"), ("(check-sat)", "()", "unexpected"), ("", "sat", "extra")):
+            (fault,) = smtcheck.explain(script, answers, print_success=False).told
+            self.assertEqual((fault.check, fault.outcome), (None, outcome + "-answer"))
 
     def test_all_is_confirmed(self) -> None:
         told = smtcheck.explain(SCRIPT, RIGHT, print_success=False)
@@ -332,14 +424,32 @@ class Explanations(unittest.TestCase):
             smtcheck.explain(SCRIPT, RIGHT, print_success="off")  # type: ignore[arg-type]
         with self.assertRaises(ValueError):
             smtcheck.explain(SCRIPT, RIGHT, steps=2**64 - 1)
-        with self.assertRaises(ValueError):
-            smtcheck.explanation_of("  claim: script:1:1, command 1: x")
+
+    def test_a_form_that_there_is_not(self) -> None:
+        """The library refuses it, and writes nothing."""
+        library, options = smtcheck._library(), smtcheck._options_of(False, 10, "base")
+        for form, steps, wanted in ((0, 10, 0), (1, 10, 0), (2, 10, 0), (3, 10, 5), (2**32 - 1, 10, 5), (0, 2**64 - 1, 5)):
+            options.steps = steps
+            buffer, length = ctypes.create_string_buffer(b"#" * 4096), ctypes.c_size_t(7)
+            self.assertEqual(library.smtcheck_explain(b"", 0, b"", 0, options, form, buffer, 4096, length), wanted)
+            if wanted == 5:
+                self.assertEqual((buffer.raw[:4096], length.value), (b"#" * 4096, 7))
+
+    def test_many_remarks(self) -> None:
+        """Only the first 199 are told, and how many more there are."""
+        script = "(declare-const x Int)" + "(assert (< 5 x))" * 300 + "(check-sat)(get-model)"
+        explanation = smtcheck.explain(script, WRONG, print_success=False)
+        (told,) = explanation.told
+        self.assertEqual(len(told.remarks), 199)
+        self.assertLessEqual(len(explanation.text.splitlines()), 200)
 
     def test_long_lines(self) -> None:
+        """Each value is told whole, however many there are."""
         names = " ".join("name%d" % number for number in range(60))
         script = "".join("(declare-const name%d Int)" % number for number in range(60)) + f"(assert (< (+ {names}) 0))(check-sat)(get-model)"
         answers = "sat (" + "".join("(define-fun name%d () Int %d)" % (number, number) for number in range(60)) + ")"
         (told,) = smtcheck.explain(script, answers, print_success=False).told
+        self.assertGreater(len(told.parts[0].values), 20)
         for value in told.parts[0].values:
             self.assertTrue(value.term.startswith("(") or value.term == "name" + value.value, value)
 

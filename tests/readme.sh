@@ -60,9 +60,7 @@ for commands in "$work"/block*.commands; do
 done
 [ "$count" -ge 5 ] && [ "$(ls "$work"/block*.shown | wc -l)" -ge 3 ] || fail 'too few commands or outputs were found'
 
-# What it shows besides: lines of reports, the command that is named, the answer of a forgotten option, the kit, and its own length.
-grep -qF '`(assert (before drilling 2 painting))`' README.md
-[ "$(grep -v '^;' crates/smtcheck/data/jobs.smt2 | sed -n 10p)" = '(assert (before drilling 2 painting))' ] || fail 'command 10 is another'
+# What it shows besides: lines of reports, the answer of a forgotten option, the kit, and its own length.
 "$top/crates/smtcheck/out/smtcheck" crates/smtcheck/data/jobs.smt2 crates/smtcheck/data/jobs.txt >"$work/printed" || [ $? = 3 ]
 grep -qx 'fault P2 at command 1, answer 1' "$work/printed" || fail "without the option: $(cat "$work/printed")"
 HOME=$work/home ./install.sh "$work/home/.local" >"$work/printed" || fail 'install.sh'

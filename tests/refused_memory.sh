@@ -86,6 +86,17 @@ judge_program() {
     fi
 }
 
+# An explained run may also have the status and the report that it has without an explanation, or no output in a form without a report, and say
+# that there is no explanation.
+judge_explained() {
+    if [ "$status" = "$right" ] && [ "$met" = yes ] && ! cmp -s "$work/output" "$work/right"; then
+        cmp -s "$work/output" "$work/report" || fail "$what" 'another report'
+        grep -qx 'smtcheck: the explanation could not be made, or not be written' "$work/errors" || fail "$what" "$(cat "$work/errors")"
+    else
+        judge_program
+    fi
+}
+
 program() {
     what=$1
     shift
@@ -230,6 +241,13 @@ program 'the texts swapped' "$data/answers.txt" "$data/script.smt2"
 program 'a missing file' "$data/script.smt2" "$work/none"
 program 'a word too many' "$data/script.smt2" "$data/answers.txt" "$data/script.smt2"
 program 'help' --help
+judge=judge_explained
+for form in text json sarif; do
+    : >"$work/report"
+    [ "$form" != text ] || "$top/crates/smtcheck/out/smtcheck" "$top/tests/every_kind.smt2" "$top/tests/every_kind.txt" >"$work/report" || [ $? = 3 ]
+    program "an explanation as $form" "--explain=$form" "$top/tests/every_kind.smt2" "$top/tests/every_kind.txt"
+done
+judge=judge_program
 tests/chain.sh 1000 1 >"$work/script"
 echo 'sat ()' >"$work/answers"
 copies 'every command' 150 "$top/tests/every_command.smt2" "$top/tests/every_command.txt"

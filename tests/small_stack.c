@@ -104,11 +104,16 @@ static uint32_t whole(const struct smtcheck_options *options, const char *script
     return smtcheck_validate(script, strlen(script), answers, strlen(answers), options, &summary, text, sizeof text, &wanted);
 }
 
-/* The verdict on two whole texts that comes with their explanation. */
+/* The verdict on two whole texts that comes with their explanation; SMTCHECK_OPTIONS where it depends on the form. */
 static uint32_t explained(const struct smtcheck_options *options, const char *script, const char *answers) {
     static char text[1 << 16];
+    uint32_t outcomes[SMTCHECK_SARIF + 1];
     size_t wanted = 0;
-    return smtcheck_explain(script, strlen(script), answers, strlen(answers), options, text, sizeof text, &wanted);
+    for (uint32_t form = SMTCHECK_TEXT; form <= SMTCHECK_SARIF; form++) {
+        outcomes[form] = smtcheck_explain(script, strlen(script), answers, strlen(answers), options, form, text, sizeof text, &wanted);
+        if (outcomes[form] != outcomes[SMTCHECK_TEXT]) return SMTCHECK_OPTIONS;
+    }
+    return outcomes[SMTCHECK_TEXT];
 }
 
 /* The verdict of a session that is told the script, and then the answers, in pieces of seven bytes. */

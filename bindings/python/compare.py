@@ -2,9 +2,13 @@
 """Compares the library with the program on the dialogues of a file of rows: compare.py PROGRAM CHECK ROWS.
 
 PROGRAM is `smtcheck`, and CHECK the example in C. Each has to print the same bytes with the same status; so has `check` of smtcheck.py,
-and `python -m smtcheck` on some of the dialogues, but in the profile `wide` that example, which knows no profile; `explain` has to tell what the program does with `--explain`, also where the last figure or
-truth value of the answers is another. It prints the first difference, and has status 1 there.
+and `python -m smtcheck` on some of the dialogues, but in the profile `wide` that example, which knows no profile. Explanations have to be
+the program's in each form, and to say the same in each, also where the last figure or truth value of the answers is another. It prints the
+first difference, and has status 1 there.
 """
+import contextlib
+import io
+import json
 import os
 import re
 import subprocess
@@ -37,16 +41,77 @@ def changed(answers: bytes) -> bytes:
     return found.group(1) + other + found.group(3)
 
 
+def printed(*words: str) -> "tuple[int, bytes]":
+    """The status of a run of `python -m smtcheck`, and what it prints, in this process."""
+    with contextlib.redirect_stdout(io.StringIO()) as out:
+        status = smtcheck.main(words)
+    return status, out.getvalue().encode()
+
+
+def values_of(values: "list[dict]") -> "list[str]":
+    """The lines of text with the values of a remark: side by side, each whole on a line."""
+    lines: "list[str]" = []
+    for value in values:
+        needed = len(value["term"]) + len(value["value"]) + 8 + (len(value["given"]) + 3 if value["given"] is not None else 0)
+        shown = " = ".join(part for part in (value["term"], value["given"], value["value"]) if part is not None)
+        if lines and len(lines[-1]) + needed <= 200:
+            lines[-1] += ", " + shown
+        else:
+            lines.append("    " + shown)
+    return lines
+
+
+def text_of(told: "dict") -> str:
+    """The text for an object of JSON."""
+
+    def place(spot: "dict | None") -> str:
+        return f"{spot['file']}:{spot['line']}:{spot['column']}: " if spot else "    "
+
+    lines = []
+    for remark in told["remarks"]:
+        head = remark["kind"]
+        for name, before in (("number", " "), ("command", ", command "), ("in", ", in ")):
+            head += "" if remark[name] is None else f"{before}{remark[name]}"
+        lines.append(place(remark["spot"]) + ": ".join(part for part in (head, remark["text"]) if part))
+        lines += ["    " + remark["reason"]] if remark["reason"] is not None else []
+        lines += values_of(remark["values"])
+        lines += [place(item["spot"]) + "item " + item["name"] for item in remark["items"]]
+    left_out = told["left_out"] + max(len(lines) - 199, 0)
+    lines = lines[:199] + ([f"    (and {left_out} more)"] if left_out else [])
+    return "".join(line[:200] + "\n" for line in lines)
+
+
 def is_explained(program: str, folder: str, start: str, profile: str, script: bytes, answers: bytes) -> bool:
-    """Whether `explain` tells what the program prints behind its report, and each line of it is read."""
-    for name, text in (("script", script), ("answers", answers)):
-        with open(os.path.join(folder, name), "wb") as out:
+    """Whether explanations are the program's in each form, and `explain` tells all of them."""
+    files = [os.path.join(folder, name) for name in ("script", "answers")]
+    for path, text in zip(files, (script, answers)):
+        with open(path, "wb") as out:
             out.write(text)
-    status, printed = run(program, "--explain", "--print-success", start, "--profile", profile, "script", "answers", cwd=folder)
+    forms = {}
+    for form in smtcheck.FORMS:
+        words = (f"--explain={form}", "--print-success", start, "--profile", profile)
+        forms[form] = run(program, *words, "script", "answers", cwd=folder)
+        if printed(*words, *files) != forms[form]:
+            return False
     report = smtcheck.check(script, answers, print_success=start == "on", profile=profile)
     told = smtcheck.explain(script, answers, print_success=start == "on", profile=profile)
-    lines = sum(line.outcome != "confirmed" for line in report.lines)
-    return (status, printed) == (report.status, (report.text + told.text).encode()) and len(told.told) == lines and told.verdict == report.verdict
+    objects = [json.loads(line) for line in forms["json"][1].splitlines()]
+    results = json.loads(forms["sarif"][1])["runs"][0]["results"]
+    open_objects = [each for each in objects if each["remarks"]]
+    return (
+        forms["text"] == (report.status, (report.text + told.text).encode())
+        # an object for each line and the verdict, with remarks where the line is not confirmed
+        and objects[-1] == {"check": None, "outcome": report.verdict.replace(" ", "-"), "remarks": [], "left_out": 0}
+        and [each["check"] for each in objects[:-1]] == [line.check for line in report.lines]
+        and [not each["remarks"] for each in objects[:-1]] == [line.outcome == "confirmed" for line in report.lines]
+        # which say what the text says, as the results do, and `explain`
+        and "".join(map(text_of, open_objects)) == told.text
+        and [(each["ruleId"], each["message"]["text"]) for each in results] == [(each["outcome"], text_of(each)) for each in open_objects]
+        and told.verdict == report.verdict
+        and [(each.check, each.command) for each in told.told] == [(line.check, line.command) for line in report.lines if line.outcome != "confirmed"]
+        and [(each.outcome, [remark.text for remark in each.remarks], each.left_out) for each in told.told]
+        == [(each["outcome"], [remark["text"] for remark in each["remarks"]], each["left_out"]) for each in open_objects]
+    )
 
 
 def main(program: str, check: str, path: str) -> int:

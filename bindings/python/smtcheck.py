@@ -18,10 +18,10 @@ verdict: invalid, confirmed 0, refuted 1, undecided 0, unchecked 0
 `explain` tells where in both texts that is, and why:
 
 >>> told = explain(script, "sat ((define-fun x () Int 3))", print_success=False).told[0]
->>> told.spot, told.parts[0].known, told.parts[0].term
-(Spot(text='script', line=1, column=38), 'false', '(< 5 x)')
+>>> told.outcome, told.spot, told.parts[0].kind, told.parts[0].text
+('refuted', Spot(text='script', line=1, column=38), 'false', '(< 5 x)')
 >>> told.parts[0].values, told.parts[0].items
-((Value(term='x', given=(), value='3'),), (Item(name='x', spot=Spot(text='answers', line=1, column=6)),))
+((Value(term='x', given=None, value='3'),), (Item(name='x', spot=Spot(text='answers', line=1, column=6)),))
 
 `check_files` checks two files, and a `Session` takes both texts piece by piece, and hands out each line once it is decided:
 
@@ -46,17 +46,18 @@ import operator
 import os
 import re
 import sys
-from typing import Callable, Dict, Iterator, List, NamedTuple, NoReturn, Optional, Sequence, Tuple, Union
+from typing import Any, Callable, Dict, Iterator, List, NamedTuple, NoReturn, Optional, Sequence, Tuple, Union
 
 __all__ = [
-    "Detail", "Explained", "Explanation", "Item", "LibraryError", "Line", "PROFILES", "Part", "Place", "Report", "SOLVERS", "STEPS", "Session",
-    "Spot", "VERDICTS", "Value", "VerdictError", "check", "check_files", "explain", "explanation_of", "line_of", "main", "version",
+    "Explained", "Explanation", "FORMS", "Item", "LibraryError", "Line", "PROFILES", "Place", "Remark", "Report", "SOLVERS", "STEPS", "Session",
+    "Spot", "VERDICTS", "Value", "VerdictError", "check", "check_files", "explain", "line_of", "main", "version",
 ]
 __version__ = "0.9.0"
 
 VERDICTS = ("valid", "invalid", "not decided", "refused")
 PROFILES = ("base", "wide")
 SOLVERS = ("z3", "cvc5", "cvc4", "bitwuzla", "boolector", "smtinterpol")
+FORMS = ("text", "json", "sarif")
 MEMORY, OPTIONS, OPEN, LONG = 4, 5, 6, 7
 STEPS = 10_000_000
 
@@ -207,10 +208,10 @@ class Value(NamedTuple):
     """What a term has for a value in a model."""
 
     term: str
-    given: Tuple[str, ...]
-    """of a variable, the terms that it stands for"""
+    given: Optional[str]
+    """of a variable, the term that it stands for"""
     value: str
-    """a constant, or `open` where the value is not known, or `(not shown: ..)` with the reason where it was not looked for"""
+    """a constant, or `open`"""
 
 
 class Item(NamedTuple):
@@ -220,33 +221,28 @@ class Item(NamedTuple):
     spot: Spot
 
 
-class Part(NamedTuple):
-    """A smallest part of a claim, which makes it false or open."""
-
-    known: str
-    """`true`, `false`, `open`, or `value` where it is no truth value"""
-    term: str
-    """its text; of a long one the middle is left out, and ` .. ` stands there"""
-    within: Optional[str]
-    """the definition or label that it stands in, if it is in one"""
-    spot: Optional[Spot]
-    """where that stands"""
-    reason: Optional[str]
-    """why it is open, or that this was not looked for"""
-    values: Tuple[Value, ...]
-    items: Tuple[Item, ...]
-
-
-class Detail(NamedTuple):
-    """Another line of an explanation."""
+class Remark(NamedTuple):
+    """One thing that is told."""
 
     kind: str
-    """the words that it begins with, as `claim`, `model`, `also false`, `in use` or `item 2`; of any other line nothing"""
+    """the words for what it is: `check` or `fault`, `claim`, `model`, `also false`, `in use` and so on; `true`, `false`, `open` or `value`
+    of a smallest part of a claim, which makes the claim false or open; of a sentence nothing"""
+    number: Optional[int]
+    """the number of what it is, as of a check or an item"""
     spot: Optional[Spot]
+    """where that stands; of a part that stands in a definition, where the definition does"""
     command: Optional[int]
     """the command that stands there"""
+    within: Optional[str]
+    """the definition or label that a part stands in, if it is in one"""
     text: str
-    """the rest of the line"""
+    """what stands there, or what there is to say, in at most 200 characters; of a long text ` .. ` stands for the middle"""
+    reason: Optional[str]
+    """of a part why it is open, or why it is told"""
+    values: Tuple[Value, ...]
+    """of a part the values in it"""
+    items: Tuple[Item, ...]
+    """of a part the items of the model that give them"""
 
 
 class Explained(NamedTuple):
@@ -254,13 +250,28 @@ class Explained(NamedTuple):
 
     check: Optional[int]
     """the check, counted from 1; of a fault none"""
-    spot: Optional[Spot]
-    command: Optional[int]
-    """the command of the check or of the fault, if it is at one"""
-    text: str
-    """the text that stands there"""
-    parts: Tuple[Part, ...]
-    details: Tuple[Detail, ...]
+    outcome: str
+    """`unchecked`, `no-model`, `item-fault`, `lacks`, `too-long`, `refuted` or `not-decided`; of a fault `text-fault`, `command-fault`,
+    `missing-answer`, `unexpected-answer` or `extra-answer`"""
+    remarks: Tuple[Remark, ...]
+    """first the check or the fault itself, then why"""
+    left_out: int
+    """how many remarks more there are: only the first 199 are told"""
+
+    @property
+    def spot(self) -> Optional[Spot]:
+        """Where the check or the fault stands."""
+        return self.remarks[0].spot if self.remarks else None
+
+    @property
+    def command(self) -> Optional[int]:
+        """The command of the check or of the fault, if it is at one."""
+        return self.remarks[0].command if self.remarks else None
+
+    @property
+    def parts(self) -> Tuple[Remark, ...]:
+        """The smallest parts of the claim that make it false or open."""
+        return tuple(remark for remark in self.remarks if remark.kind in ("true", "false", "open", "value"))
 
 
 class Explanation(NamedTuple):
@@ -271,19 +282,19 @@ class Explanation(NamedTuple):
     told: Tuple[Explained, ...]
     """of each check that is not confirmed, and of the fault, in order"""
     text: str
-    """what the program prints behind the report"""
+    """what the program prints behind the report with `--explain`"""
 
     def __str__(self) -> str:
         return self.text
 
     def to_json(self, **options: object) -> str:
-        """The explanation as an object of JSON: `verdict`, and `told` with the parts of each Explained by their names. The options are those
+        """The explanation as an object of JSON: `verdict`, and `told` with all that each Explained has, by its names. The options are those
         of `json.dumps`.
 
         >>> script = "(declare-const x Int)(assert (< 5 x))(check-sat)(get-model)"
         >>> told = json.loads(explain(script, "sat ((define-fun x () Int 3))", print_success=False).to_json())
-        >>> told["told"][0]["parts"][0]["values"]
-        [{'term': 'x', 'given': [], 'value': '3'}]
+        >>> told["told"][0]["remarks"][2]["values"]
+        [{'term': 'x', 'given': None, 'value': '3'}]
         """
         return json.dumps({"verdict": self.verdict, "told": _object_of(self.told)}, **options)  # type: ignore[arg-type]
 
@@ -332,7 +343,7 @@ def _with_types(library: ctypes.CDLL) -> ctypes.CDLL:
     options, session, wanted = ctypes.POINTER(_Options), ctypes.POINTER(_Session), ctypes.POINTER(size)
     calls = {
         "validate": (number, [text, size, text, size, options, ctypes.POINTER(_Summary), text, size, wanted]),
-        "explain": (number, [text, size, text, size, options, text, size, wanted]),
+        "explain": (number, [text, size, text, size, options, number, text, size, wanted]),
         "version": (size, [text, size]),
         "session_new": (number, [options, session]),
         "session_script": (number, [session, text, size]),
@@ -432,24 +443,31 @@ def check(script: Text, answers: Text, print_success: bool = True, steps: int = 
     )
 
 
+def _explained(texts: Sequence[bytes], options: _Options, form: str) -> Tuple[int, str]:
+    """The number of the verdict, and the explanation in one of FORMS."""
+    script, answers = texts
+    return _filled(
+        lambda *room: _library().smtcheck_explain(script, len(script), answers, len(answers), options, FORMS.index(form), *room)
+    )
+
+
 def explain(script: Text, answers: Text, print_success: bool = True, steps: int = STEPS, profile: str = "base") -> Explanation:
     """Where each check that is not confirmed stands in the two texts, and the fault, and why. The arguments are those of `check`.
 
     The verdict is proved to be that of the report, and values are those of the proved evaluator. All else that it says is tested.
 
     >>> told = explain("(assert (and true))", "", print_success=False).told[0]
-    >>> told.check, told.spot, told.command
-    (None, Spot(text='script', line=1, column=1), 1)
-    >>> told.details[0].text
+    >>> told.check, told.outcome, told.spot, told.command
+    (None, 'command-fault', Spot(text='script', line=1, column=1), 1)
+    >>> told.remarks[1].text
     'C7: F4: arguments that the head does not take, or another sort than is needed'
     >>> explain("(check-sat)(get-model)", "sat ()", print_success=False)
     Explanation(verdict='valid', told=(), text='')
     """
     options = _options_of(print_success, steps, profile)
     texts = [_bytes_of(script, "script"), _bytes_of(answers, "answers")]
-    outcome, text = _filled(lambda *room: _library().smtcheck_explain(texts[0], len(texts[0]), texts[1], len(texts[1]), options, *room))
-    told = _with_names(explanation_of(text), {"script": texts[0], "answers": texts[1]})
-    return Explanation(VERDICTS[outcome], told, text)
+    outcome, told = _explained(texts, options, "json")
+    return Explanation(VERDICTS[outcome], _told_of(told, texts[1]), _explained(texts, options, "text")[1])
 
 
 def check_files(script: Path, answers: Path, print_success: bool = True, steps: int = STEPS, profile: str = "base") -> Report:
@@ -632,130 +650,45 @@ def line_of(text: str) -> Line:
     return Line(int(check_number), int(command), finding, place)
 
 
-_WIDTH = 200  # the most bytes of a line of an explanation
-_SPOT = r"(script|answers):(\d+):(\d+)"
-_TOLD = re.compile(rf"(?:check (\d+)|fault): {_SPOT}(?:, command (\d+))?(?:: (.*))?")
-_PART = re.compile(rf"  (true|false|open|value): (?!the (?:outermost )?list at )(.*?)(?:   at {_SPOT}, in (.*))?")
-_DETAIL = re.compile(rf"  ([a-z][a-z ]*?(?:,? \d+)?)(?:: the [a-z ]+)?(?:: | at ){_SPOT}(?:, command (\d+))?(?:: (.*))?")
-_NAMED = re.compile(r"  (unknown|bound twice|claim|also false|too long|no model|ill sorted|parameters declared): (.*)")
-_AT = re.compile(rf" at {_SPOT}(?=, |$)")
 _DEFINED = re.compile(rb"\((?:\s|;[^\n\r]*)*[^\s()|;\"]+(?:\s|;[^\n\r]*)*(?:\|([^|]*)\||([^\s()|;\"]+))")
 _SIMPLE = re.compile(r"[A-Za-z~!@$%^&*_+=<>.?/-][0-9A-Za-z~!@$%^&*_+=<>.?/-]*")
-_TOKEN = re.compile(r'\|[^|]*\||"[^"]*"|[()]|[^\s()|",]+|\s')
 
 
-def _spot(text: Optional[str], line: Optional[str], column: Optional[str]) -> Optional[Spot]:
-    return None if text is None else Spot(text, int(line or 0), int(column or 0))
-
-
-def _end_of_term(text: str, begin: int) -> Optional[int]:
-    """The end of the whole term that begins there, if there is one: of a term whose middle is left out nobody knows it."""
-    depth, place = 0, begin
-    while True:
-        token = _TOKEN.match(text, place)
-        if token is None or token.group() == "..":
-            return None
-        place = token.end()
-        depth += {"(": 1, ")": -1}.get(token.group(), 0)
-        if depth <= 0:
-            return place
-
-
-def _values_of(text: str) -> "Tuple[Value, ...]":
-    """The values of a line, as far as they stand there whole."""
-    values, place = [], 0
-    while True:
-        terms = []
-        while True:
-            end = _end_of_term(text, place)
-            if end is None:
-                return tuple(values)
-            terms.append(text[place:end])
-            if not text.startswith(" = ", end):
-                break
-            place = end + 3
-        # (a value at the end of a line that is full may be cut)
-        whole = end < len(text) or len(text) + 4 < _WIDTH
-        if len(terms) > 1 and whole:
-            values.append(Value(terms[0], tuple(terms[1:-1]), terms[-1]))
-        if not text.startswith(", ", end):
-            return tuple(values)
-        place = end + 2
-
-
-def _items_of(text: str) -> "Tuple[Item, ...]":
-    """The items of a line, as far as they stand there whole: each a symbol, whose bars may hold anything, and its place."""
-    items: List[Item] = []
-    place = 0
-    while True:
-        token = _TOKEN.match(text, place)
-        found = _AT.match(text, token.end()) if token else None
-        # (the last place of a line that is full may be cut)
-        if token is None or found is None or (found.end() == len(text) and len(text) + 11 >= _WIDTH):
-            return tuple(items)
-        items.append(Item(token.group(), Spot(found.group(1), int(found.group(2)), int(found.group(3)))))
-        place = found.end() + 2
-
-
-def _name_at(text: bytes, spot: Spot) -> Optional[str]:
-    """The name of the item that stands there in a text, which a line of an explanation may show in part."""
-    place = 0
-    for _ in range(spot.line - 1):
-        place = text.find(b"\n", place) + 1
-    found = _DEFINED.match(text, place + spot.column - 1)
+def _name_at(text: bytes, place: int) -> Optional[str]:
+    """The name of the item that stands at a byte of a text, which an explanation may show in part."""
+    found = _DEFINED.match(text, place)
     if found is None:
         return None
     name = (found.group(2) if found.group(1) is None else found.group(1)).decode("utf-8", "surrogateescape")
     return name if _SIMPLE.fullmatch(name) else f"|{name}|"
 
 
-def _with_names(told: "Tuple[Explained, ...]", texts: "Dict[str, bytes]") -> "Tuple[Explained, ...]":
-    """The explanation with the whole name of each item."""
-
-    def named(item: Item) -> Item:
-        return item._replace(name=_name_at(texts[item.spot.text], item.spot) or item.name)
-
-    def whole(part: Part) -> Part:
-        return part._replace(items=tuple(named(item) for item in part.items))
-
-    return tuple(each._replace(parts=tuple(whole(part) for part in each.parts)) for each in told)
+def _spot_of(told: "Dict[str, Any]") -> Spot:
+    return Spot(told["file"], told["line"], told["column"])
 
 
-def _with_line(part: Part, text: str) -> Part:
-    """The part with what a line behind it tells."""
-    if text.startswith("items: "):
-        return part._replace(items=_items_of(text[7:]))
-    values = _values_of(text)
-    return part._replace(values=values) if values or part.known != "open" else part._replace(reason=text)
+def _remark_of(told: "Dict[str, Any]", answers: bytes, begins: "List[int]") -> Remark:
+    """The remark of an object of JSON, with the whole names of items; `begins` has the byte of the answers where each line begins."""
+
+    def item_of(each: "Dict[str, Any]") -> Item:
+        spot = _spot_of(each["spot"])
+        return Item(_name_at(answers, begins[spot.line - 1] + spot.column - 1) or each["name"], spot)
+
+    spot = None if told["spot"] is None else _spot_of(told["spot"])
+    values = tuple(Value(each["term"], each["given"], each["value"]) for each in told["values"])
+    items = tuple(item_of(each) for each in told["items"])
+    return Remark(told["kind"], told["number"], spot, told["command"], told["in"], told["text"], told["reason"], values, items)
 
 
-def _detail_of(line: str) -> Detail:
-    found = _DETAIL.fullmatch(line)
-    if found:
-        return Detail(found.group(1), _spot(*found.group(2, 3, 4)), _number(found.group(5)), found.group(6) or "")
-    found = _NAMED.fullmatch(line)
-    return Detail(found.group(1), None, None, found.group(2)) if found else Detail("", None, None, line.strip())
-
-
-def explanation_of(text: str) -> "Tuple[Explained, ...]":
-    """What an explanation tells whose texts are called `script` and `answers`."""
-    told: List[Explained] = []
-    for line in text.splitlines():
-        found = _TOLD.fullmatch(line)
-        if found:
-            told.append(Explained(_number(found.group(1)), _spot(*found.group(2, 3, 4)), _number(found.group(5)), found.group(6) or "", (), ()))
-            continue
-        if not told:
-            raise ValueError(f"no line of an explanation: {line}")
-        last = told[-1]
-        found = _PART.fullmatch(line)
-        if found:
-            known, term, *spot, within = found.groups()
-            told[-1] = last._replace(parts=last.parts + (Part(known, term, within, _spot(*spot), None, (), ()),))
-        elif line.startswith("    ") and last.parts:
-            told[-1] = last._replace(parts=last.parts[:-1] + (_with_line(last.parts[-1], line[4:]),))
-        else:
-            told[-1] = last._replace(details=last.details + (_detail_of(line),))
+def _told_of(text: str, answers: bytes) -> "Tuple[Explained, ...]":
+    """What an explanation in JSON tells of the checks that are not confirmed, and of the fault. The verdict comes last there."""
+    begins = [0, *(end.end() for end in re.finditer(rb"\n", answers))]
+    told = []
+    for line in text.splitlines()[:-1]:
+        each = json.loads(line)
+        if each["outcome"] != "confirmed":
+            remarks = tuple(_remark_of(remark, answers, begins) for remark in each["remarks"])
+            told.append(Explained(each["check"], each["outcome"], remarks, each["left_out"]))
     return tuple(told)
 
 
@@ -776,6 +709,12 @@ class _Parser(argparse.ArgumentParser):
         if message:
             sys.stderr.write(message)
         sys.exit(5)
+
+
+def _with_forms(words: Sequence[str]) -> List[str]:
+    """The words, in which each `--explain` has a form: one that is given stands behind `=`, and no next word is taken for it."""
+    end = words.index("--") if "--" in words else len(words)
+    return ["--explain=text" if word == "--explain" and at < end else word for at, word in enumerate(words)]
 
 
 def _steps(word: str) -> int:
@@ -815,7 +754,8 @@ def _print(text: str) -> bool:
 
 
 def main(words: Optional[Sequence[str]] = None) -> int:
-    """The program: prints the report on two files, and answers its exit status. It answers 0 to 3 only behind a whole report."""
+    """The program: prints the report on two files, and answers its exit status. It answers 0 to 3 only behind a whole report, or behind the
+    whole explanation that it prints in place of a report."""
     parser = _Parser("smtcheck", description="Checks the models that an SMT solver printed.", allow_abbrev=False)
     parser.add_argument("script", metavar="SCRIPT", help="the script that the solver read; one of the two files may be `-`, standard input")
     parser.add_argument("answers", metavar="ANSWERS", help="what the solver printed")
@@ -823,7 +763,8 @@ def main(words: Optional[Sequence[str]] = None) -> int:
     parser.add_argument("--print-success", action=_Once, choices=("on", "off"), help="whether it prints `success`, from the start (on)")
     parser.add_argument("--profile", action=_Once, choices=PROFILES, help="which language is taken (base)")
     parser.add_argument("--steps", action=_Once, metavar="N", type=_steps, default=STEPS, help="how many steps the evaluation of a model may take")
-    parser.add_argument("--explain", action="store_true", help="tells behind the report where and why, and calls the files `script` and `answers`")
+    explain_help = "tells where and why, behind the report; with =json or =sarif in place of it. The files are called `script` and `answers`"
+    parser.add_argument("--explain", action=_Once, choices=FORMS, nargs="?", metavar="=FORM", help=explain_help)
     parser.add_argument("--hints", action=_Once, choices=("on", "off"), help="changes nothing: only the program has hints")
     parser.add_argument("--strict", action="store_true", help="ends with 2 in place of 0 unless each check is confirmed, and there is one")
     parser.add_argument("-V", "--version", action="store_true", help="prints the version")
@@ -831,7 +772,7 @@ def main(words: Optional[Sequence[str]] = None) -> int:
         given_words = sys.argv[1:] if words is None else list(words)
         if given_words in (["-V"], ["--version"]):
             return 0 if _print(f"smtcheck {version()}\n") else _said("output")
-        given = parser.parse_args(given_words)
+        given = parser.parse_args(_with_forms(given_words))
         if given.version:
             parser.error("--version stands alone")
         texts = []
@@ -845,8 +786,10 @@ def main(words: Optional[Sequence[str]] = None) -> int:
         prints_success = given.print_success or ("on" if given.solver in (None, "smtinterpol") else "off")
         options = prints_success == "on", given.steps, given.profile or ("wide" if given.solver else "base")
         report = check(texts[0], texts[1], *options)
-        explanation = explain(texts[0], texts[1], *options).text if given.explain else ""
-        if not _print(report.text + explanation):
+        printed = "" if given.explain in ("json", "sarif") else report.text
+        if given.explain:
+            printed += _explained(texts, _options_of(*options), given.explain)[1]
+        if not _print(printed):
             return _said("output")
         is_strict_failure = given.strict and report.status == 0 and (report.unchecked > 0 or report.confirmed == 0)
         return 2 if is_strict_failure else report.status

@@ -1,7 +1,8 @@
 //! The lines on what is to blame for a fault of a term, as the checker tells it. This file finds nothing.
 
 use crate::dialogue::Dialogue;
-use smt_reasons::{Page, put_name, put_tree};
+use smt_reasons::{put_name, put_tree, sort_text};
+use smt_remarks::Page;
 use smt_terms::{Blame, Theory};
 use smt_theory::{Sort, Wanted};
 use smt_trees::Tree;
@@ -14,13 +15,13 @@ pub(crate) fn tell_blame(
     blame: &Blame<'_>,
 ) {
     match blame {
-        Blame::Unknown { name } => tell_name(page, b"  unknown: ", *name),
+        Blame::Unknown { name } => tell_name(page, "unknown", *name),
         Blame::Lacks { part, theory } => tell_lacking(page, *part, *theory),
-        Blame::Twice { name } => tell_name(page, b"  bound twice: ", *name),
+        Blame::Twice { name } => tell_name(page, "bound twice", *name),
         Blame::Label { .. } | Blame::InUse { .. } => {}
         Blame::Variable { part } => {
             tell_ill(page, *part);
-            page.line(b"    its head is a variable, which takes no arguments")
+            page.note(b"its head is a variable, which takes no arguments")
         }
         Blame::Misfit {
             part,
@@ -30,11 +31,9 @@ pub(crate) fn tell_blame(
             wanted,
         } => {
             tell_ill(page, *part);
-            page.put(b"    argument ");
-            page.put_number(*place);
-            page.put(b", ");
+            page.begin("argument");
+            page.set_number(*place);
             put_tree(page, *argument);
-            page.put(b",");
             tell_misfit(page, dialogue, *found, *wanted)
         }
         Blame::Arity {
@@ -43,16 +42,14 @@ pub(crate) fn tell_blame(
             wanted,
         } => {
             tell_ill(page, *part);
-            page.put(b"    arguments needed: ");
-            tell_counts(page, *wanted, *given)
+            tell_counts(page, "arguments needed", *wanted, *given)
         }
         Blame::Sorts { part, found } => {
             tell_ill(page, *part);
             tell_sorts(page, dialogue, found.as_slice())
         }
         Blame::Whole { found, wanted } => {
-            page.put(b"  ");
-            page.put(what);
+            page.note(what);
             tell_difference(page, dialogue, *found, *wanted)
         }
         Blame::Parameter {
@@ -60,43 +57,41 @@ pub(crate) fn tell_blame(
             found,
             wanted,
         } => {
-            page.put(b"  its parameter ");
-            page.put_number(*place);
+            page.begin("parameter");
+            page.set_number(*place);
+            page.put(b"it");
             tell_difference(page, dialogue, *found, *wanted)
         }
         Blame::Outcome { found, wanted } => {
-            page.put(b"  its result");
+            page.note(b"its result");
             tell_difference(page, dialogue, *found, *wanted)
         }
         Blame::Parameters { given, wanted } => {
-            page.put(b"  parameters declared: ");
-            tell_counts(page, *wanted, *given)
+            tell_counts(page, "parameters declared", *wanted, *given)
         }
     }
 }
 
-fn tell_name(page: &mut Page<'_>, before: &[u8], name: &[u8]) {
-    page.put(before);
-    put_name(page, name);
-    page.end()
+fn tell_name(page: &mut Page<'_>, kind: &'static str, name: &[u8]) {
+    page.begin(kind);
+    put_name(page, name)
 }
 
 fn tell_lacking(page: &mut Page<'_>, part: Tree<'_>, theory: Theory) {
-    page.put(b"  ");
+    page.begin("lacking");
     put_tree(page, part);
-    page.line(match theory {
+    page.put(match theory {
         Theory::Integers => b" needs integers, which the logic lacks",
         Theory::BitVectors => b" needs bit vectors, which the logic lacks",
     })
 }
 
 fn tell_ill(page: &mut Page<'_>, part: Tree<'_>) {
-    page.put(b"  ill sorted: ");
-    put_tree(page, part);
-    page.end()
+    page.begin("ill sorted");
+    put_tree(page, part)
 }
 
-// Ends a line: it says which sort there is, and which is needed.
+// Goes on: it says which sort there is, and which is needed.
 fn tell_difference(page: &mut Page<'_>, dialogue: &Dialogue<'_>, found: Sort, wanted: Sort) {
     tell_misfit(page, dialogue, found, Wanted::Only(wanted))
 }
@@ -109,36 +104,34 @@ fn tell_misfit(page: &mut Page<'_>, dialogue: &Dialogue<'_>, found: Sort, wanted
         Wanted::Only(sort) => put_sort(page, dialogue, sort),
         Wanted::AnyBits => page.put(b"a bit vector"),
     }
-    page.line(b" is needed")
+    page.put(b" is needed")
 }
 
 fn tell_sorts(page: &mut Page<'_>, dialogue: &Dialogue<'_>, sorts: &[Sort]) {
-    page.put(b"    the sorts of its arguments:");
-    for sort in sorts {
-        page.put(b" ");
+    page.begin("sorts of its arguments");
+    for (place, sort) in sorts.iter().enumerate() {
+        page.put(if place == 0 { b"" } else { b" " });
         put_sort(page, dialogue, *sort);
     }
-    page.end()
 }
 
-// Ends a line: it says how many are needed, and how many there are.
-fn tell_counts(page: &mut Page<'_>, needed: u64, given: u64) {
+// Tells how many are needed, and how many there are.
+fn tell_counts(page: &mut Page<'_>, kind: &'static str, needed: u64, given: u64) {
+    page.begin(kind);
     page.put_number(needed);
     page.put(b", and there are ");
-    page.put_number(given);
-    page.end()
+    page.put_number(given)
 }
 
 // Writes a sort.
 fn put_sort(page: &mut Page<'_>, dialogue: &Dialogue<'_>, sort: Sort) {
-    match sort {
-        Sort::Bool => page.put(b"Bool"),
-        Sort::Int => page.put(b"Int"),
-        Sort::Free(command) => { put_name(page, dialogue.declared_sort(u64::from(command))) }
-        Sort::Bits(width) => {
-            page.put(b"(_ BitVec ");
-            page.put_number(width.bits());
-            page.put(b")")
+    let text = match sort {
+        Sort::Free(command) => {
+            let name = dialogue.declared_sort(u64::from(command));
+            sort_text(page.alloc(), sort, name)
         }
-    }
+        Sort::Bool | Sort::Int => sort_text(page.alloc(), sort, b""),
+        Sort::Bits(width) => sort_text(page.alloc(), Sort::Bits(width), b""),
+    };
+    page.put_text(text)
 }

@@ -4,9 +4,10 @@ ghost use Rattle.smt_explain.specs.InForce.{IsInForce};
 
 use crate::dialogue::{Dialogue, tell_command};
 use crate::items::item_spans;
-use smt_eval::{Interpretation, Parts};
+use smt_eval::{Interpretation, ModelFault, Parts};
 use smt_faults::Memory;
-use smt_reasons::{Definer, Known, Page, Source, Stop, Walk, World, each, items_in, put_tree};
+use smt_reasons::{Definer, Known, Source, Stop, Walk, World, each, items_in, put_tree};
+use smt_remarks::Page;
 use smt_report::{Claim, Side};
 use smt_script::{Command, read_command};
 use smt_terms::TermId;
@@ -36,11 +37,10 @@ pub(crate) fn tell_claim(
     requires { IsInForce dialogue.now.replay }
 {
     match claimed.claim {
-        Claim::Assertion { command } => tell_command(page, dialogue, b"  claim: ", command),
+        Claim::Assertion { command } => tell_command(page, dialogue, "claim", command),
         Claim::Assumption { place } => {
-            page.put(b"  claim: assumption ");
-            page.put_number(place);
-            page.line(b" of the check")
+            tell_assumption(page, dialogue, "claim", claimed.check, place);
+            page.put(b"of the check")
         }
     }
     if let Some((model, span)) = dialogue.replay.answer() {
@@ -52,12 +52,28 @@ pub(crate) fn tell_claim(
     tell_model(page, dialogue)
 }
 
+// Begins a remark on an assumption of a check.
+fn tell_assumption(
+    page: &mut Page<'_>,
+    dialogue: &Dialogue<'_>,
+    kind: &'static str,
+    check: u64,
+    number: u64,
+) {
+    page.begin(kind);
+    if let Some(span) = dialogue.span_of(check) {
+        page.set_spot(Side::Script, span.start);
+    }
+    page.put(b"assumption ");
+    page.put_number(number);
+    page.put(b" ")
+}
+
 /// Writes the place of the model in turn.
 pub(crate) fn tell_model(page: &mut Page<'_>, dialogue: &Dialogue<'_>) {
     if let Some((_, span)) = dialogue.replay.answer() {
-        page.put(b"  model: ");
-        page.put_place(Side::Answers, span.start);
-        page.end();
+        page.begin("model");
+        page.set_spot(Side::Answers, span.start);
     }
 }
 
@@ -124,7 +140,7 @@ fn tell_reason(
         return Ok(());
     };
     if !take(left, size_of(dialogue, span)) {
-        page.line(b"  (enough was looked at for the checks above)");
+        page.note(b"(enough was looked at for the checks above)");
         return Ok(());
     }
     let source = Source {
@@ -151,8 +167,10 @@ fn tell_over(
     };
     let items = items_in(source.model.view());
     let library = dialogue.library();
-    let Ok(mut interpretation) = Interpretation::read(library, items) else {
-        return Ok(());
+    let mut interpretation = match Interpretation::read(library, items) {
+        Ok(interpretation) => interpretation,
+        Err(ModelFault::Memory) => return Err(Memory),
+        Err(_) => return Ok(()),
     };
     interpretation.count(library)?;
     let parts = Parts::new(library, &interpretation);
@@ -175,12 +193,25 @@ fn tell_walk<'a, 'l>(
     };
     let steps = dialogue.texts.steps.min(*left);
     let mut walk = Walk::new(page.alloc(), world, parts, steps);
-    walk.tell(page, term, root, claimed.value);
+    let start = start_of(dialogue, claimed);
+    walk.tell(page, term, start, root, claimed.value);
     if claimed.value == Known::False {
         tell_others(page, dialogue, &mut walk, claimed)?;
     }
     *left = left.saturating_sub(steps.saturating_sub(walk.steps()));
     tell_stop(page, walk.stop())
+}
+
+// Where the command with a claim begins.
+fn start_of(dialogue: &Dialogue<'_>, claimed: Claimed) -> u64 {
+    let command = match claimed.claim {
+        Claim::Assertion { command } => command,
+        Claim::Assumption { .. } => claimed.check,
+    };
+    match dialogue.span_of(command) {
+        Some(span) => span.start,
+        None => 0,
+    }
 }
 
 // Says that no more was looked at, where the steps were used up.
@@ -189,8 +220,8 @@ fn tell_stop(page: &mut Page<'_>, stop: Option<Stop>) -> Result<(), Memory> {
         None => Ok(()),
         Some(Stop::Memory) => Err(Memory),
         Some(Stop::Steps) => {
-            page.line(
-                b"  (no more was looked at: the steps are used up, and --steps sets how many there are)",
+            page.note(
+                b"(no more was looked at: the steps are used up, and --steps sets how many there are)",
             );
             Ok(())
         }
@@ -268,7 +299,7 @@ fn tell_assertions(
 ) {
     for assertion in dialogue.replay.stack().assertions() {
         if assertion.command > command && page.has_room() && walk.is_false(assertion.term) {
-            tell_command(page, dialogue, b"  also false: ", assertion.command);
+            tell_command(page, dialogue, "also false", assertion.command);
         }
     }
 }
@@ -281,12 +312,12 @@ fn tell_assumptions(
     check: u64,
     told: u64,
 ) -> Result<(), Memory> {
-    let Some(check) = dialogue.tree_of(page.alloc(), check)? else {
+    let Some(tree) = dialogue.tree_of(page.alloc(), check)? else {
         return Ok(());
     };
     let Ok(Command::CheckSatAssuming { literals }) = read_command(
         dialogue.texts.profile,
-        check.view(),
+        tree.view(),
     ) else {
         return Ok(());
     };
@@ -296,11 +327,8 @@ fn tell_assumptions(
             break;
         };
         if number > told && page.has_room() && walk.is_false(*term) {
-            page.put(b"  also false: assumption ");
-            page.put_number(number);
-            page.put(b" of the check: ");
+            tell_assumption(page, dialogue, "also false", check, number);
             put_tree(page, literal);
-            page.end();
         }
     }
     Ok(())
@@ -315,8 +343,10 @@ pub(crate) fn tell_cost(page: &mut Page<'_>, dialogue: &Dialogue<'_>)
     };
     let stack = dialogue.replay.stack();
     let library = dialogue.library();
-    let Ok(mut interpretation) = Interpretation::read(library, items_in(model)) else {
-        return;
+    let mut interpretation = match Interpretation::read(library, items_in(model)) {
+        Ok(interpretation) => interpretation,
+        Err(ModelFault::Memory) => return page.refuse(),
+        Err(_) => return,
     };
     match interpretation.count(library) {
         Ok(()) => tell_costs(page, dialogue, Parts::new(library, &interpretation)),
@@ -336,13 +366,13 @@ fn tell_costs(page: &mut Page<'_>, dialogue: &Dialogue<'_>, parts: Parts<'_>) {
             most = (steps, assertion.command);
         }
     }
-    page.put(b"  too long: the claims of this check cost ");
+    page.begin("too long");
+    page.put(b"the claims of this check cost ");
     page.put_number(sum.saturating_add(cost_of_all(parts, stack.assumptions())));
-    page.line(b" steps; --steps sets the limit");
+    page.put(b" steps; --steps sets the limit");
     if most.0 > 0 {
-        page.put(b"  most of it, ");
-        page.put_number(most.0);
-        tell_command(page, dialogue, b": ", most.1);
+        tell_command(page, dialogue, "most of it", most.1);
+        page.set_number(most.0);
     }
 }
 

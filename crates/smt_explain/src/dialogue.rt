@@ -8,7 +8,8 @@ ghost use Rattle.smt_explain.specs.InForce.{IsInForce};
 
 use smt_dialogue::{Limit, Options, Replay};
 use smt_faults::{Memory, TextFault};
-use smt_reasons::{File, Page, put_tree};
+use smt_reasons::put_tree;
+use smt_remarks::{File, Page};
 use smt_report::Side;
 use smt_terms::{Found, Library};
 use smt_text::{Next, Reader, Span, bytes_at, gap_length};
@@ -26,8 +27,8 @@ const TREE: usize = 4096;
 pub struct Texts<'a> {
     pub script: &'a [u8],
     pub answers: &'a [u8],
-    pub script_name: &'a [u8],
-    pub answers_name: &'a [u8],
+    pub script_name: &'a str,
+    pub answers_name: &'a str,
     pub prints_success: bool,
     pub profile: Profile,
     pub steps: u64,
@@ -270,29 +271,24 @@ pub(crate) fn put_piece(page: &mut Page<'_>, side: Side, span: Span) {
     }
 }
 
-/// Writes a command with its place and its text.
+/// Tells of a command: its place and its text.
 pub(crate) fn tell_command(
     page: &mut Page<'_>,
     dialogue: &Dialogue<'_>,
-    before: &[u8],
+    kind: &'static str,
     command: u64,
 ) {
-    page.put(before);
+    page.begin(kind);
     if let Some(span) = dialogue.span_of(command) {
-        page.put_place(Side::Script, span.start);
-        page.put(b", command ");
-        page.put_number(command);
-        page.put(b": ");
+        page.set_spot(Side::Script, span.start);
+        page.set_command(command);
         put_piece(page, Side::Script, span);
     }
-    page.end()
 }
 
-/// Writes what stands in the answers, with its place.
-pub(crate) fn tell_answer(page: &mut Page<'_>, before: &[u8], span: Span) {
-    page.put(before);
-    page.put_place(Side::Answers, span.start);
-    page.put(b": ");
-    put_piece(page, Side::Answers, span);
-    page.end()
+/// Tells what stands in the answers, with its place.
+pub(crate) fn tell_answer(page: &mut Page<'_>, kind: &'static str, span: Span) {
+    page.begin(kind);
+    page.set_spot(Side::Answers, span.start);
+    put_piece(page, Side::Answers, span)
 }

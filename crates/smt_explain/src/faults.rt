@@ -4,7 +4,7 @@
 use crate::blames::tell_blame;
 use crate::dialogue::{Dialogue, tell_answer, tell_command};
 use smt_faults::{CommandFlaw, Memory, TermFlaw, TextFlaw};
-use smt_reasons::Page;
+use smt_remarks::Page;
 use smt_report::{Line, Side};
 use smt_script::{Command, Kind, read_command};
 use smt_terms::Blame;
@@ -15,20 +15,19 @@ use smt_theory::{Profile, op_of};
 
 /// Writes where a text has its fault: the rest of the line there, and what is still open.
 pub(crate) fn tell_text_fault(page: &mut Page<'_>, profile: Profile, side: Side, flaw: TextFlaw) {
-    page.put(b"fault: ");
-    page.put_place(side, flaw.place());
+    page.begin("fault");
+    page.set_spot(side, flaw.place());
     match flaw {
         TextFlaw::Byte { place } => {
-            page.put(b": no text goes on like this: ");
-            put_line(page, side, place);
-            page.end()
+            page.put(b"no text goes on like this: ");
+            put_line(page, side, place)
         }
-        TextFlaw::Deep { .. } => page.line(match profile {
-            Profile::Base => b": a list at a depth over 1,000",
-            Profile::Wide => b": a list at a depth over 1,000,000",
+        TextFlaw::Deep { .. } => page.put(match profile {
+            Profile::Base => b"a list at a depth over 1,000",
+            Profile::Wide => b"a list at a depth over 1,000,000",
         }),
         TextFlaw::End { .. } => {
-            page.line(b": the text ends here");
+            page.put(b"the text ends here");
             tell_all_open(page, side)
         }
     }
@@ -40,23 +39,23 @@ fn tell_all_open(page: &mut Page<'_>, side: Side) {
     let Ok(open) = open_places(page.alloc(), text) else {
         return page.refuse();
     };
-    let token = b"  not ended: the string or quoted symbol at ".as_slice();
-    for (before, place) in [
-        (token, open.token),
-        (b"  open: the list at ", open.innermost),
-        (b"  open: the outermost list at ", open.outermost),
-    ] {
-        let is_told_before = before.starts_with(b"  open: the outermost")
-            && open.outermost == open.innermost;
-        if let Some(place) = place
-            && !is_told_before
-        {
-            page.put(before);
-            page.put_place(side, place);
-            page.put(b": ");
-            put_line(page, side, place);
-            page.end();
-        }
+    tell_open(
+        page,
+        side,
+        "string or quoted symbol that does not end",
+        open.token,
+    );
+    tell_open(page, side, "open list", open.innermost);
+    if open.outermost != open.innermost {
+        tell_open(page, side, "outermost open list", open.outermost);
+    }
+}
+
+fn tell_open(page: &mut Page<'_>, side: Side, kind: &'static str, place: Option<u64>) {
+    if let Some(place) = place {
+        page.begin(kind);
+        page.set_spot(side, place);
+        put_line(page, side, place);
     }
 }
 
@@ -80,21 +79,21 @@ pub(crate) fn tell_command_fault(
     command: u64,
     flaw: CommandFlaw,
 ) {
-    tell_command(page, dialogue, b"fault: ", command);
+    tell_command(page, dialogue, "fault", command);
     match flaw {
-        CommandFlaw::Form => page.line(b"  C1: no command of the standard, or not in its form"),
-        CommandFlaw::Unsupported => page.line(b"  C2: a command that is not supported"),
-        CommandFlaw::TooDeep => page.line(b"  C3: it makes more than 10,000 levels"),
-        CommandFlaw::NoLevel => page.line(b"  C4: it pops more levels than there are"),
+        CommandFlaw::Form => page.note(b"C1: no command of the standard, or not in its form"),
+        CommandFlaw::Unsupported => page.note(b"C2: a command that is not supported"),
+        CommandFlaw::TooDeep => page.note(b"C3: it makes more than 10,000 levels"),
+        CommandFlaw::NoLevel => page.note(b"C4: it pops more levels than there are"),
         CommandFlaw::Logic => {
-            page.line(
-                b"  C5: the logic or option is not supported, or is set behind a declaration or a check",
+            page.note(
+                b"C5: the logic or option is not supported, or is set behind a declaration or a check",
             )
         }
-        CommandFlaw::AfterExit => page.line(b"  C6: it stands behind an exit that took effect"),
+        CommandFlaw::AfterExit => page.note(b"C6: it stands behind an exit that took effect"),
         CommandFlaw::Term { flaw } => {
-            page.put(b"  C7: ");
-            page.line(meaning_of(flaw));
+            page.note(b"C7: ");
+            page.put(meaning_of(flaw));
             tell_term(page, dialogue)
         }
     }
@@ -146,8 +145,8 @@ fn tell_blamed(
         }
         (Blame::InUse { name }, Command::DeclareSort { .. } | Command::DefineSort { .. }) =>
             match dialogue.sort_bringer(*name) {
-                Some((number, _)) => tell_command(page, dialogue, b"  in use: ", number),
-                None => page.line(b"  it is a sort of a theory"),
+                Some((number, _)) => tell_command(page, dialogue, "in use", number),
+                None => page.note(b"it is a sort of a theory"),
             },
         (Blame::InUse { name }, _) => tell_bringer(page, dialogue, *name),
         (_, Command::Assert { .. }) => tell_blame(page, dialogue, b"its term", blame),
@@ -178,11 +177,9 @@ fn tell_label(
             if is_second && first.is_none() {
                 first = Some(place);
             } else {
-                page.put(b"  label: ");
-                page.put_place(Side::Script, place);
-                page.put(b": ");
+                page.begin("label");
+                page.set_spot(Side::Script, place);
                 page.put_cut(symbol);
-                page.end();
                 break;
             }
         }
@@ -190,16 +187,16 @@ fn tell_label(
     }
     match first {
         Some(place) => {
-            page.put(b"  in use: the label at ");
-            page.put_place(Side::Script, place);
-            page.end()
+            page.begin("in use");
+            page.set_spot(Side::Script, place);
+            page.put(b"this label")
         }
         None => tell_bringer(page, dialogue, name),
     }
 }
 
-// The name that a symbol spells, without its bars.
-fn without_bars(symbol: &[u8]) -> &[u8] {
+/// The name that a symbol spells, without its bars.
+pub(crate) fn without_bars(symbol: &[u8]) -> &[u8] {
     match symbol.strip_prefix(b"|") {
         Some(rest) => rest.strip_suffix(b"|").unwrap_or(rest),
         None => symbol,
@@ -213,8 +210,8 @@ fn is_operator(dialogue: &Dialogue<'_>, name: &[u8]) -> bool {
 /// Writes the command that brought a name, or that the name is an operator's.
 pub(crate) fn tell_bringer(page: &mut Page<'_>, dialogue: &Dialogue<'_>, name: &[u8]) {
     match dialogue.bringer(name) {
-        Some(number) => tell_command(page, dialogue, b"  in use: ", number),
-        None if is_operator(dialogue, name) => page.line(b"  it is an operator's name"),
+        Some(number) => tell_command(page, dialogue, "in use", number),
+        None if is_operator(dialogue, name) => page.note(b"it is an operator's name"),
         None => {}
     }
 }
@@ -230,25 +227,24 @@ pub(crate) fn tell_pairing(
 ) {
     match *line {
         Line::MissingAnswer { command } => {
-            tell_command(page, dialogue, b"fault: ", command);
+            tell_command(page, dialogue, "fault", command);
             tell_need(page, dialogue);
-            page.put(b"  the answers end at ");
-            page.put_place(Side::Answers, u64::MAX);
-            page.end()
+            page.begin("the answers end");
+            page.set_spot(Side::Answers, u64::MAX)
         }
         Line::UnexpectedAnswer { command, .. } => {
-            tell_command(page, dialogue, b"fault: ", command);
+            tell_command(page, dialogue, "fault", command);
             tell_need(page, dialogue);
             match next {
-                Some(span) => tell_answer(page, b"  the next answer: ", span),
+                Some(span) => tell_answer(page, "next answer", span),
                 None => {}
             }
         }
         Line::ExtraAnswer { .. } => {
             if let Some(span) = next {
-                tell_answer(page, b"fault: ", span);
+                tell_answer(page, "fault", span);
             }
-            page.line(b"  every command has its answer: this one, and all behind it, are left over")
+            page.note(b"every command has its answer: this one, and all behind it, are left over")
         }
         _ => {}
     }
@@ -262,11 +258,11 @@ fn tell_need(page: &mut Page<'_>, dialogue: &Dialogue<'_>) {
     let Ok(read) = read_command(dialogue.texts.profile, tree) else {
         return;
     };
-    page.line(match read.kind() {
-        Kind::Check => b"  it needs sat, unsat, unknown, unsupported or an error",
-        Kind::Model => b"  it needs a list, a model or an error, or unsupported",
-        Kind::Echo => b"  it needs a string, unsupported or an error",
-        Kind::Query => b"  it needs an answer other than success",
-        _ => b"  it needs success, unsupported or an error, since success is printed there",
+    page.note(match read.kind() {
+        Kind::Check => b"it needs sat, unsat, unknown, unsupported or an error",
+        Kind::Model => b"it needs a list, a model or an error, or unsupported",
+        Kind::Echo => b"it needs a string, unsupported or an error",
+        Kind::Query => b"it needs an answer other than success",
+        _ => b"it needs success, unsupported or an error, since success is printed there",
     })
 }

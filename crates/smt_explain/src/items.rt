@@ -4,11 +4,12 @@
 use crate::blames::tell_blame;
 use crate::claims::nth;
 use crate::dialogue::{Dialogue, tell_answer, tell_command};
-use crate::faults::{meaning_of, tell_bringer};
+use crate::faults::{meaning_of, tell_bringer, without_bars};
 use smt_eval::blame_of_items;
 use smt_faults::{Memory, TermFlaw};
 use smt_forms::{item_form, sort_of_element};
-use smt_reasons::{Page, each, items_in};
+use smt_reasons::{each, items_in};
+use smt_remarks::Page;
 use smt_terms::Blame;
 use smt_text::{Span, bytes_at, tree_spans};
 use smt_theory::Profile;
@@ -26,7 +27,7 @@ pub(crate) fn item_spans(
     let inside = bytes_at(dialogue.texts.answers, Span { start, end });
     let mut spans = Vec::new(alloc);
     for span in tree_spans(alloc, inside, dialogue.max_depth())?.as_slice() {
-        if !spans.is_empty() || bytes_at(inside, *span) != b"model".as_slice() {
+        if !spans.is_empty() || without_bars(bytes_at(inside, *span)) != b"model".as_slice() {
             spans.push(Span {
                 start: start.saturating_add(span.start),
                 end: start.saturating_add(span.end),
@@ -49,11 +50,9 @@ pub(crate) fn tell_item_fault(
     let Ok(spans) = item_spans(page.alloc(), dialogue, span) else {
         return page.refuse();
     };
-    page.put(b"  item ");
-    page.put_number(number);
-    tell_item(page, b": ", spans.as_slice(), number);
-    page.put(b"  ");
-    page.line(meaning_of(flaw));
+    tell_item(page, "item", spans.as_slice(), number);
+    page.set_number(number);
+    page.note(meaning_of(flaw));
     let items = items_in(model);
     match blame_of_items(dialogue.library(), items) {
         Ok(Some(blame)) => tell_item_blame(page, dialogue, &blame, items, spans.as_slice(), number),
@@ -80,9 +79,7 @@ fn tell_item_blame(
     match blame {
         Blame::InUse { name } => tell_in_use(page, dialogue, *name),
         Blame::Twice { name: twice } if *twice == name => match number_of(items, name) {
-            Some(before) if before < number => {
-                tell_item(page, b"  bound before: ", spans, before)
-            }
+            Some(before) if before < number => { tell_item(page, "bound before", spans, before) }
             _ => tell_blame(page, dialogue, b"", blame),
         },
         Blame::Unknown { .. } | Blame::Lacks { .. } | Blame::Twice { .. } => {
@@ -90,20 +87,20 @@ fn tell_item_blame(
         }
         _ => {
             if let Some(command) = dialogue.bringer(name) {
-                tell_command(page, dialogue, b"  declared: ", command);
+                tell_command(page, dialogue, "declared", command);
             }
             tell_blame(page, dialogue, b"its body", blame)
         }
     }
 }
 
-fn tell_item(page: &mut Page<'_>, before: &[u8], spans: &[Span], number: u64) {
+fn tell_item(page: &mut Page<'_>, kind: &'static str, spans: &[Span], number: u64) {
     let index = usize::try_from(number)
         .unwrap_or(usize::MAX)
         .saturating_sub(1);
     match spans.get(index) {
-        Some(span) => tell_answer(page, before, *span),
-        None => page.line(before),
+        Some(span) => tell_answer(page, kind, *span),
+        None => page.begin(kind),
     }
 }
 
@@ -122,12 +119,7 @@ fn number_of(items: Trees<'_>, name: &[u8]) -> Option<u64> {
 // Writes why no item may have a name: it is that of an element of a sort, or stands for something else.
 fn tell_in_use(page: &mut Page<'_>, dialogue: &Dialogue<'_>, name: &[u8]) {
     if let Some(command) = element_sort(dialogue, name) {
-        return tell_command(
-            page,
-            dialogue,
-            b"  it is also the name of an element: ",
-            command,
-        );
+        return tell_command(page, dialogue, "it is also the name of an element", command);
     }
     tell_bringer(page, dialogue, name)
 }

@@ -25,4 +25,5 @@ mod told;
 
 pub use dialogue::Texts;
 pub use smt_faults::Memory;
+pub use smt_remarks::Form;
 pub use told::explain;

@@ -1,13 +1,14 @@
 //! The smallest parts of a claim that make it false, true or open. This file evaluates no term itself.
 
 use crate::evaluation::{Bound, Evaluator, Stop, Work};
-use crate::page::{LINES, Page};
 use crate::trees::each;
 use crate::values::tell_part;
 use crate::world::{Defined, Origin, World};
 use smt_eval::Parts;
 use smt_forms::{label_at, split_let};
 use smt_machine::Look;
+use smt_remarks::{MOST, Page};
+use smt_report::Side;
 use smt_terms::TermId;
 use smt_trees::{Tree, Trees, Word};
 use smt_values::Value;
@@ -41,8 +42,12 @@ pub(crate) struct Part<'a> {
     pub(crate) node: usize,
     pub(crate) scope: usize,
     pub(crate) value: Known,
-    /// The name whose definition it is in, and what defines that; `None` in the claim itself.
-    pub(crate) within: Option<(&'a [u8], Origin)>,
+    /// The name whose definition it is in; `None` in the claim itself.
+    pub(crate) within: Option<&'a [u8]>,
+    /// Where that definition or the claim begins.
+    pub(crate) origin: Origin,
+    /// Whether it decides which branch of an `ite` is taken.
+    pub(crate) is_condition: bool,
 }
 
 /// A walk down from a claim to the parts that give it its value.
@@ -94,7 +99,15 @@ impl<'a, 'l> Walk<'a, 'l> {
     }
 
     /// Writes the smallest parts of a claim that give it its value, as far as lines and steps are left.
-    pub fn tell(&mut self, page: &mut Page<'_>, claim: Tree<'a>, term: TermId, value: Known) {
+    /// The claim stands in the command that begins at this byte of the script.
+    pub fn tell(
+        &mut self,
+        page: &mut Page<'_>,
+        claim: Tree<'a>,
+        start: u64,
+        term: TermId,
+        value: Known,
+    ) {
         let parts = self.work.evaluator.parts;
         let node = parts.root(term);
         self.push(Part {
@@ -103,6 +116,11 @@ impl<'a, 'l> Walk<'a, 'l> {
             scope: 0,
             value,
             within: None,
+            origin: Origin {
+                side: Side::Script,
+                start,
+            },
+            is_condition: false,
         });
         let mut turns = self.steps();
         while let Some(part) = self.left.pop() {
@@ -113,7 +131,8 @@ impl<'a, 'l> Walk<'a, 'l> {
                 return;
             }
             turns -= 1;
-            if self.left.len() == before {
+            // (A condition that is a literal says nothing.)
+            if self.left.len() == before && !(part.is_condition && is_literal(part.term)) {
                 if !page.has_room() {
                     return;
                 }
@@ -180,7 +199,9 @@ impl<'a, 'l> Walk<'a, 'l> {
                 node,
                 scope,
                 value: part.value,
-                within: Some((defined.name, defined.origin)),
+                within: Some(defined.name),
+                origin: defined.origin,
+                is_condition: part.is_condition,
             });
         }
     }
@@ -317,7 +338,7 @@ impl<'a, 'l> Walk<'a, 'l> {
     fn push_all(&mut self, part: Part<'a>, args: Trees<'a>, value: Known, without: usize) {
         let count = args.len().saturating_sub(without);
         for (place, term, _) in each(args) {
-            if place >= count || place as u64 >= LINES {
+            if place >= count || place >= MOST {
                 break;
             }
             if let Some(inner) = self.argument(part, place, term, value) {
@@ -408,7 +429,11 @@ impl<'a, 'l> Walk<'a, 'l> {
         if let Some(branch) = branch {
             self.push(branch);
         }
-        self.push(Part { value, ..condition })
+        self.push(Part {
+            value,
+            is_condition: true,
+            ..condition
+        })
     }
 }
 

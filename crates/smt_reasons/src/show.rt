@@ -1,12 +1,10 @@
-//! The text of trees, names, values and sorts. This file reads no text.
+//! The text of trees and names on a page. This file reads no text.
 
-use crate::page::Page;
 use crate::trees::tree_from;
-use smt_bits::Bits;
+use crate::value_texts::symbol_text;
 use smt_faults::Memory;
-use smt_text::read_trees;
+use smt_remarks::Page;
 use smt_trees::{Tree, Trees, spelling};
-use smt_values::Value;
 use std::alloc::Global;
 
 /// The most bytes of the text of a tree: a longer text is cut.
@@ -80,7 +78,10 @@ fn write_atom(alloc: Global, out: &mut Vec<u8>, tree: Tree<'_>) -> Result<(), Me
         Tree::Text(_) => put(out, b"\"..", b"\""),
         Tree::Reserved(word) => put(out, b"", spelling(word)),
         Tree::Keyword(name) => put(out, b":", name),
-        Tree::Symbol(name) => add_name(alloc, out, name),
+        Tree::Symbol(name) => {
+            let text = symbol_text(alloc, name)?;
+            put(out, b"", text.as_slice())
+        }
         Tree::List(_) => Ok(()),
     }
 }
@@ -93,79 +94,6 @@ fn put(out: &mut Vec<u8>, before: &[u8], bytes: &[u8]) -> Result<(), Memory> {
 
 /// Writes a name, without its middle where it is long.
 pub fn put_name(page: &mut Page<'_>, name: &[u8]) {
-    let text = named(page.alloc(), name);
+    let text = symbol_text(page.alloc(), name);
     page.put_text(text);
-}
-
-// Adds a name, between bars where it can't be written without them.
-fn add_name(alloc: Global, out: &mut Vec<u8>, name: &[u8]) -> Result<(), Memory> {
-    let bar = if is_plain(alloc, name) {
-        b"".as_slice()
-    } else {
-        b"|"
-    };
-    out.extend_from_slice(bar)?;
-    out.extend_from_slice(name)?;
-    out.extend_from_slice(bar)?;
-    Ok(())
-}
-
-// Whether a name is a symbol as it stands. (A long one is not looked at: it is cut in any case.)
-fn is_plain(alloc: Global, name: &[u8]) -> bool {
-    let Ok(trees) = read_trees(alloc, &name[..name.len().min(MOST)]) else {
-        return false;
-    };
-    match trees.as_slice() {
-        [tree] => tree.view().is_symbol(name) && !name.starts_with(b"|"),
-        _ => false,
-    }
-}
-
-/// The text of a name.
-fn named(alloc: Global, name: &[u8]) -> Result<Vec<u8>, Memory> {
-    let mut out = Vec::new(alloc);
-    add_name(alloc, &mut out, name)?;
-    Ok(out)
-}
-
-/// The text of a value, as SMT-LIB writes it; a bit vector in hexadecimal where its width allows. Of an element it is
-/// the name.
-pub(crate) fn value_text(alloc: Global, value: &Value) -> Result<Vec<u8>, Memory> {
-    match value {
-        Value::Bool(true) => Ok(Vec::from_slice(alloc, b"true")?),
-        Value::Bool(false) => Ok(Vec::from_slice(alloc, b"false")?),
-        Value::Bits(bits) => bits_text(alloc, *bits),
-        Value::Abstract(name) => named(alloc, name.as_bytes()),
-        Value::Int(number) => {
-            let text = if number.get() < 0 {
-                format!(in alloc; "(- {})", number.get().unsigned_abs())?
-            } else {
-                format!(in alloc; "{}", number.get())?
-            };
-            Ok(Vec::from_slice(alloc, text.as_bytes())?)
-        }
-    }
-}
-
-fn bits_text(alloc: Global, bits: Bits) -> Result<Vec<u8>, Memory> {
-    let width = bits.width().bits();
-    let (before, size) = if width % 4 == 0 {
-        (b"#x", 4)
-    } else {
-        (b"#b", 1)
-    };
-    let mut text = Vec::from_slice(alloc, before.as_slice())?;
-    for place in (0..width / size).rev() {
-        text.push(digit(bits.number() >> (place * size) % 128, size == 4))?;
-    }
-    Ok(text)
-}
-
-/// The last digit of a number, in hexadecimal or in binary.
-pub(crate) fn digit(number: u128, hexadecimal: bool) -> u8 {
-    let base = if hexadecimal { 16 } else { 2 };
-    match (number % base) as u8 {
-        low if low < 10 => b'0' + low,
-        high => b'a' + (high - 10) % 6,
-    }
 }

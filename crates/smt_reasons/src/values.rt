@@ -1,16 +1,20 @@
 //! The lines on a smallest part: its text, its place, and the values in it. This file evaluates no term itself.
 
-use crate::page::Page;
 use crate::parts::{Known, Part, Walk, is_literal};
-use crate::show::{put_name, put_tree, text_of, value_text};
+use crate::show::{put_tree, text_of};
 use crate::trees::{each, tree_from};
+use crate::value_texts::{symbol_text, value_text};
 use crate::world::Defined;
 use smt_faults::Memory;
+use smt_remarks::Page;
 use smt_trees::{Tree, Word};
 use smt_values::{OpenReason, Reason, Value, why};
 
 /// Why an integer is open.
-const TOO_LARGE: &[u8] = b"an integer below -2^127 or over 2^127 - 1";
+const TOO_LARGE: &str = "an integer below -2^127 or over 2^127 - 1";
+
+/// What is said of a condition.
+const CONDITION: &str = "it decides which branch of an ite is taken";
 
 /// The most terms of a part whose values are looked at.
 const MOST_VALUES: usize = 24;
@@ -21,34 +25,35 @@ pub(crate) fn tell_part<'a>(page: &mut Page<'_>, walk: &mut Walk<'a, '_>, part: 
     if walk.stop().is_some() {
         return;
     }
-    page.put(match part.value {
-        Known::True => b"  true: ",
-        Known::False => b"  false: ",
-        Known::Else => b"  value: ",
-        Known::Open => b"  open: ",
+    page.begin(match part.value {
+        Known::True => "true",
+        Known::False => "false",
+        Known::Else => "value",
+        Known::Open => "open",
     });
-    put_tree(page, part.term);
-    if let Some((name, origin)) = part.within {
-        page.put(b"   at ");
-        page.put_place(origin.side, origin.start);
-        page.put(b", in ");
-        put_name(page, name);
+    page.set_spot(part.origin.side, part.origin.start);
+    if let Some(name) = part.within {
+        match symbol_text(page.alloc(), name) {
+            Ok(name) => page.set_within(name.as_slice()),
+            Err(Memory) => page.refuse(),
+        }
     }
-    page.end();
-    if let Some(reason) = reason {
-        page.put(b"    ");
-        page.line(reason);
+    put_tree(page, part.term);
+    match reason {
+        Some(reason) => page.set_reason(reason),
+        None if part.is_condition => page.set_reason(CONDITION),
+        None => {}
     }
     tell_values(page, walk, part);
 }
 
 // The reason why a smallest part is open.
-fn reason(walk: &mut Walk<'_, '_>, part: Part<'_>) -> Option<&'static [u8]> {
+fn reason(walk: &mut Walk<'_, '_>, part: Part<'_>) -> Option<&'static str> {
     if part.value != Known::Open {
         return None;
     }
     if walk.work.evaluator.parts.is_element(part.node) {
-        return Some(b"an element whose name has over 31 bytes");
+        return Some("an element whose name has over 31 bytes");
     }
     let look = walk.look(part.node);
     let Some(op) = look.op() else {
@@ -66,7 +71,7 @@ fn reason(walk: &mut Walk<'_, '_>, part: Part<'_>) -> Option<&'static [u8]> {
         }
     }
     match why(op, values.as_slice()) {
-        Reason::Open(OpenReason::DivisionByZero) => Some(b"a division by zero"),
+        Reason::Open(OpenReason::DivisionByZero) => Some("a division by zero"),
         _ => Some(TOO_LARGE),
     }
 }
@@ -156,9 +161,6 @@ fn tell_values<'a>(page: &mut Page<'_>, walk: &mut Walk<'a, '_>, part: Part<'a>)
             tell_seen(page, walk, next, &mut told);
         }
     }
-    if !told.texts.is_empty() {
-        page.end();
-    }
     tell_items(page, told.items.as_slice());
     if told.is_refused {
         walk.refuse();
@@ -202,11 +204,6 @@ fn tell_seen<'a>(
     if walk.stop().is_some() {
         return;
     }
-    page.put(if told.texts.is_empty() {
-        b"    "
-    } else {
-        b", "
-    });
     tell_value(page, walk, next, text.as_slice(), value);
     see_more(walk, next, told);
     if told.texts.push(text).is_err() {
@@ -268,29 +265,33 @@ fn tell_value<'a>(
     text: &[u8],
     value: Option<Value>,
 ) {
-    page.put_cut(text);
-    if let Tree::Symbol(name) = next.term {
-        tell_source(page, walk, next.scope, name);
-    }
-    page.put(b" = ");
-    match value {
-        Some(value) => match value_text(walk.alloc, &value) {
-            Ok(text) => page.put_uncut(text.as_slice()),
-            Err(Memory) => page.refuse(),
-        },
-        None => page.put(b"open"),
+    let Ok(value) = known_text(walk, value) else {
+        return page.refuse();
+    };
+    match given_text(walk, next) {
+        Ok(Some(given)) => page.add_value(text, Some(given.as_slice()), value.as_slice()),
+        Ok(None) => page.add_value(text, None, value.as_slice()),
+        Err(Memory) => page.refuse(),
     }
 }
 
-// Writes the term that gives a variable its value, unless that is a literal, or its names mean something else here.
-fn tell_source(page: &mut Page<'_>, walk: &Walk<'_, '_>, scope: usize, name: &[u8]) {
-    if let Some(bound) = walk.work.find(scope, name)
-        && !is_literal(bound.term)
-        && means_the_same(walk, scope, bound.term_scope, bound.term)
-    {
-        page.put(b" = ");
-        put_tree(page, bound.term);
+fn known_text(walk: &Walk<'_, '_>, value: Option<Value>) -> Result<Vec<u8>, Memory> {
+    match value {
+        Some(value) => value_text(walk.alloc, &value),
+        None => Ok(Vec::from_slice(walk.alloc, b"open")?),
     }
+}
+
+// The term that gives a variable its value, unless that is a literal, or its names mean something else here.
+fn given_text(walk: &Walk<'_, '_>, next: Seen<'_>) -> Result<Option<Vec<u8>>, Memory> {
+    if let Tree::Symbol(name) = next.term
+        && let Some(bound) = walk.work.find(next.scope, name)
+        && !is_literal(bound.term)
+        && means_the_same(walk, next.scope, bound.term_scope, bound.term)
+    {
+        return Ok(Some(text_of(walk.alloc, bound.term)?));
+    }
+    Ok(None)
 }
 
 // Whether each name in a term is the same variable in two scopes, or no variable in both.
@@ -337,15 +338,12 @@ fn see_more<'a>(walk: &Walk<'a, '_>, next: Seen<'a>, told: &mut Told<'a>) {
     }
 }
 
-// Writes the places of the items of the model that give the written names their values.
+// Tells of the items of the model that give the written names their values.
 fn tell_items(page: &mut Page<'_>, items: &[Defined<'_>]) {
-    for (index, item) in items.iter().enumerate() {
-        page.put(if index == 0 { b"    items: " } else { b", " });
-        put_name(page, item.name);
-        page.put(b" at ");
-        page.put_place(item.origin.side, item.origin.start);
-    }
-    if !items.is_empty() {
-        page.end();
+    for item in items {
+        match symbol_text(page.alloc(), item.name) {
+            Ok(name) => page.add_item(name.as_slice(), item.origin.start),
+            Err(Memory) => page.refuse(),
+        }
     }
 }

@@ -8,9 +8,10 @@ use crate::inputs::{Noted, STANDARD_INPUT, closed_input, open};
 use crate::line_notes::LineNotes;
 use crate::recorded::Recorded;
 use smt_dialogue::{Limit, Line, Options, Profile, RunFault, Summary, validate};
-use smt_explain::{Texts, explain};
+use smt_explain::{Form as WrittenForm, Memory, Texts, explain};
 use smt_streams::{Device, Source, put_all};
-use smtcheck_command_line::Settings;
+use smtcheck_command_line::{Form, Settings};
+use std::alloc::Global;
 use std::io::{Input, Read, Write};
 use std::rt::Files;
 use std::{fs, io};
@@ -39,9 +40,9 @@ pub(crate) struct Failure {
 }
 
 /// Checks the dialogue in two texts. It prints the lines of the report as `smt_dialogue::run` puts them, and then
-/// the explanation, if `settings` ask for one. It reads both files again for a hint only where `hints` says so. A file
-/// that can't be opened is `RunFault::Script` or `RunFault::Answers`; so are answers on standard input where the
-/// script is there.
+/// the explanation, if `settings` ask for one; as JSON or SARIF the explanation alone. It reads both files again for a
+/// hint only where `hints` says so. A file that can't be opened is `RunFault::Script` or `RunFault::Answers`; so are
+/// answers on standard input where the script is there.
 pub(crate) fn run<R: Files + Input + AllocGlobal + Print>(
     rt: &R,
     settings: Settings,
@@ -91,14 +92,15 @@ fn run_noted<R: AllocGlobal + Print, S: Read + Drop, A: Read + Drop>(
     let mut script = script;
     let mut answers = answers;
     let mut out = Noted::new(io::writer(rt));
-    match run_open(rt, &mut script, &mut answers, &mut out, settings) {
+    let mut told = Noted::new(io::writer(rt));
+    match run_in_form(rt, &mut script, &mut answers, &mut out, &mut told, settings) {
         Ok(ran) => Ok(ran),
         Err(fault) => Err(Failure {
             fault,
             reason: match fault {
                 RunFault::Script => script.failure(),
                 RunFault::Answers => answers.failure(),
-                RunFault::Output => out.failure(),
+                RunFault::Output => out.failure().or(told.failure()),
                 RunFault::Memory | RunFault::Long => None,
             },
         }),
@@ -181,12 +183,35 @@ fn beginning<R: Files + AllocGlobal>(rt: &R, name: &str) -> Option<Vec<u8>> {
     Vec::from_slice(rt.alloc(), &block[..count.min(BEGINNING)]).ok()
 }
 
-// Checks the dialogue in two open texts.
-fn run_open<R: AllocGlobal + Print, S: Read, A: Read, W: Write>(
+// Checks the dialogue in two open texts. Where the explanation is for programs, it stands in place of the report.
+fn run_in_form<R: AllocGlobal, S: Read, A: Read, W: Write, T: Write>(
     rt: &R,
     script: &mut S,
     answers: &mut A,
     out: &mut W,
+    told: &mut T,
+    settings: Settings,
+) -> Result<Ran, RunFault>
+    requires { settings.steps < 2 ^ 64 - 1 }
+    ensures { IfOk result (λ ran.
+        IsSummaryOn settings.entry (S.remaining script.old) (A.remaining answers.old) ran.summary) }
+{
+    match settings.explain {
+        Some(Form::Json | Form::Sarif) => {
+            run_open(rt, script, answers, &mut io::sink(), told, settings)
+        }
+        _ => run_open(rt, script, answers, out, told, settings),
+    }
+}
+
+// Checks the dialogue in two open texts. Lines of the report go to `out`, and then the explanation to `told`. Without
+// the report an explanation that can't be made or written is a fault of the run.
+fn run_open<R: AllocGlobal, S: Read, A: Read, W: Write, T: Write>(
+    rt: &R,
+    script: &mut S,
+    answers: &mut A,
+    out: &mut W,
+    told: &mut T,
     settings: Settings,
 ) -> Result<Ran, RunFault>
     requires { settings.steps < 2 ^ 64 - 1 }
@@ -200,10 +225,10 @@ fn run_open<R: AllocGlobal + Print, S: Read, A: Read, W: Write>(
             steps: settings.steps,
         },
     };
-    let mut script = Recorded::new(rt.alloc(), Device::new(script), settings.explain);
-    let mut answers = Recorded::new(rt.alloc(), Device::new(answers), settings.explain);
+    let mut script = Recorded::new(rt.alloc(), Device::new(script), settings.explain.is_some());
+    let mut answers = Recorded::new(rt.alloc(), Device::new(answers), settings.explain.is_some());
     let mut out = Device::new(out);
-    let mut notes = LineNotes::new(rt.alloc(), settings.explain);
+    let mut notes = LineNotes::new(rt.alloc(), settings.explain.is_some());
     let summary = smt_dialogue::run(
         rt.alloc(),
         &mut script,
@@ -212,8 +237,14 @@ fn run_open<R: AllocGlobal + Print, S: Read, A: Read, W: Write>(
         &mut notes,
         options,
     )?;
-    let unexplained = settings.explain
-        && tell(rt, script.bytes(), answers.bytes(), notes.lines(), settings).is_err();
+    let unexplained = tell(
+        rt.alloc(),
+        told,
+        script.bytes(),
+        answers.bytes(),
+        notes.lines(),
+        settings,
+    )?;
     Ok(Ran {
         summary,
         hint: notes.hint(),
@@ -222,35 +253,57 @@ fn run_open<R: AllocGlobal + Print, S: Read, A: Read, W: Write>(
     })
 }
 
-// The failure to print an explanation.
-#[derive(Clone, Copy)]
-struct Untold;
-
-// Prints the explanation of a dialogue; it fails where the texts or the lines were not kept.
-fn tell<R: AllocGlobal + Print>(
-    rt: &R,
+// Writes the explanation of a dialogue, if `settings` ask for one. Returns whether it could not be made or written;
+// where it stands alone that is a fault of the run.
+fn tell<W: Write>(
+    alloc: Global,
+    out: &mut W,
     script: Option<&[u8]>,
     answers: Option<&[u8]>,
     lines: Option<&[Line]>,
     settings: Settings,
-) -> Result<(), Untold> {
+) -> Result<bool, RunFault> {
+    let Some(form) = settings.explain else {
+        return Ok(false);
+    };
+    let fault = match explanation(alloc, script, answers, lines, settings, form) {
+        Ok(text) => match put_all(&mut Device::new(out), text.as_slice()) {
+            Ok(()) => return Ok(false),
+            Err(_) => RunFault::Output,
+        },
+        Err(Memory) => RunFault::Memory,
+    };
+    match form {
+        Form::Text => Ok(true),
+        Form::Json | Form::Sarif => Err(fault),
+    }
+}
+
+// The explanation of a dialogue; the error is also that the texts or the lines were not kept.
+fn explanation(
+    alloc: Global,
+    script: Option<&[u8]>,
+    answers: Option<&[u8]>,
+    lines: Option<&[Line]>,
+    settings: Settings,
+    form: Form,
+) -> Result<Vec<u8>, Memory> {
     let (Some(script), Some(answers), Some(lines)) = (script, answers, lines) else {
-        return Err(Untold);
+        return Err(Memory);
     };
     let texts = Texts {
         script,
         answers,
-        script_name: settings.script.as_bytes(),
-        answers_name: settings.answers.as_bytes(),
+        script_name: settings.script,
+        answers_name: settings.answers,
         prints_success: settings.print_success,
         profile: settings.profile,
         steps: settings.steps,
     };
-    let Ok(text) = explain(rt.alloc(), texts, lines) else {
-        return Err(Untold);
+    let form = match form {
+        Form::Text => WrittenForm::Text,
+        Form::Json => WrittenForm::Json,
+        Form::Sarif => WrittenForm::Sarif,
     };
-    match put_all(&mut Device::new(io::writer(rt)), text.as_slice()) {
-        Ok(()) => Ok(()),
-        Err(_) => Err(Untold),
-    }
+    explain(alloc, texts, lines, form)
 }

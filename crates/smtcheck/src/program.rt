@@ -64,7 +64,9 @@ fn run_settings<R: Files + Input + AllocGlobal + Print + Eprint>(
     requires { settings.steps < 2 ^ 64 - 1 }
     ensures { (result ≡ 4) ⊎ IsStatusOfReport settings.entry result }
 {
-    let hints = settings.hints.unwrap_or(settings.explain || on_terminal);
+    let hints = settings
+        .hints
+        .unwrap_or(settings.explain.is_some() || on_terminal);
     match run(rt, settings, hints) {
         Ok(ran) => {
             tell_beside(rt, ran);

@@ -44,7 +44,7 @@ enum smtcheck_outcome {
     SMTCHECK_REFUSED = 3,
     /* Memory was refused. This says nothing of the dialogue. */
     SMTCHECK_MEMORY = 4,
-    /* `steps` is UINT64_MAX, which is no limit. The call did not look at the texts. */
+    /* `steps` is UINT64_MAX, which is no limit, or there is no such form. The call did not look at the texts. */
     SMTCHECK_OPTIONS = 5,
     /* Of a session: the verdict is not decided yet. */
     SMTCHECK_OPEN = 6,
@@ -93,17 +93,37 @@ uint32_t smtcheck_validate(const char *script, size_t script_length, const char 
                            const struct smtcheck_options *options, struct smtcheck_summary *summary, char *text,
                            size_t room, size_t *wanted);
 
+/* The forms of an explanation, all in printable ASCII. */
+enum smtcheck_form {
+    /* Lines for people. One that tells of a place begins with it, as `script:11:1: `, and any other with four blanks.
+       Each has at most 200 bytes and a line feed, and no check has more than 200 lines. There is none where all is
+       confirmed. */
+    SMTCHECK_TEXT = 0,
+    /* For each line of the report an object of JSON on a line of its own, with these members:
+       - `check`: the number of the check; null of a fault and of the verdict
+       - `outcome`: `confirmed`, `unchecked`, `refuted` and so on; of a fault `text-fault` and so on; of the last object
+         the verdict: `valid`, `invalid`, `not-decided` or `refused`
+       - `remarks`: what is told of it, each with `kind`, `number`, `spot`, `command`, `in`, `text`, `reason`, `values`
+         and `items`
+       - `left_out`: how many remarks were left out: there are at most 199 */
+    SMTCHECK_JSON = 1,
+    /* A document of SARIF 2.1.0 (Static Analysis Results Interchange Format), with a result for each check that is not
+       confirmed and one for the fault. Its message is what SMTCHECK_TEXT says. */
+    SMTCHECK_SARIF = 2
+};
+
 /*
  * Explains the report on a dialogue, as the program does with `--explain`: each check that is not confirmed, and the
- * fault, with its line and column, and why. The explanation calls the two texts `script` and `answers`.
+ * fault, with its line and column, and why. `form` is one of `enum smtcheck_form`. The explanation calls the two texts
+ * `script` and `answers`.
  *
- * It returns a number as smtcheck_validate does. With a verdict, `*wanted` is the length of the explanation in bytes,
- * and the bytes at `text` are as there; the explanation is empty where all is confirmed. Each of its lines has at most
- * 200 printable bytes of ASCII and a line feed, and no check has more than 200 lines. Tests check what it says, and no
- * proof does; that the verdict is the right one is proved.
+ * It returns a number as smtcheck_validate does, and SMTCHECK_OPTIONS also where there is no such form. With a verdict,
+ * `*wanted` is the length of the explanation in bytes, and the bytes at `text` are as there. Tests check what it says,
+ * and no proof does; that the verdict is the right one is proved.
  */
 uint32_t smtcheck_explain(const char *script, size_t script_length, const char *answers, size_t answers_length,
-                          const struct smtcheck_options *options, char *text, size_t room, size_t *wanted);
+                          const struct smtcheck_options *options, uint32_t form, char *text, size_t room,
+                          size_t *wanted);
 
 /*
  * A session, which accepts a dialogue piece by piece: the script as the caller sends it to the solver, and the answers

@@ -9,7 +9,7 @@ use smt_dialogue::Verdict;
 /// Memory was refused. This says nothing of the dialogue.
 pub(crate) const MEMORY: u32 = 4;
 
-/// The limit of the options is 2^64 - 1, which is out of range. Nothing was read.
+/// The limit of the options is 2^64 - 1, which is out of range, or there is no such form. Nothing was read.
 pub(crate) const OPTIONS: u32 = 5;
 
 /// A session has no verdict yet.

@@ -2,10 +2,10 @@
 -- hyphen.
 use Rattle.std.proofs.Common.{◌≡◌, ◌<◌, ◌∙◌, ◌==◌, ◌&&◌, ◌||◌, ◌++◌, ℕ, Bool, List, [], ◌∷◌, ap, ap₂, true, false}
 use Rattle.std.proofs.Common.{not, arith, Option, Some, None, unwrap_or, codes, refl, if◌then◌else◌, subst}
-use Rattle.std.proofs.Common.{map, option_map, sym, suc}
-use Rattle.std.specs.List.{All, list_all, list_any}
+use Rattle.std.proofs.Common.{map, option_map, sym, suc, zero}
+use Rattle.std.specs.List.{All, list_all, list_any, starts_with}
 use Rattle.std.specs.Option.{option_map_or}
-use Rattle.std.specs.Prelude.{⊤, find, fold, option_and_then, slice_get}
+use Rattle.std.specs.Prelude.{⊤, find, fold, nat_eq, option_and_then, slice_get}
 use Rattle.std.specs.Str.{bytes_eq}
 use Rattle.std.specs.Str.Parse.{IsNumeral, without_leading_plus}
 use Rattle.std.proofs.lemmas.Bool.{eqb-true}
@@ -31,8 +31,10 @@ use Rattle.smt_theory.specs.declared.profile.Profile.TheVariants.{Base, Wide}
 use Rattle.smtcheck_command_line.proofs.RowLemmas.{added, default_in, defaults_add, defaults_keep, find_row}
 use Rattle.smtcheck_command_line.proofs.RowLemmas.{found_behind, or_else, row, row_of, stays_found, still_new}
 use Rattle.smtcheck_command_line.specs.declared.arguments.Solver.TheVariants as solver
-use Rattle.smtcheck_command_line.specs.Settings.{AllPlaces, Explain, Given, Hints, IsInRange, Language, Preset}
+use Rattle.smtcheck_command_line.specs.Settings.{AllPlaces, Explain, ExplainAs, Given, Hints, IsInRange, Language, Preset}
 use Rattle.smtcheck_command_line.specs.Settings.{Steps, Strict, Success, are_distinct, given_words, is_given}
+use Rattle.smtcheck_command_line.specs.Settings.{gives_form, has_form}
+use Rattle.smtcheck_command_line.specs.declared.arguments.Form.TheVariants as form
 use Rattle.smtcheck_command_line.specs.Settings.{is_plain, most_steps, name_of, smtcheck_app, value_in, value_of}
 use Rattle.smtcheck_command_line.specs.Settings.{words_of}
 
@@ -45,6 +47,20 @@ is_false false e = refl
 no_dashes : (word : Text) → is_plain word ≡ true → bytes_eq word (45 ∷ 45 ∷ []) ≡ false
 no_dashes [] e = cc
 no_dashes (x ∷ xs) e = rw (is_false (x == 45) e) refl
+
+no_hyphen : (x : ℕ) → not (x == 45) ≡ true → (45 == x) ≡ false
+no_hyphen x e = go (45 == x) refl
+  where
+    go : (b : Bool) → (45 == x) ≡ b → b ≡ false
+    go false same = refl
+    go true same =
+        let is : 45 ≡ x = eqb-true 45 x same in
+        let bad : false ≡ true = subst (λ (y : ℕ). not (y == 45) ≡ true) (sym is) e in
+        cc
+
+no_equals : (word : Text) → is_plain word ≡ true → starts_with nat_eq word (codes "--explain=") ≡ false
+no_equals [] e = refl
+no_equals (x ∷ xs) e = ap (λ b. b && starts_with nat_eq xs (codes "-explain=")) (no_hyphen x e)
 
 no_long : (word : Text) → is_plain word ≡ true → long_of word ≡ None
 no_long [] e = cc
@@ -125,150 +141,201 @@ plain_number low high (x ∷ xs) is = go (x == 45) refl
         let bad : 36 < 10 = hyphen.1.0 in
         absurd (omega arith)
 
-abbrev top : AllPlaces → Shape
-top places = (built (smtcheck_app places)).top
+abbrev top : Bool → AllPlaces → Shape
+top formed places = (built (smtcheck_app formed places)).top
 
 -- ---- one option
 
--- what is held passes, and its rows are these once the pending argument is used
-record IsAt (places : AllPlaces) (rows : List Row) (h : Held) : Type 0 where
-  settles : (settled (top places).rules h).rows ≡ rows
-  passes : settle_passes (top places).rules (top places).args_override_self h ≡ true
+-- an explanation with a form is given where the command's option takes a form, and one without where it takes none
+abbrev Suits : Bool → Given → Type 0
+Suits formed Explain = formed ≡ false
+Suits formed (ExplainAs form) = formed ≡ true
+Suits formed o = ⊤
 
-abbrev flagged : AllPlaces → Held → Text → Held
-flagged places h id = record h {
-  rows = with_values id AsWritten CommandLine (codes "true" ∷ [])
-      (without id (settled (top places).rules h).rows);
+-- what is held passes, and its rows are these once the pending argument is used
+record IsAt (formed : Bool) (places : AllPlaces) (rows : List Row) (h : Held) : Type 0 where
+  settles : (settled (top formed places).rules h).rows ≡ rows
+  passes : settle_passes (top formed places).rules (top formed places).args_override_self h ≡ true
+
+abbrev flagged : Bool → AllPlaces → Held → Given → Held
+flagged formed places h o = record h {
+  rows = with_values (name_of o) AsWritten CommandLine (value_of o ∷ [])
+      (without (name_of o) (settled (top formed places).rules h).rows);
   pending = None;
 }
 
-abbrev waiting_for : AllPlaces → Held → Text → List Text → Held
-waiting_for places h id texts = record (settled (top places).rules h) { pending = Some (id, texts) }
+abbrev waiting_for : Bool → AllPlaces → Held → Text → List Text → Held
+waiting_for formed places h id texts = record (settled (top formed places).rules h) { pending = Some (id, texts) }
 
 -- what is held behind an option
-abbrev held_after : AllPlaces → Held → Given → Held
-held_after places h Explain = flagged places h (codes "explain")
-held_after places h Strict = flagged places h (codes "strict")
-held_after places h o = waiting_for places h (name_of o) (value_of o ∷ [])
+abbrev held_after : Bool → AllPlaces → Held → Given → Held
+held_after formed places h Explain = flagged formed places h Explain
+held_after formed places h (ExplainAs form) = flagged formed places h (ExplainAs form)
+held_after formed places h Strict = flagged formed places h Strict
+held_after formed places h o = waiting_for formed places h (name_of o) (value_of o ∷ [])
 
 -- the walk that waits for the number of steps
-abbrev asking : AllPlaces → Held → Walk
-asking places h = record (standing 1 (waiting_for places h (codes "steps") [])) { waiting = option (codes "steps") }
+abbrev asking : Bool → AllPlaces → Held → Walk
+asking formed places h = record (standing 1 (waiting_for formed places h (codes "steps") [])) { waiting = option (codes "steps") }
 
-steps_asked : (places : AllPlaces) (h : Held)
-    → walked (top places).rules [] (standing 1 h) (codes "--steps") ≡ asking places h
+steps_asked : (formed : Bool) (places : AllPlaces) (h : Held)
+    → walked (top formed places).rules [] (standing 1 h) (codes "--steps") ≡ asking formed places h
 unfolding smtcheck_app clap_on_literals
-steps_asked places h = refl
+steps_asked formed places h = refl
 
-number_walked : (places : AllPlaces) (h : Held) (text : Text) → is_plain text ≡ true
-    → walked (top places).rules [] (asking places h) text
-    ≡ standing 1 (waiting_for places h (codes "steps") (text ∷ []))
+number_walked : (formed : Bool) (places : AllPlaces) (h : Held) (text : Text) → is_plain text ≡ true
+    → walked (top formed places).rules [] (asking formed places h) text
+    ≡ standing 1 (waiting_for formed places h (codes "steps") (text ∷ []))
 unfolding smtcheck_app walked
-number_walked places h text e =
-    ap (λ m. after_step (top places).rules text (asking places h) m.0 m.1)
-    (plain_met (top places).rules (option (codes "steps")) 1 text (waiting_for places h (codes "steps") []) e)
+number_walked formed places h text e =
+    ap (λ m. after_step (top formed places).rules text (asking formed places h) m.0 m.1)
+    (plain_met (top formed places).rules (option (codes "steps")) 1 text (waiting_for formed places h (codes "steps") []) e)
 
-option_walked : (places : AllPlaces) (h : Held) (o : Given) (rest : List Text) → IsInRange o
-    → fold (walked (top places).rules []) (standing 1 h) (words_of o ++ rest)
-    ≡ fold (walked (top places).rules []) (standing 1 (held_after places h o)) rest
+option_walked : (formed : Bool) (places : AllPlaces) (h : Held) (o : Given) (rest : List Text) → IsInRange o
+    → Suits formed o
+    → fold (walked (top formed places).rules []) (standing 1 h) (words_of o ++ rest)
+    ≡ fold (walked (top formed places).rules []) (standing 1 (held_after formed places h o)) rest
 unfolding smtcheck_app clap_on_literals
-option_walked places h (Preset solver.Z3) rest range = refl
-option_walked places h (Preset solver.Cvc5) rest range = refl
-option_walked places h (Preset solver.Cvc4) rest range = refl
-option_walked places h (Preset solver.Bitwuzla) rest range = refl
-option_walked places h (Preset solver.Boolector) rest range = refl
-option_walked places h (Preset solver.SmtInterpol) rest range = refl
-option_walked places h (Success true) rest range = refl
-option_walked places h (Success false) rest range = refl
-option_walked places h (Language Base) rest range = refl
-option_walked places h (Language Wide) rest range = refl
-option_walked places h (Steps text) rest range =
-    ap (λ w. fold (walked (top places).rules []) (walked (top places).rules [] w text) rest)
-    (steps_asked places h)
-    ∙ ap (λ w. fold (walked (top places).rules []) w rest)
-    (number_walked places h text (plain_number 0 most_steps text range))
-option_walked places h Explain rest range = refl
-option_walked places h (Hints true) rest range = refl
-option_walked places h (Hints false) rest range = refl
-option_walked places h Strict rest range = refl
+option_walked formed places h (Preset solver.Z3) rest range suits = refl
+option_walked formed places h (Preset solver.Cvc5) rest range suits = refl
+option_walked formed places h (Preset solver.Cvc4) rest range suits = refl
+option_walked formed places h (Preset solver.Bitwuzla) rest range suits = refl
+option_walked formed places h (Preset solver.Boolector) rest range suits = refl
+option_walked formed places h (Preset solver.SmtInterpol) rest range suits = refl
+option_walked formed places h (Success true) rest range suits = refl
+option_walked formed places h (Success false) rest range suits = refl
+option_walked formed places h (Language Base) rest range suits = refl
+option_walked formed places h (Language Wide) rest range suits = refl
+option_walked formed places h (Steps text) rest range suits =
+    ap (λ w. fold (walked (top formed places).rules []) (walked (top formed places).rules [] w text) rest)
+    (steps_asked formed places h)
+    ∙ ap (λ w. fold (walked (top formed places).rules []) w rest)
+    (number_walked formed places h text (plain_number 0 most_steps text range))
+option_walked false places h Explain rest range suits = refl
+option_walked true places h Explain rest range suits = cc
+option_walked false places h (ExplainAs f) rest range suits = cc
+option_walked true places h (ExplainAs form.Text) rest range suits = refl
+option_walked true places h (ExplainAs form.Json) rest range suits = refl
+option_walked true places h (ExplainAs form.Sarif) rest range suits = refl
+option_walked false places h (Hints true) rest range suits = refl
+option_walked true places h (Hints true) rest range suits = refl
+option_walked false places h (Hints false) rest range suits = refl
+option_walked true places h (Hints false) rest range suits = refl
+option_walked false places h Strict rest range suits = refl
+option_walked true places h Strict rest range suits = refl
+
+-- the words behind an option pass
+abbrev rest_passes : Bool → AllPlaces → Held → Given → List Text → Bool
+rest_passes formed places h o rest = walk_passes (top formed places) [] (standing 1 (held_after formed places h o)) rest
+
+-- so do those of an option that waits for its value, and of one that needs none
+worded_passes : (formed : Bool) (places : AllPlaces) (rows : List Row) (h : Held) (o : Given) (rest : List Text)
+    → IsAt formed places rows h
+    → (settle_passes (top formed places).rules false h && true && rest_passes formed places h o rest)
+    ≡ rest_passes formed places h o rest
+unfolding smtcheck_app
+worded_passes formed places rows h o rest at = ap (λ b. b && true && rest_passes formed places h o rest) at.passes
+
+flag_passes : (formed : Bool) (places : AllPlaces) (rows : List Row) (h : Held) (o : Given) (rest : List Text)
+    → IsAt formed places rows h → has_row (name_of o) rows ≡ false
+    → ((settle_passes (top formed places).rules false h
+    && ((not (has_row (name_of o) (settled (top formed places).rules h).rows) || false) && true)) && true
+    && rest_passes formed places h o rest) ≡ rest_passes formed places h o rest
+unfolding smtcheck_app
+flag_passes formed places rows h o rest at new =
+    ap₂ (λ b n. (b && ((not n || false) && true)) && true && rest_passes formed places h o rest) at.passes
+    (ap (has_row (name_of o)) at.settles ∙ new)
+
+number_passes : (formed : Bool) (places : AllPlaces) (rows : List Row) (h : Held) (text : Text) (rest : List Text)
+    → IsAt formed places rows h → IsUnsignedIn 0 most_steps text
+    → walk_passes (top formed places) [] (standing 1 h) (codes "--steps" ∷ text ∷ rest)
+    ≡ walk_passes (top formed places) [] (standing 1 (waiting_for formed places h (codes "steps") (text ∷ []))) rest
+unfolding smtcheck_app clap_on_literals
+number_passes formed places rows h text rest at range =
+    let plain = plain_number 0 most_steps text range in
+    let asked = waiting_for formed places h (codes "steps") [] in
+    let more = λ (w : Walk). walk_passes (top formed places) [] w rest in
+    let turn : turn_passes (top formed places) [] (asking formed places h) text ≡ true =
+    ap (λ m. word_passes (top formed places) [] false (option (codes "steps")) text asked
+    && step_passes (top formed places) 1 m.0 m.1)
+    (plain_met (top formed places).rules (option (codes "steps")) 1 text asked plain)
+    ∙ ap (λ b. b && true) (plain_passes (top formed places) (option (codes "steps")) text asked plain) in
+    ap (λ b. b && true && (turn_passes (top formed places) [] (asking formed places h) text
+    && more (walked (top formed places).rules [] (asking formed places h) text))) at.passes
+    ∙ ap (λ b. b && more (walked (top formed places).rules [] (asking formed places h) text)) turn
+    ∙ ap more (number_walked formed places h text plain)
 
 -- an option that is new passes
-option_passes : (places : AllPlaces) (rows : List Row) (h : Held) (o : Given) (rest : List Text)
-    → IsAt places rows h → has_row (name_of o) rows ≡ false → IsInRange o
-    → walk_passes (top places) [] (standing 1 h) (words_of o ++ rest)
-    ≡ walk_passes (top places) [] (standing 1 (held_after places h o)) rest
+option_passes : (formed : Bool) (places : AllPlaces) (rows : List Row) (h : Held) (o : Given) (rest : List Text)
+    → IsAt formed places rows h → has_row (name_of o) rows ≡ false → IsInRange o → Suits formed o
+    → walk_passes (top formed places) [] (standing 1 h) (words_of o ++ rest)
+    ≡ walk_passes (top formed places) [] (standing 1 (held_after formed places h o)) rest
 unfolding smtcheck_app clap_on_literals
-option_passes places rows h o rest at new range = go o new range
-  where
-    behind : Given → Bool
-    behind o = walk_passes (top places) [] (standing 1 (held_after places h o)) rest
-
-    worded : (o : Given) → (settle_passes (top places).rules false h && true && behind o) ≡ behind o
-    worded o = ap (λ b. b && true && behind o) at.passes
-
-    flag : (o : Given) → has_row (name_of o) rows ≡ false
-        → ((settle_passes (top places).rules false h
-        && ((not (has_row (name_of o) (settled (top places).rules h).rows) || false) && true)) && true && behind o)
-        ≡ behind o
-    flag o e = ap₂ (λ b n. (b && ((not n || false) && true)) && true && behind o) at.passes
-        (ap (has_row (name_of o)) at.settles ∙ e)
-
-    number : (text : Text) → IsUnsignedIn 0 most_steps text
-        → walk_passes (top places) [] (standing 1 h) (codes "--steps" ∷ text ∷ rest)
-        ≡ walk_passes (top places) [] (standing 1 (waiting_for places h (codes "steps") (text ∷ []))) rest
-    number text e =
-        let plain = plain_number 0 most_steps text e in
-        let asked = waiting_for places h (codes "steps") [] in
-        let more = λ (w : Walk). walk_passes (top places) [] w rest in
-        let turn : turn_passes (top places) [] (asking places h) text ≡ true =
-        ap (λ m. word_passes (top places) [] false (option (codes "steps")) text asked
-        && step_passes (top places) 1 m.0 m.1)
-        (plain_met (top places).rules (option (codes "steps")) 1 text asked plain)
-        ∙ ap (λ b. b && true) (plain_passes (top places) (option (codes "steps")) text asked plain) in
-        ap (λ b. b && true && (turn_passes (top places) [] (asking places h) text
-        && more (walked (top places).rules [] (asking places h) text))) at.passes
-        ∙ ap (λ b. b && more (walked (top places).rules [] (asking places h) text)) turn
-        ∙ ap more (number_walked places h text plain)
-
-    go : (o : Given) → has_row (name_of o) rows ≡ false → IsInRange o
-        → walk_passes (top places) [] (standing 1 h) (words_of o ++ rest)
-        ≡ walk_passes (top places) [] (standing 1 (held_after places h o)) rest
-    go (Preset solver.Z3) e r = worded (Preset solver.Z3)
-    go (Preset solver.Cvc5) e r = worded (Preset solver.Cvc5)
-    go (Preset solver.Cvc4) e r = worded (Preset solver.Cvc4)
-    go (Preset solver.Bitwuzla) e r = worded (Preset solver.Bitwuzla)
-    go (Preset solver.Boolector) e r = worded (Preset solver.Boolector)
-    go (Preset solver.SmtInterpol) e r = worded (Preset solver.SmtInterpol)
-    go (Success true) e r = worded (Success true)
-    go (Success false) e r = worded (Success false)
-    go (Language Base) e r = worded (Language Base)
-    go (Language Wide) e r = worded (Language Wide)
-    go (Steps text) e r = number text r
-    go Explain e r = flag Explain e
-    go (Hints true) e r = worded (Hints true)
-    go (Hints false) e r = worded (Hints false)
-    go Strict e r = flag Strict e
+option_passes formed places rows h (Preset solver.Z3) rest at new range suits =
+    worded_passes formed places rows h (Preset solver.Z3) rest at
+option_passes formed places rows h (Preset solver.Cvc5) rest at new range suits =
+    worded_passes formed places rows h (Preset solver.Cvc5) rest at
+option_passes formed places rows h (Preset solver.Cvc4) rest at new range suits =
+    worded_passes formed places rows h (Preset solver.Cvc4) rest at
+option_passes formed places rows h (Preset solver.Bitwuzla) rest at new range suits =
+    worded_passes formed places rows h (Preset solver.Bitwuzla) rest at
+option_passes formed places rows h (Preset solver.Boolector) rest at new range suits =
+    worded_passes formed places rows h (Preset solver.Boolector) rest at
+option_passes formed places rows h (Preset solver.SmtInterpol) rest at new range suits =
+    worded_passes formed places rows h (Preset solver.SmtInterpol) rest at
+option_passes formed places rows h (Success true) rest at new range suits =
+    worded_passes formed places rows h (Success true) rest at
+option_passes formed places rows h (Success false) rest at new range suits =
+    worded_passes formed places rows h (Success false) rest at
+option_passes formed places rows h (Language Base) rest at new range suits =
+    worded_passes formed places rows h (Language Base) rest at
+option_passes formed places rows h (Language Wide) rest at new range suits =
+    worded_passes formed places rows h (Language Wide) rest at
+option_passes formed places rows h (Steps text) rest at new range suits =
+    number_passes formed places rows h text rest at range
+option_passes false places rows h Explain rest at new range suits =
+    flag_passes false places rows h Explain rest at new
+option_passes true places rows h Explain rest at new range suits = cc
+option_passes false places rows h (ExplainAs f) rest at new range suits = cc
+option_passes true places rows h (ExplainAs form.Text) rest at new range suits =
+    flag_passes true places rows h (ExplainAs form.Text) rest at new
+option_passes true places rows h (ExplainAs form.Json) rest at new range suits =
+    flag_passes true places rows h (ExplainAs form.Json) rest at new
+option_passes true places rows h (ExplainAs form.Sarif) rest at new range suits =
+    flag_passes true places rows h (ExplainAs form.Sarif) rest at new
+option_passes false places rows h (Hints true) rest at new range suits =
+    worded_passes false places rows h (Hints true) rest at
+option_passes true places rows h (Hints true) rest at new range suits =
+    worded_passes true places rows h (Hints true) rest at
+option_passes false places rows h (Hints false) rest at new range suits =
+    worded_passes false places rows h (Hints false) rest at
+option_passes true places rows h (Hints false) rest at new range suits =
+    worded_passes true places rows h (Hints false) rest at
+option_passes false places rows h Strict rest at new range suits =
+    flag_passes false places rows h Strict rest at new
+option_passes true places rows h Strict rest at new range suits =
+    flag_passes true places rows h Strict rest at new
 
 -- and adds its row
-option_held : (places : AllPlaces) (rows : List Row) (h : Held) (o : Given)
-    → IsAt places rows h → has_row (name_of o) rows ≡ false → IsInRange o
-    → IsAt places (rows ++ row_of o ∷ []) (held_after places h o)
+option_held : (formed : Bool) (places : AllPlaces) (rows : List Row) (h : Held) (o : Given)
+    → IsAt formed places rows h → has_row (name_of o) rows ≡ false → IsInRange o
+    → IsAt formed places (rows ++ row_of o ∷ []) (held_after formed places h o)
 unfolding smtcheck_app
-option_held places rows h o at new range = go o new range
+option_held formed places rows h o at new range = go o new range
   where
     -- the row of an option with a value, and of one without
     put : (id text : Text) → has_row id rows ≡ false
-        → with_values id AsWritten CommandLine (text ∷ []) (without id (settled (top places).rules h).rows)
+        → with_values id AsWritten CommandLine (text ∷ []) (without id (settled (top formed places).rules h).rows)
         ≡ rows ++ row id text ∷ []
     put id text e = ap (λ l. with_values id AsWritten CommandLine (text ∷ []) (without id l)) at.settles
         ∙ added id text rows e
 
     pass : (id : Text) (b : Bool) → has_row id rows ≡ false → b ≡ true
-        → ((not (has_row id (settled (top places).rules h).rows) || false) && (b && true)) ≡ true
+        → ((not (has_row id (settled (top formed places).rules h).rows) || false) && (b && true)) ≡ true
     pass id b e t = ap₂ (λ n x. (not n || false) && (x && true)) (ap (has_row id) at.settles ∙ e) t
 
     go : (o : Given) → has_row (name_of o) rows ≡ false → IsInRange o
-        → IsAt places (rows ++ row_of o ∷ []) (held_after places h o)
+        → IsAt formed places (rows ++ row_of o ∷ []) (held_after formed places h o)
     go (Preset solver.Z3) e r = record { settles = put _ _ e; passes = pass _ true e refl }
     go (Preset solver.Cvc5) e r = record { settles = put _ _ e; passes = pass _ true e refl }
     go (Preset solver.Cvc4) e r = record { settles = put _ _ e; passes = pass _ true e refl }
@@ -284,6 +351,7 @@ option_held places rows h o at new range = go o new range
       passes = pass _ _ e (Accepts-accepts false (Unsigned 0 most_steps) text r);
     }
     go Explain e r = record { settles = put _ _ e; passes = refl }
+    go (ExplainAs f) e r = record { settles = put _ _ e; passes = refl }
     go (Hints true) e r = record { settles = put _ _ e; passes = pass _ true e refl }
     go (Hints false) e r = record { settles = put _ _ e; passes = pass _ true e refl }
     go Strict e r = record { settles = put _ _ e; passes = refl }
@@ -316,36 +384,39 @@ still o rows (x ∷ xs) new others = go (bytes_eq (name_of o) (name_of x)) refl 
     go false e f more = (still_new (name_of x) (row_of o) rows new.0 e, more f)
 
 -- the walk over options, from what is held to what is held behind them
-record IsWalked (places : AllPlaces) (rows : List Row) (h : Held) (given : List Given) (behind : List Text)
+record IsWalked (formed : Bool) (places : AllPlaces) (rows : List Row) (h : Held) (given : List Given) (behind : List Text)
     : Type 0 where
   held : Held
-  at : IsAt places (rows ++ map row_of given) held
-  goes : fold (walked (top places).rules []) (standing 1 h) (given_words given behind)
-      ≡ fold (walked (top places).rules []) (standing 1 held) behind
-  passes : walk_passes (top places) [] (standing 1 h) (given_words given behind)
-      ≡ walk_passes (top places) [] (standing 1 held) behind
+  at : IsAt formed places (rows ++ map row_of given) held
+  goes : fold (walked (top formed places).rules []) (standing 1 h) (given_words given behind)
+      ≡ fold (walked (top formed places).rules []) (standing 1 held) behind
+  passes : walk_passes (top formed places) [] (standing 1 h) (given_words given behind)
+      ≡ walk_passes (top formed places) [] (standing 1 held) behind
 
-options_walked : (places : AllPlaces) (rows : List Row) (h : Held) (given : List Given) (behind : List Text)
-    → IsAt places rows h → AreNew rows given → are_distinct given ≡ true → All IsInRange given
-    → IsWalked places rows h given behind
+options_walked : (formed : Bool) (places : AllPlaces) (rows : List Row) (h : Held) (given : List Given) (behind : List Text)
+    → IsAt formed places rows h → AreNew rows given → are_distinct given ≡ true → All IsInRange given
+    → All (Suits formed) given → IsWalked formed places rows h given behind
 unfolding AreNew
-options_walked places rows h [] behind at new distinct ranges = record {
+options_walked formed places rows h [] behind at new distinct ranges suits = record {
   held = h;
-  at = subst (λ l. IsAt places l h) (sym (append-nil rows)) at;
+  at = subst (λ l. IsAt formed places l h) (sym (append-nil rows)) at;
   goes = refl;
   passes = refl;
 }
-options_walked places rows h (o ∷ rest) behind at new distinct ranges =
+options_walked formed places rows h (o ∷ rest) behind at new distinct ranges suits =
     let range : IsInRange o = ranges 0 o (omega arith) in
+    let suit : Suits formed o = suits 0 o (omega arith) in
     let apart = both _ _ distinct in
-    let one = option_held places rows h o at new.0 range in
-    let all = options_walked places (rows ++ row_of o ∷ []) (held_after places h o) rest behind one
-    (still o rows rest new.1 (is_false _ apart.0)) apart.1 (λ k d lt. ranges (suc k) d (omega arith)) in
+    let one = option_held formed places rows h o at new.0 range in
+    let all = options_walked formed places (rows ++ row_of o ∷ []) (held_after formed places h o) rest behind one
+    (still o rows rest new.1 (is_false _ apart.0)) apart.1 (λ k d lt. ranges (suc k) d (omega arith))
+    (λ k d lt. suits (suc k) d (omega arith)) in
     record {
       held = all.held;
-      at = subst (λ l. IsAt places l all.held) (append_assoc rows (row_of o ∷ []) (map row_of rest)) all.at;
-      goes = option_walked places h o (given_words rest behind) range ∙ all.goes;
-      passes = option_passes places rows h o (given_words rest behind) at new.0 range ∙ all.passes;
+      at = subst (λ l. IsAt formed places l all.held) (append_assoc rows (row_of o ∷ []) (map row_of rest)) all.at;
+      goes = option_walked formed places h o (given_words rest behind) range suit ∙ all.goes;
+      passes = option_passes formed places rows h o (given_words rest behind) at new.0 range suit
+          ∙ all.passes;
     }
 
 none_new : (given : List Given) → AreNew [] given
@@ -355,8 +426,8 @@ none_new (o ∷ rest) = (refl, none_new rest)
 
 -- ---- the two words
 
-abbrev file_held : AllPlaces → Held → Text → Text → Held
-file_held places h id text = pushed id text (settled (top places).rules h)
+abbrev file_held : Bool → AllPlaces → Held → Text → Text → Held
+file_held formed places h id text = pushed id text (settled (top formed places).rules h)
 
 abbrev with_script : List Given → Text → List Row
 with_script given script = map row_of given ++ row (codes "SCRIPT") script ∷ []
@@ -382,6 +453,7 @@ not_script (Success prints) = refl
 not_script (Language profile) = refl
 not_script (Steps text) = refl
 not_script Explain = refl
+not_script (ExplainAs f) = refl
 not_script (Hints are_on) = refl
 not_script Strict = refl
 
@@ -391,6 +463,7 @@ not_answers (Success prints) = refl
 not_answers (Language profile) = refl
 not_answers (Steps text) = refl
 not_answers Explain = refl
+not_answers (ExplainAs f) = refl
 not_answers (Hints are_on) = refl
 not_answers Strict = refl
 
@@ -403,66 +476,66 @@ and_false true = refl
 and_false false = refl
 
 -- a file that has no row yet adds one
-file_at : (places : AllPlaces) (rows : List Row) (h : Held) (id text : Text) → IsAt places rows h
+file_at : (formed : Bool) (places : AllPlaces) (rows : List Row) (h : Held) (id text : Text) → IsAt formed places rows h
     → has_row id rows ≡ false
-    → with_values id AsWritten CommandLine (text ∷ []) (without id (settled (top places).rules h).rows)
+    → with_values id AsWritten CommandLine (text ∷ []) (without id (settled (top formed places).rules h).rows)
     ≡ rows ++ row id text ∷ []
-file_at places rows h id text at new =
+file_at formed places rows h id text at new =
     ap (λ l. with_values id AsWritten CommandLine (text ∷ []) (without id l)) at.settles ∙ added id text rows new
 
-file_passes : (places : AllPlaces) (rows : List Row) (h : Held) (id : Text) → IsAt places rows h
+file_passes : (formed : Bool) (places : AllPlaces) (rows : List Row) (h : Held) (id : Text) → IsAt formed places rows h
     → has_row id rows ≡ false
-    → ((not (has_row id (settled (top places).rules h).rows) || false) && (true && true)) ≡ true
-file_passes places rows h id at new = ap (λ n. (not n || false) && true) (ap (has_row id) at.settles ∙ new)
+    → ((not (has_row id (settled (top formed places).rules h).rows) || false) && (true && true)) ≡ true
+file_passes formed places rows h id at new = ap (λ n. (not n || false) && true) (ap (has_row id) at.settles ∙ new)
 
-script_at : (places : AllPlaces) (given : List Given) (h : Held) (script : Text)
-    → IsAt places (map row_of given) h
-    → IsAt places (with_script given script) (file_held places h (codes "SCRIPT") script)
+script_at : (formed : Bool) (places : AllPlaces) (given : List Given) (h : Held) (script : Text)
+    → IsAt formed places (map row_of given) h
+    → IsAt formed places (with_script given script) (file_held formed places h (codes "SCRIPT") script)
 unfolding smtcheck_app
-script_at places given h script at =
+script_at formed places given h script at =
     let new = no_file (codes "SCRIPT") not_script given in
     record {
-      settles = file_at places _ h (codes "SCRIPT") script at new;
-      passes = file_passes places _ h (codes "SCRIPT") at new;
+      settles = file_at formed places _ h (codes "SCRIPT") script at new;
+      passes = file_passes formed places _ h (codes "SCRIPT") at new;
     }
 
-answers_at : (places : AllPlaces) (given : List Given) (h : Held) (script answers : Text)
-    → IsAt places (with_script given script) h
-    → IsAt places (with_both given script answers) (file_held places h (codes "ANSWERS") answers)
+answers_at : (formed : Bool) (places : AllPlaces) (given : List Given) (h : Held) (script answers : Text)
+    → IsAt formed places (with_script given script) h
+    → IsAt formed places (with_both given script answers) (file_held formed places h (codes "ANSWERS") answers)
 unfolding smtcheck_app
-answers_at places given h script answers at =
+answers_at formed places given h script answers at =
     let new = no_answers given script in
     record {
-      settles = file_at places _ h (codes "ANSWERS") answers at new;
-      passes = file_passes places _ h (codes "ANSWERS") at new;
+      settles = file_at formed places _ h (codes "ANSWERS") answers at new;
+      passes = file_passes formed places _ h (codes "ANSWERS") at new;
     }
 
-script_walked : (places : AllPlaces) (h : Held) (script : Text) → is_plain script ≡ true
-    → walked (top places).rules [] (standing 1 h) script
-    ≡ standing 2 (file_held places h (codes "SCRIPT") script)
+script_walked : (formed : Bool) (places : AllPlaces) (h : Held) (script : Text) → is_plain script ≡ true
+    → walked (top formed places).rules [] (standing 1 h) script
+    ≡ standing 2 (file_held formed places h (codes "SCRIPT") script)
 unfolding smtcheck_app
-script_walked places h script e = plain_walked (top places).rules 1 script h e
-    ∙ ap (λ b. standing 2 (pushed (codes "SCRIPT") script (if b then h else settled (top places).rules h)))
+script_walked formed places h script e = plain_walked (top formed places).rules 1 script h e
+    ∙ ap (λ b. standing 2 (pushed (codes "SCRIPT") script (if b then h else settled (top formed places).rules h)))
     (and_false (option_map_or (λ q. bytes_eq q.0 (codes "SCRIPT")) h.pending false))
 
-answers_walked : (places : AllPlaces) (h : Held) (answers : Text) → is_plain answers ≡ true
-    → walked (top places).rules [] (standing 2 h) answers
-    ≡ standing 3 (file_held places h (codes "ANSWERS") answers)
+answers_walked : (formed : Bool) (places : AllPlaces) (h : Held) (answers : Text) → is_plain answers ≡ true
+    → walked (top formed places).rules [] (standing 2 h) answers
+    ≡ standing 3 (file_held formed places h (codes "ANSWERS") answers)
 unfolding smtcheck_app
-answers_walked places h answers e = plain_walked (top places).rules 2 answers h e
-    ∙ ap (λ b. standing 3 (pushed (codes "ANSWERS") answers (if b then h else settled (top places).rules h)))
+answers_walked formed places h answers e = plain_walked (top formed places).rules 2 answers h e
+    ∙ ap (λ b. standing 3 (pushed (codes "ANSWERS") answers (if b then h else settled (top formed places).rules h)))
     (and_false (option_map_or (λ q. bytes_eq q.0 (codes "ANSWERS")) h.pending false))
 
-script_step : (places : AllPlaces) (rows : List Row) (h : Held) → IsAt places rows h
-    → step_passes (top places) 1 h value ≡ true
+script_step : (formed : Bool) (places : AllPlaces) (rows : List Row) (h : Held) → IsAt formed places rows h
+    → step_passes (top formed places) 1 h value ≡ true
 unfolding smtcheck_app
-script_step places rows h at = ap₂ (λ a b. a || b)
+script_step formed places rows h at = ap₂ (λ a b. a || b)
     (and_false (option_map_or (λ q. bytes_eq q.0 (codes "SCRIPT")) h.pending false)) at.passes
 
-answers_step : (places : AllPlaces) (rows : List Row) (h : Held) → IsAt places rows h
-    → step_passes (top places) 2 h value ≡ true
+answers_step : (formed : Bool) (places : AllPlaces) (rows : List Row) (h : Held) → IsAt formed places rows h
+    → step_passes (top formed places) 2 h value ≡ true
 unfolding smtcheck_app
-answers_step places rows h at = ap₂ (λ a b. a || b)
+answers_step formed places rows h at = ap₂ (λ a b. a || b)
     (and_false (option_map_or (λ q. bytes_eq q.0 (codes "ANSWERS")) h.pending false)) at.passes
 
 -- ---- the whole line
@@ -471,36 +544,157 @@ answers_step places rows h at = ap₂ (λ a b. a || b)
 abbrev pub line_of : Text → List Given → Text → Text → List Text
 line_of name given script answers = name ∷ given_words given (script ∷ answers ∷ [])
 
-record IsRead (places : AllPlaces) (given : List Given) (script answers : Text) : Type 0 where
-  held : Held
-  at : IsAt places (with_both given script answers) held
-  goes : walk (top places).rules [] nothing_held (given_words given (script ∷ answers ∷ [])) ≡ standing 3 held
-  passes : walk_passes (top places) [] (walk_from nothing_held) (given_words given (script ∷ answers ∷ [])) ≡ true
+-- the option gives a form
+abbrev is_formed : Given → Bool
+is_formed (ExplainAs form) = true
+is_formed o = false
 
-line_read : (places : AllPlaces) (given : List Given) (script answers : Text)
+-- an option of another name than `--explain` suits each command, and gives no form
+suits_any : (formed : Bool) (o : Given) → bytes_eq (codes "explain") (name_of o) ≡ false → Suits formed o
+suits_any formed (Preset s) other = tt
+suits_any formed (Success prints) other = tt
+suits_any formed (Language profile) other = tt
+suits_any formed (Steps text) other = tt
+suits_any formed Explain other = cc
+suits_any formed (ExplainAs f) other = cc
+suits_any formed (Hints are_on) other = tt
+suits_any formed Strict other = tt
+
+no_form : (o : Given) → bytes_eq (codes "explain") (name_of o) ≡ false → is_formed o ≡ false
+no_form (Preset s) other = refl
+no_form (Success prints) other = refl
+no_form (Language profile) other = refl
+no_form (Steps text) other = refl
+no_form Explain other = refl
+no_form (ExplainAs f) other = cc
+no_form (Hints are_on) other = refl
+no_form Strict other = refl
+
+neither : (a b : Bool) → (a || b) ≡ false → (a ≡ false) × (b ≡ false)
+neither true b e = cc
+neither false b e = (refl, e)
+
+-- none of them is `--explain`
+abbrev NoneExplains : List Given → Type 0
+NoneExplains given = list_any (λ other. bytes_eq (codes "explain") (name_of other)) given ≡ false
+
+all_suit : (formed : Bool) (given : List Given) → NoneExplains given → All (Suits formed) given
+all_suit formed [] none k d lt = absurd (omega arith)
+all_suit formed (o ∷ rest) none zero d lt = suits_any formed o (neither _ _ none).0
+all_suit formed (o ∷ rest) none (suc k) d lt = all_suit formed rest (neither _ _ none).1 k d (omega arith)
+
+none_formed : (given : List Given) → NoneExplains given → list_any is_formed given ≡ false
+none_formed [] none = refl
+none_formed (o ∷ rest) none =
+    ap₂ (λ a b. a || b) (no_form o (neither _ _ none).0) (none_formed rest (neither _ _ none).1)
+
+suit_first : (formed : Bool) (o : Given) (rest : List Given) → Suits formed o → All (Suits formed) rest
+    → All (Suits formed) (o ∷ rest)
+suit_first formed o rest one all zero d lt = one
+suit_first formed o rest one all (suc k) d lt = all k d (omega arith)
+
+-- distinct options suit the command that takes a form where one of them gives one
+suited : (given : List Given) → are_distinct given ≡ true → All (Suits (list_any is_formed given)) given
+suited [] distinct = λ k d lt. absurd (omega arith)
+suited (o ∷ rest) distinct =
+    let apart = both _ _ distinct in
+    go o (is_false _ apart.0) (suited rest apart.1)
+  where
+    go : (o : Given) → list_any (λ other. bytes_eq (name_of o) (name_of other)) rest ≡ false
+        → All (Suits (list_any is_formed rest)) rest → All (Suits (list_any is_formed (o ∷ rest))) (o ∷ rest)
+    go (Preset s) others all = suit_first _ (Preset s) rest tt all
+    go (Success prints) others all = suit_first _ (Success prints) rest tt all
+    go (Language profile) others all = suit_first _ (Language profile) rest tt all
+    go (Steps text) others all = suit_first _ (Steps text) rest tt all
+    go Explain others all = suit_first _ Explain rest (none_formed rest others) (all_suit _ rest others)
+    go (ExplainAs f) others all = suit_first _ (ExplainAs f) rest refl (all_suit _ rest others)
+    go (Hints are_on) others all = suit_first _ (Hints are_on) rest tt all
+    go Strict others all = suit_first _ Strict rest tt all
+
+-- a plain word gives no form
+plain_form : (word : Text) (behind : List Text) → is_plain word ≡ true → has_form (word ∷ behind) ≡ has_form behind
+plain_form word behind e =
+    ap₂ (λ a b. not a && (b || has_form behind)) (no_dashes word e) (no_equals word e)
+
+option_form : (o : Given) (behind : List Text) → IsInRange o
+    → has_form (words_of o ++ behind) ≡ (is_formed o || has_form behind)
+option_form (Preset solver.Z3) behind range = refl
+option_form (Preset solver.Cvc5) behind range = refl
+option_form (Preset solver.Cvc4) behind range = refl
+option_form (Preset solver.Bitwuzla) behind range = refl
+option_form (Preset solver.Boolector) behind range = refl
+option_form (Preset solver.SmtInterpol) behind range = refl
+option_form (Success true) behind range = refl
+option_form (Success false) behind range = refl
+option_form (Language Base) behind range = refl
+option_form (Language Wide) behind range = refl
+option_form (Steps text) behind range = plain_form text behind (plain_number 0 most_steps text range)
+option_form Explain behind range = refl
+option_form (ExplainAs f) behind range = refl
+option_form (Hints true) behind range = refl
+option_form (Hints false) behind range = refl
+option_form Strict behind range = refl
+
+or_assoc : (a b c : Bool) → (a || (b || c)) ≡ ((a || b) || c)
+or_assoc true b c = refl
+or_assoc false b c = refl
+
+options_form : (given : List Given) (behind : List Text) → All IsInRange given
+    → has_form (given_words given behind) ≡ (list_any is_formed given || has_form behind)
+options_form [] behind ranges = refl
+options_form (o ∷ rest) behind ranges =
+    option_form o (given_words rest behind) (ranges 0 o (omega arith))
+    ∙ ap (λ b. is_formed o || b) (options_form rest behind (λ k d lt. ranges (suc k) d (omega arith)))
+    ∙ or_assoc (is_formed o) (list_any is_formed rest) (has_form behind)
+
+or_false : (b : Bool) → (b || false) ≡ b
+or_false true = refl
+or_false false = refl
+
+line_form : (name : Text) (given : List Given) (script answers : Text) → All IsInRange given
+    → is_plain script ≡ true → is_plain answers ≡ true
+    → gives_form (line_of name given script answers) ≡ list_any is_formed given
+line_form name given script answers ranges p q =
+    options_form given (script ∷ answers ∷ []) ranges
+    ∙ ap (λ b. list_any is_formed given || b) (plain_form script (answers ∷ []) p ∙ plain_form answers [] q)
+    ∙ or_false (list_any is_formed given)
+
+line_suits : (name : Text) (given : List Given) (script answers : Text)
     → are_distinct given ≡ true → All IsInRange given → is_plain script ≡ true → is_plain answers ≡ true
-    → IsRead places given script answers
+    → All (Suits (gives_form (line_of name given script answers))) given
+line_suits name given script answers distinct ranges p q =
+    subst (λ b. All (Suits b) given) (sym (line_form name given script answers ranges p q)) (suited given distinct)
+
+record IsRead (formed : Bool) (places : AllPlaces) (given : List Given) (script answers : Text) : Type 0 where
+  held : Held
+  at : IsAt formed places (with_both given script answers) held
+  goes : walk (top formed places).rules [] nothing_held (given_words given (script ∷ answers ∷ [])) ≡ standing 3 held
+  passes : walk_passes (top formed places) [] (walk_from nothing_held) (given_words given (script ∷ answers ∷ [])) ≡ true
+
+line_read : (formed : Bool) (places : AllPlaces) (given : List Given) (script answers : Text)
+    → are_distinct given ≡ true → All IsInRange given → All (Suits formed) given → is_plain script ≡ true
+    → is_plain answers ≡ true → IsRead formed places given script answers
 unfolding walk_passes
-line_read places given script answers distinct ranges p q =
+line_read formed places given script answers distinct ranges suits p q =
     let words = script ∷ answers ∷ [] in
-    let options = options_walked places [] nothing_held given words (record { settles = refl; passes = refl })
-    (none_new given) distinct ranges in
+    let options = options_walked formed places [] nothing_held given words (record { settles = refl; passes = refl })
+    (none_new given) distinct ranges suits in
     let h = options.held in
-    let first = file_held places h (codes "SCRIPT") script in
-    let first_at = script_at places given h script options.at in
-    let second = file_held places first (codes "ANSWERS") answers in
-    let behind = λ (w : Walk). turn_passes (top places) [] w answers && true in
+    let first = file_held formed places h (codes "SCRIPT") script in
+    let first_at = script_at formed places given h script options.at in
+    let second = file_held formed places first (codes "ANSWERS") answers in
+    let behind = λ (w : Walk). turn_passes (top formed places) [] w answers && true in
     let last : behind (standing 2 first) ≡ true = ap (λ b. b && true)
-    (plain_turn (top places) 2 answers first q (answers_step places _ first first_at)) in
+    (plain_turn (top formed places) 2 answers first q (answers_step formed places _ first first_at)) in
     record {
       held = second;
-      at = answers_at places given first script answers first_at;
-      goes = options.goes ∙ ap (λ w. walked (top places).rules [] w answers) (script_walked places h script p)
-          ∙ answers_walked places first answers q;
+      at = answers_at formed places given first script answers first_at;
+      goes = options.goes ∙ ap (λ w. walked (top formed places).rules [] w answers) (script_walked formed places h script p)
+          ∙ answers_walked formed places first answers q;
       passes = options.passes
-          ∙ ap (λ b. b && behind (walked (top places).rules [] (standing 1 h) script))
-          (plain_turn (top places) 1 script h p (script_step places _ h options.at))
-          ∙ ap behind (script_walked places h script p) ∙ last;
+          ∙ ap (λ b. b && behind (walked (top formed places).rules [] (standing 1 h) script))
+          (plain_turn (top formed places) 1 script h p (script_step formed places _ h options.at))
+          ∙ ap behind (script_walked formed places h script p) ∙ last;
     }
 
 -- ---- the rows at the end
@@ -555,16 +749,16 @@ answers_row rules given script answers =
     (found_behind id (map row_of given) (row (codes "SCRIPT") script ∷ []) (no_option id not_answers given)))
 
 -- what is checked after the words
-abbrev end_passes : AllPlaces → Held → Bool
-end_passes places h = settle_passes (top places).rules (top places).args_override_self h
-    && (list_all default_passes (top places).rules
-    && is_valid (top places) (finished (top places).rules h) false)
+abbrev end_passes : Bool → AllPlaces → Held → Bool
+end_passes formed places h = settle_passes (top formed places).rules (top formed places).args_override_self h
+    && (list_all default_passes (top formed places).rules
+    && is_valid (top formed places) (finished (top formed places).rules h) false)
 
-end_holds : (places : AllPlaces) (given : List Given) (h : Held) (script answers : Text)
-    → IsAt places (with_both given script answers) h → end_passes places h ≡ true
+end_holds : (formed : Bool) (places : AllPlaces) (given : List Given) (h : Held) (script answers : Text)
+    → IsAt formed places (with_both given script answers) h → end_passes formed places h ≡ true
 unfolding smtcheck_app
-end_holds places given h script answers at =
-    let rules = (top places).rules in
+end_holds formed places given h script answers at =
+    let rules = (top formed places).rules in
     let of = λ (l : List Row). fold with_default l rules in
     let was = λ (o : Option Row). option_map_or (λ r. explicit_source r.source) o false in
     ap₂ (λ b l. b && (was (find_row (codes "SCRIPT") (of l)) && (was (find_row (codes "ANSWERS") (of l)) && true)))
@@ -572,18 +766,26 @@ end_holds places given h script answers at =
     ∙ ap₂ (λ x y. was x && (was y && true)) (script_row rules given script answers)
     (answers_row rules given script answers)
 
+taken_by : (formed : Bool) (places : AllPlaces) (name : Text) (given : List Given) (script answers : Text)
+    → are_distinct given ≡ true → All IsInRange given → All (Suits formed) given → is_plain script ≡ true
+    → is_plain answers ≡ true → takes (smtcheck_app formed places) (line_of name given script answers) ≡ true
+unfolding smtcheck_app
+taken_by formed places name given script answers distinct ranges suits p q =
+    let words = given_words given (script ∷ answers ∷ []) in
+    let read = line_read formed places given script answers distinct ranges suits p q in
+    let ends : end_passes formed places (walk (top formed places).rules [] nothing_held words).held ≡ true =
+    ap (λ (w : Walk). end_passes formed places w.held) read.goes
+    ∙ end_holds formed places given read.held script answers read.at in
+    leaf_takes (built (smtcheck_app formed places)) nothing_held words refl
+    (ap (λ b. b && end_passes formed places (walk (top formed places).rules [] nothing_held words).held) read.passes ∙ ends)
+
 pub line-taken : (places : AllPlaces) (name : Text) (given : List Given) (script answers : Text)
     → are_distinct given ≡ true → All IsInRange given → is_plain script ≡ true → is_plain answers ≡ true
-    → takes (smtcheck_app places) (line_of name given script answers) ≡ true
-unfolding smtcheck_app
+    → takes (smtcheck_app (gives_form (line_of name given script answers)) places) (line_of name given script answers)
+    ≡ true
 line-taken places name given script answers distinct ranges p q =
-    let words = given_words given (script ∷ answers ∷ []) in
-    let read = line_read places given script answers distinct ranges p q in
-    let ends : end_passes places (walk (top places).rules [] nothing_held words).held ≡ true =
-    ap (λ (w : Walk). end_passes places w.held) read.goes
-    ∙ end_holds places given read.held script answers read.at in
-    leaf_takes (built (smtcheck_app places)) nothing_held words refl
-    (ap (λ b. b && end_passes places (walk (top places).rules [] nothing_held words).held) read.passes ∙ ends)
+    taken_by (gives_form (line_of name given script answers)) places name given script answers distinct ranges
+    (line_suits name given script answers distinct ranges p q) p q
 
 -- ---- the values that the command has on the words
 
@@ -600,29 +802,27 @@ pub record HasValues (given : List Given) (script answers : Text) (rows : List R
   pub of_hints : first_of (codes "hints") rows ≡ value_in given (codes "hints")
   pub of_steps : one_of (codes "steps") rows
       ≡ Some (unwrap_or (value_in given (codes "steps")) (codes "10000000"))
-  pub of_explain : is_given (first_of (codes "explain") rows) ≡ is_given (value_in given (codes "explain"))
+  pub of_explain : first_of (codes "explain") rows ≡ value_in given (codes "explain")
   pub of_strict : is_given (first_of (codes "strict") rows) ≡ is_given (value_in given (codes "strict"))
 
-end_values : (places : AllPlaces) (given : List Given) (h : Held) (script answers : Text)
-    → IsAt places (with_both given script answers) h
-    → HasValues given script answers (finished (top places).rules h)
+end_values : (formed : Bool) (places : AllPlaces) (given : List Given) (h : Held) (script answers : Text)
+    → IsAt formed places (with_both given script answers) h
+    → HasValues given script answers (finished (top formed places).rules h)
 unfolding smtcheck_app default_in
-end_values places given h script answers at = subst
-    (λ l. HasValues given script answers (fold with_default l (top places).rules)) (sym at.settles) (record {
-      of_script = ap first_in (script_row (top places).rules given script answers);
-      of_answers = ap first_in (answers_row (top places).rules given script answers);
+end_values formed places given h script answers at = subst
+    (λ l. HasValues given script answers (fold with_default l (top formed places).rules)) (sym at.settles) (record {
+      of_script = ap first_in (script_row (top formed places).rules given script answers);
+      of_answers = ap first_in (answers_row (top formed places).rules given script answers);
       of_solver = no_default (codes "solver") refl refl refl;
       of_success = no_default (codes "print-success") refl refl refl;
       of_profile = no_default (codes "profile") refl refl refl;
       of_hints = no_default (codes "hints") refl refl refl;
       of_steps = ap (option_and_then row_text)
-          (looked_up (top places).rules given script answers (codes "steps") refl refl)
+          (looked_up (top formed places).rules given script answers (codes "steps") refl refl)
           ∙ number (find (λ o. bytes_eq (name_of o) (codes "steps")) given);
-      of_explain = ap (λ o. is_given (first_in o))
-          (looked_up (top places).rules given script answers (codes "explain") refl refl)
-          ∙ flag (codes "explain") refl (find (λ o. bytes_eq (name_of o) (codes "explain")) given);
+      of_explain = no_default (codes "explain") refl refl refl;
       of_strict = ap (λ o. is_given (first_in o))
-          (looked_up (top places).rules given script answers (codes "strict") refl refl)
+          (looked_up (top formed places).rules given script answers (codes "strict") refl refl)
           ∙ flag (codes "strict") refl (find (λ o. bytes_eq (name_of o) (codes "strict")) given);
     })
   where
@@ -631,30 +831,39 @@ end_values places given h script answers at = subst
     none (Some o) = refl
 
     no_default : (id : Text) → bytes_eq (codes "SCRIPT") id ≡ false → bytes_eq (codes "ANSWERS") id ≡ false
-        → default_in id (top places).rules ≡ None
-        → first_of id (fold with_default (with_both given script answers) (top places).rules)
+        → default_in id (top formed places).rules ≡ None
+        → first_of id (fold with_default (with_both given script answers) (top formed places).rules)
         ≡ value_in given id
-    no_default id s a absent = ap first_in (looked_up (top places).rules given script answers id s a)
+    no_default id s a absent = ap first_in (looked_up (top formed places).rules given script answers id s a)
         ∙ ap (λ d. first_in (or_else (option_map row_of (find (λ o. bytes_eq (name_of o) id) given)) d)) absent
         ∙ none (find (λ o. bytes_eq (name_of o) id) given)
 
     number : (o : Option Given)
-        → option_and_then row_text (or_else (option_map row_of o) (default_in (codes "steps") (top places).rules))
+        → option_and_then row_text (or_else (option_map row_of o) (default_in (codes "steps") (top formed places).rules))
         ≡ Some (unwrap_or (option_map value_of o) (codes "10000000"))
     number None = refl
     number (Some o) = refl
 
-    flag : (id : Text) → first_in (default_in id (top places).rules) ≡ Some (codes "false") → (o : Option Given)
-        → is_given (first_in (or_else (option_map row_of o) (default_in id (top places).rules)))
+    flag : (id : Text) → first_in (default_in id (top formed places).rules) ≡ Some (codes "false") → (o : Option Given)
+        → is_given (first_in (or_else (option_map row_of o) (default_in id (top formed places).rules)))
         ≡ is_given (option_map value_of o)
     flag id absent None = ap is_given absent
     flag id absent (Some o) = refl
 
+values_by : (formed : Bool) (places : AllPlaces) (name : Text) (given : List Given) (script answers : Text)
+    → are_distinct given ≡ true → All IsInRange given → All (Suits formed) given → is_plain script ≡ true
+    → is_plain answers ≡ true
+    → HasValues given script answers (matches_of (smtcheck_app formed places) (line_of name given script answers))
+unfolding smtcheck_app
+values_by formed places name given script answers distinct ranges suits p q =
+    let read = line_read formed places given script answers distinct ranges suits p q in
+    subst (λ (w : Walk). HasValues given script answers (finished (top formed places).rules w.held)) (sym read.goes)
+    (end_values formed places given read.held script answers read.at)
+
 pub line-values : (places : AllPlaces) (name : Text) (given : List Given) (script answers : Text)
     → are_distinct given ≡ true → All IsInRange given → is_plain script ≡ true → is_plain answers ≡ true
-    → HasValues given script answers (matches_of (smtcheck_app places) (line_of name given script answers))
-unfolding smtcheck_app
+    → HasValues given script answers (matches_of (smtcheck_app (gives_form (line_of name given script answers)) places)
+    (line_of name given script answers))
 line-values places name given script answers distinct ranges p q =
-    let read = line_read places given script answers distinct ranges p q in
-    subst (λ (w : Walk). HasValues given script answers (finished (top places).rules w.held)) (sym read.goes)
-    (end_values places given read.held script answers read.at)
+    values_by (gives_form (line_of name given script answers)) places name given script answers distinct ranges
+    (line_suits name given script answers distinct ranges p q) p q

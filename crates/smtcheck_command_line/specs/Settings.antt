@@ -1,8 +1,8 @@
 -- The command line of the program, in the words in which clap says what a parse gives.
 use Rattle.std.specs.Prelude.{◌≡◌, ◌==◌, ◌-◌, ◌^◌, ◌&&◌, ℕ, suc, Bool, true, false, not, Some, ⊤, codes, is_some}
 use Rattle.std.specs.Prelude.{List, [], ◌∷◌, ◌++◌, find, map, MatchResult, None, Option, Result, if◌then◌else◌}
-use Rattle.std.specs.Prelude.{option_and_then, option_map, unwrap_or}
-use Rattle.std.specs.List.{All, list_any}
+use Rattle.std.specs.Prelude.{drop, nat_eq, option_and_then, option_map, unwrap_or, ◌||◌}
+use Rattle.std.specs.List.{All, list_any, starts_with}
 use Rattle.std.specs.Option.{option_map_or}
 use Rattle.std.specs.Str.{bytes_eq}
 use Rattle.std.specs.Borrow.{Bor}
@@ -19,6 +19,8 @@ use Rattle.clap.specs.declared.error.ErrorKind.{ErrorKind}
 use Rattle.clap.specs.declared.error.ErrorKind.TheVariants as kind
 use Rattle.smt_theory.specs.declared.profile.Profile.{Profile}
 use Rattle.smt_theory.specs.declared.profile.Profile.TheVariants.{Base, Wide}
+use Rattle.smtcheck_command_line.specs.declared.arguments.Form.{Form}
+use Rattle.smtcheck_command_line.specs.declared.arguments.Form.TheVariants as form
 use Rattle.smtcheck_command_line.specs.declared.arguments.LineFault.{LineFault}
 use Rattle.smtcheck_command_line.specs.declared.arguments.LineFault.TheVariants as line
 use Rattle.smtcheck_command_line.specs.declared.arguments.Settings.{Settings}
@@ -68,6 +70,35 @@ profile_word Wide = codes "wide"
 abbrev pub profile_named : Text → Profile
 profile_named word = if bytes_eq word (codes "wide") then Wide else Base
 
+-- the option's word for a form
+abbrev pub form_word : Form → Text
+form_word form.Text = codes "text"
+form_word form.Json = codes "json"
+form_word form.Sarif = codes "sarif"
+
+-- all of them
+abbrev pub forms : List Form
+forms = form.Text ∷ form.Json ∷ form.Sarif ∷ []
+
+-- and the form of a word
+abbrev pub form_named : Text → Form
+form_named word = if bytes_eq word (codes "json") then form.Json
+    else (if bytes_eq word (codes "sarif") then form.Sarif else form.Text)
+
+-- and what is asked for, if the option is given
+abbrev pub form_of : Option Text → Option Form
+form_of = option_map form_named
+
+-- one of the words gives `--explain` a form: it begins with `--explain=`, and no `--` stands before it
+abbrev pub has_form : List Text → Bool
+has_form [] = false
+has_form (word ∷ behind) = not (bytes_eq word (codes "--"))
+    && (starts_with nat_eq word (codes "--explain=") || has_form behind)
+
+-- and stands behind the program's name
+abbrev pub gives_form : List Text → Bool
+gives_form words = has_form (drop 1 words)
+
 -- the option's word for a solver
 abbrev pub solver_word : Solver → Text
 solver_word solver.Z3 = codes "z3"
@@ -105,6 +136,16 @@ profile_rule places = word_rule (codes "profile") (codes "base" ∷ codes "wide"
 abbrev pub hints_rule : Places → Rule
 hints_rule places = word_rule (codes "hints") (codes "on" ∷ codes "off" ∷ []) places
 
+-- the option for an explanation, whose form stands behind a `=`, and is `text` where it is missing. It takes one only
+-- where the words give it one. (Of an option that requires the `=` clap's definition says nothing.)
+abbrev pub explain_rule : Bool → Places → Rule
+explain_rule takes_form places = record (word_rule (codes "explain") (map form_word forms) places) {
+  long = Some (if takes_form then codes "explain" else codes "explain[=<FORM>]");
+  aliases = if takes_form then [] else codes "explain" ∷ [];
+  range = Some (record { start_inclusive = 0; end_inclusive = if takes_form then 1 else 0 });
+  missing = codes "text" ∷ [];
+}
+
 -- the most steps that the command line may ask for, and how many are meant where it asks for none
 abbrev pub most_steps : ℕ
 most_steps = 2 ^ 64 - 2
@@ -135,21 +176,22 @@ pub record AllPlaces : Type 0 where
   pub solver : Places
   pub success : Places
   pub profile : Places
+  pub explain : Places
   pub hints : Places
 
--- `smtcheck [--solver NAME] [--print-success on|off] [--profile base|wide] [--steps N] [--explain] [--hints on|off]
--- [--strict] SCRIPT ANSWERS`, which has `--version` and `--help` besides
-unfoldable pub smtcheck_app : AllPlaces → App
-smtcheck_app places =
+-- `smtcheck [--solver NAME] [--print-success on|off] [--profile base|wide] [--steps N] [--explain[=text|json|sarif]]
+-- [--hints on|off] [--strict] SCRIPT ANSWERS`, which has `--version` and `--help` besides
+unfoldable pub smtcheck_app : Bool → AllPlaces → App
+smtcheck_app takes_form places =
     with_rule (with_rule (with_rule (with_rule (with_rule (with_rule (with_rule (with_rule
     (with_rule (with_version (new_app (codes "smtcheck"))) (file_rule (codes "SCRIPT")))
     (file_rule (codes "ANSWERS"))) (solver_rule places.solver)) (success_rule places.success))
-    (profile_rule places.profile)) steps_rule) (flag_rule (codes "explain"))) (hints_rule places.hints))
-    (flag_rule (codes "strict"))
+    (profile_rule places.profile)) steps_rule) (explain_rule takes_form places.explain))
+    (hints_rule places.hints)) (flag_rule (codes "strict"))
 
--- of the program's command, whose words lie at some places
-abbrev pub OfCommand : (App → Type 0) → Type 0
-OfCommand P = (places : AllPlaces) × P (smtcheck_app places)
+-- of the program's command for these words of a line, where the words of its options lie at some places
+abbrev pub OfCommand : List Text → (App → Type 0) → Type 0
+OfCommand words P = (places : AllPlaces) × P (smtcheck_app (gives_form words) places)
 
 -- the number that a text writes, in decimal
 abbrev pub number_of : Text → ℕ
@@ -197,7 +239,7 @@ is_given value = option_map_or (λ t. bytes_eq t (codes "true")) value false
 pub record AreAskedFor (word : Text → Option Text) (s : Settings) : Type 0 where
   pub print_success : s.print_success ≡ prints_success (word (codes "print-success")) (word (codes "solver"))
   pub profile : s.profile ≡ profile_taken (word (codes "profile")) (word (codes "solver"))
-  pub explain : s.explain ≡ is_given (word (codes "explain"))
+  pub explain : s.explain ≡ form_of (word (codes "explain"))
   pub hints : s.hints ≡ switch_of (word (codes "hints"))
   pub strict : s.strict ≡ is_given (word (codes "strict"))
 
@@ -219,13 +261,14 @@ abbrev pub is_plain : Text → Bool
 is_plain [] = false
 is_plain (x ∷ xs) = not (x == 45)
 
--- an option that is given, with what it says; a number as its text
+-- an option that is given, with what it says; a number as its text; `--explain` alone, or with a form
 pub data Given : Type 0 where
   Preset : Solver → Given
   Success : Bool → Given
   Language : Profile → Given
   Steps : Text → Given
   Explain : Given
+  ExplainAs : Form → Given
   Hints : Bool → Given
   Strict : Given
 
@@ -236,22 +279,25 @@ name_of (Success prints) = codes "print-success"
 name_of (Language profile) = codes "profile"
 name_of (Steps text) = codes "steps"
 name_of Explain = codes "explain"
+name_of (ExplainAs form) = codes "explain"
 name_of (Hints are_on) = codes "hints"
 name_of Strict = codes "strict"
 
--- its value; that of an option without one is `true`
+-- its value; that of `--explain` alone is `text`, and that of an option without one `true`
 abbrev pub value_of : Given → Text
 value_of (Preset s) = solver_word s
 value_of (Success prints) = switch_word prints
 value_of (Language profile) = profile_word profile
 value_of (Steps text) = text
-value_of Explain = codes "true"
+value_of Explain = form_word form.Text
+value_of (ExplainAs form) = form_word form
 value_of (Hints are_on) = switch_word are_on
 value_of Strict = codes "true"
 
 -- its words on the command line
 abbrev pub words_of : Given → List Text
 words_of Explain = codes "--explain" ∷ []
+words_of (ExplainAs form) = (codes "--explain=" ++ form_word form) ∷ []
 words_of Strict = codes "--strict" ∷ []
 words_of option = (codes "--" ++ name_of option) ∷ value_of option ∷ []
 

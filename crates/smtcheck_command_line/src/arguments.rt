@@ -8,6 +8,17 @@ use clap::error::ErrorKind;
 use smt_theory::Profile;
 use std::{error, fmt};
 
+/// The form of an explanation.
+#[derive(Clone, Copy)]
+pub enum Form {
+    /// Text for people.
+    Text,
+    /// One JSON object a line.
+    Json,
+    /// One SARIF 2.1.0 document.
+    Sarif,
+}
+
 /// What the command line asks for.
 #[derive(Clone, Copy)]
 pub struct Settings<'a> {
@@ -21,8 +32,8 @@ pub struct Settings<'a> {
     pub profile: Profile,
     /// The most steps that the evaluation of a model may cost, from 0 to 2^64 - 2. All its assertions count.
     pub steps: u64,
-    /// Whether an explanation of what is not confirmed follows the report.
-    pub explain: bool,
+    /// The form of the explanation of what is not confirmed, which follows the report. `None` where none does.
+    pub explain: Option<Form>,
     /// Whether the program hints at usual mistakes. `None` leaves it to the program, which knows the terminal.
     pub hints: Option<bool>,
     /// Whether the exit status is 2 in place of 0 where a check is not answered by a confirmed `sat`, or where

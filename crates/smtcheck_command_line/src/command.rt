@@ -4,13 +4,14 @@
 ghost use Rattle.std.specs.Prelude.{◌≡◌, ◌<◌, ◌-◌, ◌^◌, IfErr, IfOk, None, [], true, false};
 ghost use Rattle.clap.specs.Walk.{texts};
 ghost use Rattle.clap.specs.Words.{IsPlainArg, app_of, first_value, found_of, rule_of, takes};
-ghost use Rattle.smtcheck_command_line.specs.Settings.{AreSettings, HasSteps, IsFaultOf, NeedsFiles, OfCommand};
-ghost use Rattle.smtcheck_command_line.specs.Settings.{Places, TakesOptions, file_rule, flag_rule, hints_rule};
-ghost use Rattle.smtcheck_command_line.specs.Settings.{is_given, prints_success, profile_named, profile_rule};
-ghost use Rattle.smtcheck_command_line.specs.Settings.{profile_taken, solver_of, solver_rule, steps_rule};
-ghost use Rattle.smtcheck_command_line.specs.Settings.{success_rule, switch_of, text_of, word_rule};
+ghost use Rattle.smtcheck_command_line.specs.Settings.{AllPlaces, AreSettings, HasSteps, IsFaultOf, NeedsFiles};
+ghost use Rattle.smtcheck_command_line.specs.Settings.{OfCommand, Places, TakesOptions, explain_rule, file_rule};
+ghost use Rattle.smtcheck_command_line.specs.Settings.{flag_rule, form_of, gives_form, has_form, hints_rule, is_given};
+ghost use Rattle.smtcheck_command_line.specs.Settings.{prints_success, profile_named, profile_rule, profile_taken};
+ghost use Rattle.smtcheck_command_line.specs.Settings.{smtcheck_app, solver_of, solver_rule, steps_rule, success_rule};
+ghost use Rattle.smtcheck_command_line.specs.Settings.{switch_of, text_of, word_rule};
 
-use crate::arguments::{LineFault, Settings, Solver};
+use crate::arguments::{Form, LineFault, Settings, Solver};
 use clap::builder::ValueParser;
 use clap::error::ErrorKind;
 use clap::{Arg, ArgAction, ArgMatches, Command};
@@ -64,11 +65,12 @@ The cost grows with the text, so the models of a large script may need more. Abo
 enough for some 25 to 70 MB of usual script.";
 
 const EXPLAIN: &str =
-    "After the report, say of each check that is not confirmed, and of the fault, where it stands in the files, by \
-line and column, and why: of an assertion or an assumption that is false the part that makes it so, with the values \
-of what stands in it.
+    "Say of each check that is not confirmed, and of the fault, where it stands in the files, by line and column, and \
+why: of an assertion or an assumption that is false the part that makes it so, with the values of what stands in it.
 
-The report and the status stay the same. Both texts are kept in memory until then.";
+As text, which --explain alone means too, it is for people and follows the report. As json (an object for each line \
+of the report) or sarif (a document for code review) it stands in place of the report. The status stays the same. \
+Both texts are kept in memory until then.";
 
 const HINTS: &str =
     "Whether standard error gets a hint at a usual mistake, as at exchanged files or a missing option. Without this \
@@ -91,20 +93,17 @@ A fault is named by a letter and a number: the manual page and docs/LANGUAGE.md 
 likely cause, and what to do. Seen most often is `fault P2 at command 1, answer 1`: the solver prints no \
 `success`, and --solver or --print-success off is missing.";
 
-/// The command line of the program.
-pub(crate) fn smtcheck_command<'a>(alloc: Global) -> Result<Command<'a>, AllocError>
-    ensures app { IfOk result (λ c. OfCommand (λ a. app_of c ≡ a)) }
+/// The command line of the program. Its option `--explain` takes a form only if the words give it one.
+pub(crate) fn smtcheck_command<'a>(
+    alloc: Global,
+    takes_form: bool,
+) -> Result<Command<'a>, AllocError>
+    ensures app { IfOk result (λ c. (places : AllPlaces) × (app_of c ≡ smtcheck_app takes_form places)) }
     ensures needs { IfOk result NeedsFiles }
     ensures steps { IfOk result HasSteps }
 {
     let script = file(alloc, "SCRIPT", "the script that the solver read");
     let answers = file(alloc, "ANSWERS", "what the solver printed");
-    let explain = flag(
-        alloc,
-        "explain",
-        "say where what is not confirmed stands, and why",
-        EXPLAIN,
-    );
     let strict = flag(
         alloc,
         "strict",
@@ -122,7 +121,7 @@ pub(crate) fn smtcheck_command<'a>(alloc: Global) -> Result<Command<'a>, AllocEr
         .arg(print_success(alloc))?
         .arg(profile(alloc))?
         .arg(steps(alloc))?
-        .arg(explain)?
+        .arg(explain(alloc, takes_form)?)?
         .arg(hints(alloc))?
         .arg(strict)
 }
@@ -204,6 +203,26 @@ fn profile<'a>(alloc: Global) -> Arg<'a>
         .long_help(PROFILE)
 }
 
+// The option that asks for an explanation. Its form stands behind a `=`, so that no next word is taken for one. clap
+// has that as `require_equals`, but promises nothing of what a command with it makes of the words. So the option takes
+// no form where the words give none. Then its alias is what is read, and its long name is what help shows.
+fn explain<'a>(alloc: Global, takes_form: bool) -> Result<Arg<'a>, AllocError>
+    ensures rule { IfOk result (λ r. (places : Places) × (rule_of r ≡ explain_rule takes_form places)) }
+    ensures plain { IfOk result IsPlainArg }
+    ensures local { IfOk result (λ r. r.global ≡ false) }
+{
+    let words: &'a [&'a str] = &["text", "json", "sarif"];
+    let option = choice(alloc, "explain", "FORM", words)
+        .num_args(0..=1)
+        .default_missing_value("text")
+        .help("say where what is not confirmed stands, and why")
+        .long_help(EXPLAIN);
+    if takes_form {
+        return Ok(option);
+    }
+    option.long("explain[=<FORM>]").num_args(0).alias("explain")
+}
+
 // The option that says whether the program hints at usual mistakes.
 fn hints<'a>(alloc: Global) -> Arg<'a>
     ensures rule { (places : Places) × (rule_of result ≡ hints_rule places) }
@@ -238,15 +257,16 @@ fn steps<'a>(alloc: Global) -> Arg<'a>
 /// for help or the version, each with a text to print (`LineFault::Refused`). Where memory is refused, the error is
 /// `LineFault::Memory`.
 pub fn settings<'a>(alloc: Global, words: &'a [&'a str]) -> Result<Settings<'a>, LineFault>
-    ensures ok { IfOk result (λ s. OfCommand (AreSettings (texts words.entry.now) s)) }
+    ensures ok { IfOk result (λ s. OfCommand (texts words.entry.now) (AreSettings (texts words.entry.now) s)) }
     ensures given { TakesOptions (texts words.entry.now) result }
     ensures limited { IfOk result (λ s. s.steps < 2 ^ 64 - 1) }
-    ensures taken { IfOk result (λ _. OfCommand (λ a. takes a (texts words.entry.now) ≡ true)) }
-    ensures refused { IfErr result (λ f. OfCommand (IsFaultOf (texts words.entry.now) f)) }
+    ensures taken { IfOk result
+        (λ _. OfCommand (texts words.entry.now) (λ a. takes a (texts words.entry.now) ≡ true)) }
+    ensures refused { IfErr result (λ f. OfCommand (texts words.entry.now) (IsFaultOf (texts words.entry.now) f)) }
     ensures memory { IfErr result
-        (λ f. OfCommand (λ a. takes a (texts words.entry.now) ≡ true → f ≡ LineFault.Memory)) }
+        (λ f. OfCommand (texts words.entry.now) (λ a. takes a (texts words.entry.now) ≡ true → f ≡ LineFault.Memory)) }
 {
-    let Ok(command) = smtcheck_command(alloc) else {
+    let Ok(command) = smtcheck_command(alloc, gives_form(words)) else {
         return Err(LineFault::Memory);
     };
     let matches = match command.try_get_matches_from(words) {
@@ -261,10 +281,35 @@ pub fn settings<'a>(alloc: Global, words: &'a [&'a str]) -> Result<Settings<'a>,
         print_success: prints_success(matches.get_str("print-success"), solver),
         profile: profile_taken(matches.get_str("profile"), solver),
         steps: matches.get_one::<u64>("steps").unwrap(),
-        explain: is_given_in(&matches, "explain"),
+        explain: form_of(matches.get_str("explain")),
         hints: switch(matches.get_str("hints")),
         strict: is_given_in(&matches, "strict"),
     })
+}
+
+// Whether a word gives `--explain` a form.
+fn gives_form(words: &[&str]) -> bool
+    ensures { result ≡ gives_form (texts words.entry.now) }
+{
+    match words.split_first() {
+        Some((_, behind)) => has_form(behind),
+        None => false,
+    }
+}
+
+// Whether one of the words behind the program's name does. Behind `--` each word names a file.
+fn has_form(words: &[&str]) -> bool
+    ensures { result ≡ has_form (texts words.entry.now) }
+{
+    for word in words {
+        if *word == "--" {
+            return false;
+        }
+        if word.as_bytes().starts_with(b"--explain=") {
+            return true;
+        }
+    }
+    false
 }
 
 // Whether the solver prints `success` from the start, by the option's word, else by the solver's name.
@@ -309,6 +354,18 @@ fn switch(word: Option<&str>) -> Option<bool>
 {
     match word {
         Some(word) => Some(word == "on"),
+        None => None,
+    }
+}
+
+// The form that the option's word names, if it is given.
+fn form_of(word: Option<&str>) -> Option<Form>
+    ensures { result ≡ form_of (text_of word.entry) }
+{
+    match word {
+        Some("json") => Some(Form::Json),
+        Some("sarif") => Some(Form::Sarif),
+        Some(_) => Some(Form::Text),
         None => None,
     }
 }

@@ -12,5 +12,5 @@
 mod arguments;
 mod command;
 
-pub use arguments::{LineFault, Settings};
+pub use arguments::{Form, LineFault, Settings};
 pub use command::settings;

@@ -111,7 +111,7 @@ counted f a is reads =
 
 abbrev nine : After-arg-9 → List Arg
 nine c = c.file-script.result ∷ c.file-answers.result ∷ c.solver.result ∷ c.print_success.result
-    ∷ c.profile.result ∷ c.steps.result ∷ c.flag-explain.result ∷ c.hints.result ∷ c.flag-strict.result ∷ []
+    ∷ c.profile.result ∷ c.steps.result ∷ c.in_ok-explain.field-0 ∷ c.hints.result ∷ c.flag-strict.result ∷ []
 
 nine_fit : (c : After-arg-9) → All FitsChain (nine c)
 nine_fit c =
@@ -121,18 +121,18 @@ nine_fit c =
     let success = c.print_success.ensures in
     let profile = c.profile.ensures in
     let steps = c.steps.ensures in
-    let explain = c.flag-explain.ensures in
+    let explain = c.in_ok-explain.ensures in
     let hints = c.hints.ensures in
     let strict = c.flag-strict.ensures in
     nine_pass FitsChain c.file-script.result c.file-answers.result c.solver.result c.print_success.result
-    c.profile.result c.steps.result c.flag-explain.result c.hints.result c.flag-strict.result
+    c.profile.result c.steps.result c.in_ok-explain.field-0 c.hints.result c.flag-strict.result
     (fits c.file-script.result _ 67 script.plain script.local script.rule refl (omega arith) (omega arith))
     (fits c.file-answers.result _ 78 answers.plain answers.local answers.rule refl (omega arith) (omega arith))
     (fits c.solver.result _ 111 solver.plain solver.local solver.rule.1 refl (omega arith) (omega arith))
     (fits c.print_success.result _ 114 success.plain success.local success.rule.1 refl (omega arith) (omega arith))
     (fits c.profile.result _ 114 profile.plain profile.local profile.rule.1 refl (omega arith) (omega arith))
     (fits c.steps.result _ 116 steps.plain steps.local steps.rule refl (omega arith) (omega arith))
-    (fits c.flag-explain.result _ 120 explain.plain explain.local explain.rule refl (omega arith) (omega arith))
+    (fits c.in_ok-explain.field-0 _ 120 explain.plain explain.local explain.rule.1 refl (omega arith) (omega arith))
     (fits c.hints.result _ 105 hints.plain hints.local hints.rule.1 refl (omega arith) (omega arith))
     (fits c.flag-strict.result _ 116 strict.plain strict.local strict.rule refl (omega arith) (omega arith))
 
@@ -140,14 +140,14 @@ nine_distinct : (c : After-arg-9) → HasDistinctIds (nine c)
 nine_distinct c =
     let id = λ (r : Rule). r.id in
     nine_ids c.file-script.result c.file-answers.result c.solver.result c.print_success.result
-    c.profile.result c.steps.result c.flag-explain.result c.hints.result c.flag-strict.result (record {
+    c.profile.result c.steps.result c.in_ok-explain.field-0 c.hints.result c.flag-strict.result (record {
       script = ap id c.file-script.ensures.rule;
       answers = ap id c.file-answers.ensures.rule;
       solver = ap id c.solver.ensures.rule.1;
       success = ap id c.print_success.ensures.rule.1;
       profile = ap id c.profile.ensures.rule.1;
       steps = ap id c.steps.ensures.rule;
-      explain = ap id c.flag-explain.ensures.rule;
+      explain = ap id c.in_ok-explain.ensures.rule.1;
       hints = ap id c.hints.ensures.rule.1;
       strict = ap id c.flag-strict.ensures.rule;
     })
@@ -246,8 +246,8 @@ returns-clause-app c =
     c.profile.ensures.rule.1 in
     let sixth = c.in_ok-arg-6.ensures.shape c.steps.ensures.local ∙ ap₂ with_rule fifth
     c.steps.ensures.rule in
-    let seventh = c.in_ok-arg-7.ensures.shape c.flag-explain.ensures.local ∙ ap₂ with_rule sixth
-    c.flag-explain.ensures.rule in
+    let seventh = c.in_ok-arg-7.ensures.shape c.in_ok-explain.ensures.local ∙ ap₂ with_rule sixth
+    c.in_ok-explain.ensures.rule.1 in
     let eighth = c.in_ok-arg-8.ensures.shape c.hints.ensures.local ∙ ap₂ with_rule seventh
     c.hints.ensures.rule.1 in
     IfOk-weaker c.arg-9.result _ _
@@ -256,6 +256,7 @@ returns-clause-app c =
         solver = c.solver.ensures.rule.0;
         success = c.print_success.ensures.rule.0;
         profile = c.profile.ensures.rule.0;
+        explain = c.in_ok-explain.ensures.rule.0;
         hints = c.hints.ensures.rule.0;
       },
       added.shape c.flag-strict.ensures.local ∙ ap₂ with_rule eighth

@@ -3,7 +3,7 @@ use Rattle.std.proofs.Common.{◌≡◌, ◌≤◌, ℕ, List, [], ◌∷◌, �
 use Rattle.std.proofs.Common.{if◌then◌else◌}
 use Rattle.std.specs.List.{list_all}
 use Rattle.std.proofs.lemmas.Bool.Decides.{nat_tests}
-use Rattle.smt_reasons.specs.Lines.{are_lines, is_printable, line_count}
+use Rattle.smt_remarks.specs.Lines.{are_lines, is_printable, line_count}
 
 left : (a b : Bool) → (a && b) ≡ true → a ≡ true
 left true b h = refl

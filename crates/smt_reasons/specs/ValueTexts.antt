@@ -1,0 +1,45 @@
+-- The texts of values, sorts and names, as SMT-LIB 2.6 writes them (section 3.1; theories Core, Ints and
+-- FixedSizeBitVectors).
+use Rattle.std.specs.Prelude.{ℕ, zero, suc, ℤ, pos, negsuc, List, [], ◌∷◌, ◌++◌, ◌*◌, ◌/◌, ◌%◌, ◌^◌, ◌==◌, ◌≡◌, ◌⊎◌}
+use Rattle.std.specs.Prelude.{codes, false, true, if◌then◌else◌}
+use Rattle.std.specs.Fmt.{decimal, digit_glyph}
+use Rattle.smt_bits.specs.BitVector.{BitVector}
+use Rattle.smt_theory.specs.declared.sort.Sort.{Sort}
+use Rattle.smt_theory.specs.declared.sort.Sort.TheVariants.{Bool as Boolean, Int, Bits, Free}
+use Rattle.smt_values.specs.Element.{Element, Truth, Integer, Vector, Abstract}
+
+-- an integer: of a negative one the minus sign is applied to its absolute value
+abbrev pub text_of_integer : ℤ → List ℕ
+text_of_integer (pos n) = decimal n
+text_of_integer (negsuc n) = codes "(- " ++ (decimal (suc n) ++ codes ")")
+
+-- the digits of n, each of so many bits, at the places below k, the highest first
+abbrev pub digits_below : ℕ → ℕ → ℕ → List ℕ
+digits_below zero size n = []
+digits_below (suc k) size n = digit_glyph false (n / 2 ^ (k * size) % 2 ^ size) ∷ digits_below k size n
+
+-- a bit vector: in hexadecimal where its width allows
+abbrev pub text_of_bits : BitVector → List ℕ
+text_of_bits v =
+    if v.width % 4 == 0
+    then codes "#x" ++ digits_below (v.width / 4) 4 v.number
+    else codes "#b" ++ digits_below v.width 1 v.number
+
+-- a name: as it stands, or between bars
+abbrev pub IsSymbol : List ℕ → List ℕ → Type 0
+IsSymbol name text = (text ≡ name) ⊎ (text ≡ 124 ∷ (name ++ 124 ∷ []))
+
+-- a value
+abbrev pub IsTextOf : Element → List ℕ → Type 0
+IsTextOf (Truth true) text = text ≡ codes "true"
+IsTextOf (Truth false) text = text ≡ codes "false"
+IsTextOf (Integer z) text = text ≡ text_of_integer z
+IsTextOf (Vector v) text = text ≡ text_of_bits v
+IsTextOf (Abstract name) text = IsSymbol name text
+
+-- a sort, and the name of a declared one
+abbrev pub IsTextOfSort : Sort → (name : List ℕ) → List ℕ → Type 0
+IsTextOfSort Boolean name text = text ≡ codes "Bool"
+IsTextOfSort Int name text = text ≡ codes "Int"
+IsTextOfSort (Bits width) name text = text ≡ codes "(_ BitVec " ++ (decimal width ++ codes ")")
+IsTextOfSort (Free command) name text = IsSymbol name text

@@ -1,0 +1,136 @@
+//! The texts of values, sorts and names, as SMT-LIB writes them (section 3.1, and the theories). This file knows no
+//! term.
+
+ghost use Rattle.std.specs.Prelude.{◌≡◌, ◌<◌, ◌≤◌, ◌*◌, ◌++◌, ◌^◌, IfOk, OnOk, false};
+ghost use Rattle.std.specs.Fmt.{digit_glyph};
+ghost use Rattle.smt_values.specs.Element.{element_of};
+ghost use Rattle.smt_reasons.specs.ValueTexts.{IsSymbol, IsTextOf, IsTextOfSort, digits_below, text_of_bits};
+ghost use Rattle.smt_reasons.specs.ValueTexts.{text_of_integer};
+
+use smt_bits::Bits;
+use smt_faults::{Memory, TextFault};
+use smt_text::read_trees;
+use smt_theory::Sort;
+use smt_values::Value;
+use std::alloc::Global;
+
+/// The most bytes of a name that are looked at.
+const MOST: usize = 4096;
+
+/// The text of a value; a bit vector in hexadecimal where its width allows. Of an element it is the name.
+pub(crate) fn value_text(alloc: Global, value: &Value) -> Result<Vec<u8>, Memory>
+    ensures { IfOk result (λ text. IsTextOf (element_of value.now) text.items) }
+{
+    match value {
+        Value::Bool(true) => Ok(Vec::from_slice(alloc, b"true")?),
+        Value::Bool(false) => Ok(Vec::from_slice(alloc, b"false")?),
+        Value::Bits(bits) => bits_text(alloc, *bits),
+        Value::Int(number) => integer_text(alloc, number.get()),
+        Value::Abstract(name) => symbol_text(alloc, name.as_bytes()),
+    }
+}
+
+/// The text of a sort; `name` is that of a declared one.
+pub fn sort_text(alloc: Global, sort: Sort, name: &[u8]) -> Result<Vec<u8>, Memory>
+    ensures { IfOk result (λ text. IsTextOfSort sort name.now text.items) }
+{
+    match sort {
+        Sort::Bool => Ok(Vec::from_slice(alloc, b"Bool")?),
+        Sort::Int => Ok(Vec::from_slice(alloc, b"Int")?),
+        Sort::Free(_) => symbol_text(alloc, name),
+        Sort::Bits(width) => {
+            let text = format!(in alloc; "(_ BitVec {})", width.bits())?;
+            Ok(Vec::from_slice(alloc, text.as_bytes())?)
+        }
+    }
+}
+
+/// The text of a name, between bars where it can't be written without them.
+pub(crate) fn symbol_text(alloc: Global, name: &[u8]) -> Result<Vec<u8>, Memory>
+    ensures { IfOk result (λ text. IsSymbol name.now text.items) }
+{
+    if is_plain(alloc, name)? {
+        return Ok(Vec::from_slice(alloc, name)?);
+    }
+    let mut text = Vec::from_slice(alloc, b"|")?;
+    text.extend_from_slice(name)?;
+    text.push(b'|')?;
+    Ok(text)
+}
+
+// Whether a name is a symbol as it stands. (A long one is not looked at: it is cut in any case.)
+fn is_plain(alloc: Global, name: &[u8]) -> Result<bool, Memory> {
+    let trees = match read_trees(alloc, &name[..name.len().min(MOST)]) {
+        Ok(trees) => trees,
+        Err(TextFault::Memory) => return Err(Memory),
+        Err(_) => return Ok(false),
+    };
+    match trees.as_slice() {
+        [tree] => Ok(tree.view().is_symbol(name) && !name.starts_with(b"|")),
+        _ => Ok(false),
+    }
+}
+
+// The text of an integer.
+fn integer_text(alloc: Global, number: i128) -> Result<Vec<u8>, Memory>
+    ensures { IfOk result (λ text. text.items ≡ text_of_integer number) }
+{
+    let digits = format!(in alloc; "{}", number.unsigned_abs())?;
+    if number >= 0 {
+        return Ok(Vec::from_slice(alloc, digits.as_bytes())?);
+    }
+    let mut text = Vec::from_slice(alloc, b"(- ")?;
+    text.extend_from_slice(digits.as_bytes())?;
+    text.push(b')')?;
+    Ok(text)
+}
+
+// The text of a bit vector: in hexadecimal where its width allows.
+fn bits_text(alloc: Global, bits: Bits) -> Result<Vec<u8>, Memory>
+    ensures { IfOk result (λ text. text.items ≡ text_of_bits bits) }
+{
+    let width = bits.width().bits();
+    if width % 4 == 0 {
+        let mut text = Vec::from_slice(alloc, b"#x")?;
+        add_digits(&mut text, bits.number(), width / 4, 4, 16)?;
+        Ok(text)
+    } else {
+        let mut text = Vec::from_slice(alloc, b"#b")?;
+        add_digits(&mut text, bits.number(), width, 1, 2)?;
+        Ok(text)
+    }
+}
+
+// Adds the digits of a number at the places below `count`, each of `size` bits, the highest first.
+fn add_digits(
+    text: &mut Vec<u8>,
+    number: u128,
+    count: u64,
+    size: u64,
+    base: u128,
+) -> Result<(), Memory>
+    requires fits { count * size ≤ 128 }
+    requires some { 0 < size }
+    requires base { base ≡ 2 ^ size }
+    requires few { base ≤ 16 }
+    ensures { OnOk result (text.new.items ≡ text.old.items ++ digits_below count size number) }
+{
+    let mut left = count;
+    while left > 0 {
+        left -= 1;
+        text.push(glyph((number >> (left * size)) % base))?;
+    }
+    Ok(())
+}
+
+// The character of a digit.
+fn glyph(digit: u128) -> u8
+    requires { digit < 16 }
+    ensures { result ≡ digit_glyph false digit }
+{
+    if digit < 10 {
+        b'0' + digit as u8
+    } else {
+        b'a' + (digit - 10) as u8
+    }
+}
