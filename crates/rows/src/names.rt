@@ -3,7 +3,7 @@
 use anyhow::Result;
 use row_texts::Field;
 use smt_terms::{Declared, Definition, Found, Library};
-use smt_theory::Sort;
+use smt_theory::{Sort, SortKind};
 use std::alloc::Global;
 use std::io;
 use std::io::Write;
@@ -53,11 +53,11 @@ pub(crate) fn write_found<W: Write>(
 
 /// Writes a sort, as the standard does.
 pub(crate) fn write_sort<W: Write>(out: &mut W, sort: &Sort) -> io::Result<()> {
-    match sort {
-        Sort::Bool => write!(out, "Bool"),
-        Sort::Int => write!(out, "Int"),
-        Sort::Free(command) => write!(out, "the sort of command {command}"),
-        Sort::Bits(width) => write!(out, "(_ BitVec {})", width.bits()),
+    match sort.kind() {
+        SortKind::Bool => write!(out, "Bool"),
+        SortKind::Int => write!(out, "Int"),
+        SortKind::Free(command) => write!(out, "the sort of command {command}"),
+        SortKind::Bits(width) => write!(out, "(_ BitVec {})", width.bits()),
     }
 }
 

@@ -3,9 +3,9 @@ use Rattle.std.proofs.Common.{◌≡◌, ◌+◌, ℕ, true, false, List, [], �
 use Rattle.std.proofs.Common.{refl, ap, sym, ◌∙◌, subst}
 use Rattle.std.specs.List.{AllByRecursion}
 use Rattle.smt_trees.specs.Sexp.{Sexp, Sexps, Nil}
-use Rattle.smt_theory.specs.declared.sort.Sort.TheVariants.{Bool as Boolean}
+use Rattle.smt_theory.specs.Sort.{Boolean}
 use Rattle.smt_values.specs.Element.{Element, Truth}
-use Rattle.smt_values.specs.Operations.{DivisionByZero}
+use Rattle.smt_values.specs.Operations.{DivisionByZero, zero_by_zero}
 use Rattle.smt_terms.specs.Checking.{sort_in}
 use Rattle.smt_terms.specs.Signature.{Signature, in_assertion, names_of}
 use Rattle.smt_eval.specs.CompleteModel.{IsModelOf}
@@ -181,7 +181,7 @@ refuted_model options script answers ls i =
 pub not_both : (options : Options) (script answers : List ℕ) (ls : List Line) → IsValid options script answers
     → IsInvalid options script answers ls → ⊥
 not_both options script answers ls v i =
-    let z : DivisionByZero = record { quotients = []; remainders = [] } in
+    let z = zero_by_zero in
     with_untrue_claim options script answers i.before i.check i.after i.model i.definitions i.claim i.earlier
     i.term z (refuted_sat options script answers ls i) (refuted_model options script answers ls i)
     i.model_of.read i.claimed

@@ -4,7 +4,7 @@ use Rattle.std.specs.List.{AllByRecursion}
 use Rattle.smt_text.specs.Grammar.{Forest}
 use Rattle.smt_trees.specs.Sexp.{Sexp, Sexps, Nil, is_symbol}
 use Rattle.smt_theory.specs.declared.profile.Profile.{Profile}
-use Rattle.smt_theory.specs.declared.sort.Sort.TheVariants.{Bool as Boolean}
+use Rattle.smt_theory.specs.Sort.{Boolean}
 use Rattle.smt_values.specs.Element.{Truth}
 use Rattle.smt_values.specs.Operations.{DivisionByZero}
 use Rattle.smt_terms.specs.Checking.{sort_in}

@@ -275,7 +275,7 @@ fn truth_of(value: Option<Value>) -> Option<bool>
         (λ truth. known_element value ≡ Some (Truth truth)) }
 {
     match value {
-        Some(Value::Bool(truth)) => Some(truth),
-        _ => None,
+        Some(value) => value.truth(),
+        None => None,
     }
 }

@@ -9,7 +9,7 @@ ghost use Rattle.std.specs.Prelude.{◌≡◌, ◌≤◌, ◌<◌, ℕ, ◌+◌,
 ghost use Rattle.std.specs.Prelude.{Option, Ok, Err};
 ghost use Rattle.smt_text.specs.Grammar.{Forest};
 ghost use Rattle.smt_trees.specs.Sexp.{Sexp, Sexps, Nil};
-ghost use Rattle.smt_theory.specs.declared.sort.Sort.TheVariants.{Bool as Boolean};
+ghost use Rattle.smt_theory.specs.Sort.{Boolean};
 ghost use Rattle.smt_values.specs.Element.{Truth};
 ghost use Rattle.smt_values.specs.Operations.{DivisionByZero};
 ghost use Rattle.smt_terms.specs.Checking.{sort_in};

@@ -5,8 +5,8 @@ use Rattle.std.proofs.Common.{arith, append_assoc, length-append}
 use Rattle.std.specs.List.{zip}
 use Rattle.std.specs.Prelude.{bytes_eq, unwrap_or}
 use Rattle.smt_theory.specs.Words.{look_up}
-use Rattle.smt_theory.specs.declared.sort.Sort.{Sort}
-use Rattle.smt_theory.specs.declared.sort.Sort.TheVariants.{Bool as Boolean}
+use Rattle.smt_theory.specs.Sort.{Sort}
+use Rattle.smt_theory.specs.Sort.{Boolean}
 use Rattle.smt_machine.specs.Nodes.{Frame, at_place}
 use Rattle.smt_terms.specs.Denotes.{Slots, slots_from}
 use Rattle.smt_eval.proofs.PlaceLemmas.{at_left, at_right}

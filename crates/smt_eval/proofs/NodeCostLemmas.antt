@@ -12,13 +12,14 @@ use Rattle.smt_theory.specs.Operators.{op_by}
 use Rattle.smt_theory.specs.Words.{look_up}
 use Rattle.smt_theory.specs.declared.op.Op.{Op}
 use Rattle.smt_theory.specs.declared.op.OpFault.{OpFault}
-use Rattle.smt_theory.specs.declared.sort.Sort.{Sort}
+use Rattle.smt_theory.specs.Sort.{Sort}
 use Rattle.smt_faults.specs.declared.term_flaw.TermFlaw.{TermFlaw}
 use Rattle.smt_forms.specs.Bindings.{named_trees}
 use Rattle.smt_forms.specs.ElementNames.{qualified_symbol}
 use Rattle.smt_forms.specs.Identifier.{Identifier, Plain, applied, indexed}
 use Rattle.smt_forms.specs.Labels.{labels_among}
 use Rattle.smt_forms.specs.Variables.{is_among}
+use Rattle.smt_theory.specs.declared.literal.LiteralKind.TheVariants as literal
 use Rattle.smt_nodes.specs.Node as node
 use Rattle.smt_nodes.specs.Node.{Node, Row}
 use Rattle.smt_machine.specs.Costs.{first_cost, last_cost, node_cost, part_cost, parts_cost}
@@ -188,11 +189,11 @@ module _ (c : ℕ → ℕ) (off : ℕ) (declared : List ℕ) (t : Table) (b : Bo
         ∙ ap (λ k. around + (1 + cond k 0 (b x)))
         (sym (ap (λ vs. is_among vs x) named ∙ among_names slots x))
     term_costs slots next around i (Atom Numeral digits) d h variables named =
-        node_costs i around (node.Numeral digits) d.0
+        node_costs i around (node.Literal literal.Numeral digits) d.0
     term_costs slots next around i (Atom Hexadecimal digits) d h variables named =
-        node_costs i around (node.Hexadecimal digits) d.0
+        node_costs i around (node.Literal literal.Hexadecimal digits) d.0
     term_costs slots next around i (Atom Binary digits) d h variables named =
-        node_costs i around (node.Binary digits) d.0
+        node_costs i around (node.Literal literal.Binary digits) d.0
     term_costs slots next around i (Items (Cons (Reserved Underscore) trees)) d h variables named =
         let here = list_costs i around (indexed trees) d.0 [] 0 h d.1 d.2 refl in omega (arith, here)
     term_costs slots next around i (Items (Cons (Reserved As) trees)) d h variables named =

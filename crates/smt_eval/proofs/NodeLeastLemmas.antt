@@ -11,12 +11,13 @@ use Rattle.smt_theory.specs.Operators.{op_by}
 use Rattle.smt_theory.specs.Words.{look_up}
 use Rattle.smt_theory.specs.declared.op.Op.{Op}
 use Rattle.smt_theory.specs.declared.op.OpFault.{OpFault}
-use Rattle.smt_theory.specs.declared.sort.Sort.{Sort}
-use Rattle.smt_theory.specs.declared.sort.Sort.TheVariants.{Bool as Boolean}
+use Rattle.smt_theory.specs.Sort.{Sort}
+use Rattle.smt_theory.specs.Sort.{Boolean}
 use Rattle.smt_faults.specs.declared.term_flaw.TermFlaw.{TermFlaw}
 use Rattle.smt_forms.specs.ElementNames.{qualified_symbol}
 use Rattle.smt_forms.specs.Identifier.{Identifier, Plain, Indexed, applied, operator_of}
 use Rattle.smt_forms.specs.Labels.{labels_among}
+use Rattle.smt_theory.specs.declared.literal.LiteralKind.TheVariants as literal
 use Rattle.smt_nodes.specs.Node as node
 use Rattle.smt_nodes.specs.Node.{Node, Row}
 use Rattle.smt_machine.specs.Costs.{part_cost, parts_cost}
@@ -205,11 +206,11 @@ module _ (c k : ℕ → ℕ) (off : ℕ) (declared : List ℕ) (t : Table) (b : 
         → i ≤ last → around + least_of t.theories term ≤ k (off + i)
     term_counts slots next around i (Atom Symbol x) d h = symbol_counts i around x (look_up slots x) h d
     term_counts slots next around i (Atom Numeral digits) d h =
-        let here = node_counts i around (node.Numeral digits) d.0 in omega (arith, here)
+        let here = node_counts i around (node.Literal literal.Numeral digits) d.0 in omega (arith, here)
     term_counts slots next around i (Atom Hexadecimal digits) d h =
-        let here = node_counts i around (node.Hexadecimal digits) d.0 in omega (arith, here)
+        let here = node_counts i around (node.Literal literal.Hexadecimal digits) d.0 in omega (arith, here)
     term_counts slots next around i (Atom Binary digits) d h =
-        let here = node_counts i around (node.Binary digits) d.0 in omega (arith, here)
+        let here = node_counts i around (node.Literal literal.Binary digits) d.0 in omega (arith, here)
     term_counts slots next around i (Items (Cons (Reserved Underscore) trees)) d h =
         let here = applied_counts i around d.0 [] h d.2 in omega (arith, here)
     term_counts slots next around i (Items (Cons (Reserved As) trees)) d h =

@@ -14,8 +14,8 @@ use Rattle.smt_theory.specs.Words.{look_up}
 use Rattle.smt_theory.specs.Operators.{op_by}
 use Rattle.smt_theory.specs.declared.op.Op.{Op}
 use Rattle.smt_theory.specs.declared.op.OpFault.{OpFault}
-use Rattle.smt_theory.specs.declared.sort.Sort.{Sort}
-use Rattle.smt_theory.specs.declared.sort.Sort.TheVariants.{Bool as Boolean}
+use Rattle.smt_theory.specs.Sort.{Sort}
+use Rattle.smt_theory.specs.Sort.{Boolean}
 use Rattle.smt_faults.specs.declared.term_flaw.TermFlaw.{TermFlaw}
 use Rattle.smt_values.specs.Element.{Element}
 use Rattle.smt_values.specs.Literals.{name_element}
@@ -23,6 +23,7 @@ use Rattle.smt_forms.specs.ElementNames.{qualified_symbol}
 use Rattle.smt_forms.specs.Bindings.{named_trees}
 use Rattle.smt_forms.specs.Identifier.{Identifier, Plain, applied, indexed}
 use Rattle.smt_forms.specs.Labels.{labels_among}
+use Rattle.smt_theory.specs.declared.literal.LiteralKind.TheVariants as literal
 use Rattle.smt_nodes.specs.Node as node
 use Rattle.smt_nodes.specs.Node.{Node, Row}
 use Rattle.smt_machine.specs.Nodes.{Frame, Giving, at_place, node_value, part, parts}
@@ -201,11 +202,11 @@ module _ (g : Giving) (off : ℕ) (declared : List ℕ) (t : Table) (m : KnownMe
         symbol_given i around frame x (look_up slots x) h d
         ∙ ap (λ o. unwrap_or o (m (Plain x) [])) (sym (stands_found frame slots r x stand))
     term_given slots next around i (Atom Numeral digits) d h frame r counted stand =
-        node_given i around (node.Numeral digits) frame d.0
+        node_given i around (node.Literal literal.Numeral digits) frame d.0
     term_given slots next around i (Atom Hexadecimal digits) d h frame r counted stand =
-        node_given i around (node.Hexadecimal digits) frame d.0
+        node_given i around (node.Literal literal.Hexadecimal digits) frame d.0
     term_given slots next around i (Atom Binary digits) d h frame r counted stand =
-        node_given i around (node.Binary digits) frame d.0
+        node_given i around (node.Literal literal.Binary digits) frame d.0
     term_given slots next around i (Items (Cons (Reserved Underscore) trees)) d h frame r counted stand =
         list_given i around frame (indexed trees) d.0 [] [] h d.1 d.2 refl
     term_given slots next around i (Items (Cons (Reserved As) trees)) d h frame r counted stand =

@@ -2,7 +2,7 @@
 -- laws.
 use Rattle.std.specs.Prelude.{ℕ, List, Option, Some, None}
 use Rattle.smt_theory.specs.Words.{look_up}
-use Rattle.smt_theory.specs.declared.sort.Sort.{Sort}
+use Rattle.smt_theory.specs.Sort.{Sort}
 use Rattle.smt_values.specs.Element.{Agrees, Element, IsOfSort}
 
 -- both have the variable or neither has it, and what is known of its value is true

@@ -2,7 +2,7 @@
 use Rattle.std.specs.Prelude.{ℕ, zero, suc, List, [], ◌∷◌, ◌++◌, codes}
 use Rattle.smt_trees.specs.Sexp.{Sexp, Sexps, Atom, Reserved, Items, Nil, Cons, Symbol, Numeral, Keyword}
 use Rattle.smt_trees.specs.declared.reserved.Word.TheVariants.{Bang}
-use Rattle.smt_theory.specs.declared.sort.Sort.TheVariants.{Int}
+use Rattle.smt_theory.specs.Sort.{Int}
 use Rattle.smt_terms.specs.Signature.{Entry, Defined}
 
 abbrev pub symbol : List ℕ → Sexp

@@ -7,7 +7,7 @@ ghost use Rattle.std.specs.Prelude.{◌≡◌, ◌≤◌, ◌↔◌, ℕ, ◌+�
 ghost use Rattle.std.specs.Prelude.{All, map, true};
 ghost use Rattle.smt_trees.specs.Sexp.{Cons, Sexp, Sexps, append};
 ghost use Rattle.smt_trees.specs.View.{sexp_of};
-ghost use Rattle.smt_theory.specs.declared.sort.Sort.{Sort};
+ghost use Rattle.smt_theory.specs.Sort.{Sort};
 ghost use Rattle.smt_theory.specs.declared.theories.Theories.{Theories};
 ghost use Rattle.smt_values.specs.Element.{Abstract, Agrees, Element, IsOfSort};
 ghost use Rattle.smt_values.specs.Operations.{DivisionByZero};

@@ -125,13 +125,12 @@ fn tell_counts(page: &mut Page<'_>, kind: &'static str, needed: u64, given: u64)
 
 // Writes a sort.
 fn put_sort(page: &mut Page<'_>, dialogue: &Dialogue<'_>, sort: Sort) {
-    let text = match sort {
-        Sort::Free(command) => {
+    let text = match sort.command() {
+        Some(command) => {
             let name = dialogue.declared_sort(u64::from(command));
             sort_text(page.alloc(), sort, name)
         }
-        Sort::Bool | Sort::Int => sort_text(page.alloc(), sort, b""),
-        Sort::Bits(width) => sort_text(page.alloc(), Sort::Bits(width), b""),
+        None => sort_text(page.alloc(), sort, b""),
     };
     page.put_text(text)
 }

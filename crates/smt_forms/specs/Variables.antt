@@ -4,7 +4,7 @@ use Rattle.std.specs.List.{list_any}
 use Rattle.smt_trees.specs.Sexp.{Sexp, Sexps, Atom, Reserved, Items, Nil, Cons, Symbol}
 use Rattle.smt_trees.specs.declared.reserved.Word.TheVariants.{As, Bang, Let, Underscore}
 use Rattle.smt_theory.specs.Words.{look_up}
-use Rattle.smt_theory.specs.declared.sort.Sort.{Sort}
+use Rattle.smt_theory.specs.Sort.{Sort}
 use Rattle.smt_forms.specs.Bindings.{named_trees}
 
 -- whether a name is one of these

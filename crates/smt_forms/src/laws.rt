@@ -6,7 +6,7 @@ ghost use Rattle.std.specs.List.{All, AllPairs, Contains, flat_map};
 ghost use Rattle.std.specs.Prelude.{◌≡◌, ◌≢◌, ◌↔◌, ◌⊎◌, ◌++◌, ◌∷◌, ◌<◌, ◌≤◌, ℕ, List, [], None, Some, codes, map};
 ghost use Rattle.std.specs.Prelude.{true, false};
 ghost use Rattle.smt_trees.specs.Sexp.{Sexp, Sexps, Nil};
-ghost use Rattle.smt_theory.specs.declared.sort.Sort.{Sort};
+ghost use Rattle.smt_theory.specs.Sort.{Sort};
 ghost use Rattle.smt_forms.specs.ElementNames.{is_numeral, sort_of_element};
 ghost use Rattle.smt_forms.specs.Labels.{labels_in};
 ghost use Rattle.smt_forms.specs.Parts.{IsLabelled, OccursFree, own_labels, parts_of};

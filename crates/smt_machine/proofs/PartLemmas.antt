@@ -44,9 +44,7 @@ operator_at at args h some =
     by : (n : node.Node) → parts_of n ≡ Args args
         → (op : Op)
         × (Some (resolved at.shift at.bodies.now at.declared.now n) ≡ Some (machine.Apply op (shifted at.shift args)))
-    by (node.Numeral digits) e = leaf cc
-    by (node.Hexadecimal digits) e = leaf cc
-    by (node.Binary digits) e = leaf cc
+    by (node.Literal kind digits) e = leaf cc
     by (node.Element name) e = leaf cc
     by (node.Slot place) e = leaf cc
     by (node.Apply op js) e =

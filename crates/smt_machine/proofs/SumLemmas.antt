@@ -47,9 +47,7 @@ parts_counted : (i : ℕ) (c : ℕ → ℕ) (at : Place) (n : node.Node)
     → made_cost i c at (parts_of n)
     ≡ first_cost i c (Some (resolved at.shift at.bodies.now at.declared.now n))
     + last_cost i c (Some (resolved at.shift at.bodies.now at.declared.now n))
-parts_counted i c at (node.Numeral digits) = refl
-parts_counted i c at (node.Hexadecimal digits) = refl
-parts_counted i c at (node.Binary digits) = refl
+parts_counted i c at (node.Literal kind digits) = refl
 parts_counted i c at (node.Element name) = refl
 parts_counted i c at (node.Slot place) = refl
 parts_counted i c at (node.Apply op args) = omega arith

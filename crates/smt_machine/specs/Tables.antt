@@ -1,11 +1,11 @@
 -- The nodes of a model and of a script in one list, where the script's stand behind the model's and names
 -- lead to the bodies of their definitions.
 use Rattle.std.specs.Prelude.{ℕ, ◌+◌, List, [], ◌++◌, Option, Some, None, length, map, option_map, slice_get}
-use Rattle.smt_values.specs.Literals.{bin_element, hex_element, name_element, numeral_element}
+use Rattle.smt_values.specs.Literals.{literal_element, name_element}
 use Rattle.smt_machine.specs.Costs.{cost}
 use Rattle.smt_machine.specs.Least.{least}
 use Rattle.smt_machine.specs.Nodes as machine
-use Rattle.smt_nodes.specs.Node.{Node, Numeral, Hexadecimal, Binary, Element, Slot, Apply, Declared, Defined, Let, Row}
+use Rattle.smt_nodes.specs.Node.{Node, Literal, Element, Slot, Apply, Declared, Defined, Let, Row}
 use Rattle.smt_nodes.specs.Nodes.{rows_of}
 use Rattle.smt_machine.specs.declared.tables.Tables.{Tables}
 
@@ -21,9 +21,7 @@ call (Some body) args = machine.Call body args
 -- A node of a table whose nodes stand behind n others. A defined name's body is a node of the same table, a
 -- declared name's is one from the start.
 abbrev pub resolved : ℕ → (bodies declared : List ℕ) → Node → machine.Node
-resolved n bodies declared (Numeral digits) = machine.Known (numeral_element digits)
-resolved n bodies declared (Hexadecimal digits) = machine.Known (hex_element digits)
-resolved n bodies declared (Binary digits) = machine.Known (bin_element digits)
+resolved n bodies declared (Literal kind digits) = machine.Known (literal_element kind digits)
 resolved n bodies declared (Element name) = machine.Known (name_element name)
 resolved n bodies declared (Slot place) = machine.Slot place
 resolved n bodies declared (Apply op args) = machine.Apply op (shifted n args)

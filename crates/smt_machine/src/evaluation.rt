@@ -28,8 +28,8 @@ use crate::tables::{Place, Tables};
 use crate::task::{Task, task_of};
 use smt_faults::Memory;
 use smt_nodes::{Node, NodeParts, TermId};
-use smt_theory::{CoreOp, Op};
-use smt_values::{Value, bin_of, element, hex_of, numeral_of};
+use smt_theory::Op;
+use smt_values::{Value, element, literal_of};
 
 impl Machine {
     /// What is known of the value of a closed term of the script; `None` where the value is open.
@@ -244,9 +244,7 @@ impl Machine {
             → IsStep nodes (Visit number) self.old self.new) }
     {
         match node {
-            Node::Numeral(_) => self.leave(numeral_of(from.literal())),
-            Node::Hex(digits) => self.leave(hex_of(from.literal(), *digits)),
-            Node::Bin(digits) => self.leave(bin_of(from.literal(), *digits)),
+            Node::Literal(kind, digits) => self.leave(literal_of(*kind, from.literal(), *digits)),
             Node::Element(name) => self.leave(element(*name)),
             Node::Slot(place) => {
                 let value = self.value_at(*place);
@@ -357,9 +355,7 @@ impl Machine {
                 };
                 self.bind(number, body, values.len())
             }
-            Node::Numeral(_) => Ok(()),
-            Node::Hex(_) => Ok(()),
-            Node::Bin(_) => Ok(()),
+            Node::Literal(_, _) => Ok(()),
             Node::Element(_) => Ok(()),
             Node::Slot(_) => Ok(()),
         }
@@ -414,9 +410,7 @@ impl Machine {
             Node::Declared { .. } => Ok(()),
             Node::Defined { .. } => Ok(()),
             Node::Let { .. } => Ok(()),
-            Node::Numeral(_) => Ok(()),
-            Node::Hex(_) => Ok(()),
-            Node::Bin(_) => Ok(()),
+            Node::Literal(_, _) => Ok(()),
             Node::Element(_) => Ok(()),
             Node::Slot(_) => Ok(()),
         }
@@ -464,7 +458,7 @@ fn condition_of<'a>(op: &Op, args: Parts<'a>) -> Option<Parts<'a>>
 fn is_choice(op: &Op) -> bool
     ensures { IsTrue result → op.now ≡ Core Ite }
 {
-    matches!(op, Op::Core(CoreOp::Ite))
+    op.is_choice()
 }
 
 // The two branches after a condition.
@@ -485,7 +479,7 @@ fn truth(value: &Option<Value>) -> Option<bool>
     ensures { result ≡ known_truth (known_element value.now) }
 {
     match value {
-        Some(Value::Bool(truth)) => Some(*truth),
-        _ => None,
+        Some(value) => value.truth(),
+        None => None,
     }
 }

@@ -115,9 +115,7 @@ impl<'a> Look<'a> {
     {
         match node {
             Node::Element(_) => Look::leaf(number, true),
-            Node::Numeral(_) => Look::leaf(number, false),
-            Node::Hex(_) => Look::leaf(number, false),
-            Node::Bin(_) => Look::leaf(number, false),
+            Node::Literal(_, _) => Look::leaf(number, false),
             Node::Slot(_) => Look::leaf(number, false),
             Node::Apply { op, args } => Look::inner(number, from.parts(*args), Some(*op), None),
             Node::Declared { place, args } => {

@@ -4,7 +4,7 @@
 use crate::{Machine, Tables, cost_of_term, costs};
 use smt_faults::Memory;
 use smt_nodes::{Node, Nodes, TermId};
-use smt_theory::{Arithmetic, Comparison, CoreOp, IntsOp, Op};
+use smt_theory::{Arithmetic, Comparison, CoreOp, IntsOp, LiteralKind, Op};
 use smt_values::Value;
 use std::alloc::Global;
 
@@ -21,8 +21,8 @@ fn apply(nodes: &mut Nodes, op: Op, args: &[TermId]) -> Result<TermId, Memory> {
 // `x` is 2, and `(f a)` is `(let ((b 1) (a a)) (- b a a))`: -3 for 2.
 fn model(alloc: Global) -> Result<(Nodes, [TermId; 2]), Memory> {
     let mut nodes = Nodes::new(alloc);
-    let x = nodes.push(&Node::Numeral(b"2"), 0)?;
-    let one = nodes.push(&Node::Numeral(b"1"), 0)?;
+    let x = nodes.push(&Node::Literal(LiteralKind::Numeral, b"2"), 0)?;
+    let one = nodes.push(&Node::Literal(LiteralKind::Numeral, b"1"), 0)?;
     let a = nodes.push(&Node::Slot(0), 0)?;
     let inner_b = nodes.push(&Node::Slot(1), 0)?;
     let inner_a = nodes.push(&Node::Slot(2), 0)?;

@@ -79,7 +79,7 @@ fn wait_for_node(
     ensures fewer { IfOk result (λ fewer. IfSome fewer (λ fewer. fewer ≤ left)) }
 {
     match node {
-        Node::Numeral(_) | Node::Hex(_) | Node::Bin(_) => Ok(Some(left)),
+        Node::Literal(_, _) => Ok(Some(left)),
         Node::Element(_) | Node::Slot(_) => Ok(Some(left)),
         Node::Apply { args, .. } => wait_for(waiting, number, from.parts(*args), left),
         Node::Declared { place, args } => {

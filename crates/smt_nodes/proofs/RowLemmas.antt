@@ -5,7 +5,7 @@ use Rattle.smt_theory.specs.declared.op.CoreOp.TheVariants.{True}
 use Rattle.smt_theory.specs.declared.op.Op.{Op}
 use Rattle.smt_theory.specs.declared.op.Op.TheVariants.{Core}
 use Rattle.smt_nodes.specs.Internal.Annotations.{IsAnnotated, IsOwn, around_of, inner, stored_in}
-use Rattle.smt_nodes.specs.Internal.Lists.{Grows, IsHeld, IsUpTo, Lists, before, lengths, literal_of, node_of}
+use Rattle.smt_nodes.specs.Internal.Lists.{Grows, IsHeld, IsUpTo, Lists, before, lengths, node_of}
 use Rattle.smt_theory.specs.PlainOp.{op_of_plain}
 use Rattle.smt_nodes.specs.Internal.Rows.{IsSound, row_view}
 use Rattle.smt_nodes.specs.Node as spec
@@ -21,10 +21,10 @@ use Rattle.smt_nodes.proofs.PlaceLemmas.{Keeps, before_kept, kept_place, read_ke
 -- the node of a row stays as the lists grow
 pub node_kept : (t u : Lists) (ends : Ends) (s : Stored) → IsHeld ends s → IsUpTo ends (lengths t) → Grows t u
     → node_of u ends s ≡ node_of t ends s
-node_kept t u ends (Literal base n number) held within more =
-    ap (λ ds. literal_of base ds) (before_kept n ends.digits t.digits u.digits within.digits more.digits)
-node_kept t u ends (Large base n place) held within more =
-    ap (λ ds. literal_of base ds) (before_kept n ends.digits t.digits u.digits within.digits more.digits)
+node_kept t u ends (Literal kind n number) held within more =
+    ap (λ ds. spec.Literal kind ds) (before_kept n ends.digits t.digits u.digits within.digits more.digits)
+node_kept t u ends (Large kind n place) held within more =
+    ap (λ ds. spec.Literal kind ds) (before_kept n ends.digits t.digits u.digits within.digits more.digits)
 node_kept t u ends (Element n) held within more =
     ap (λ ds. spec.Element ds) (before_kept n ends.digits t.digits u.digits within.digits more.digits)
 node_kept t u ends (Slot place) held within more = refl

@@ -2,13 +2,12 @@
 use Rattle.std.specs.Prelude.{ℕ, Option, Some, None}
 use Rattle.std.specs.Str.Parse.{digits_value}
 use Rattle.smt_theory.specs.Numbers.{below_word}
-use Rattle.smt_nodes.specs.Node.{Node, Numeral, Hexadecimal, Binary}
+use Rattle.smt_theory.specs.Literals.{radix}
+use Rattle.smt_nodes.specs.Node.{Node, Literal}
 
 -- the number of a literal's digits, if it fits a word of 128 bits
 abbrev pub spelled : Node → Option ℕ
-spelled (Numeral digits) = below_word (digits_value 10 digits)
-spelled (Hexadecimal digits) = below_word (digits_value 16 digits)
-spelled (Binary digits) = below_word (digits_value 2 digits)
+spelled (Literal kind digits) = below_word (digits_value (radix kind) digits)
 spelled _ = None
 
 abbrev pub literal_number : Option Node → Option ℕ

@@ -1,13 +1,12 @@
 -- Nodes of terms (SMT-LIB 2.6, section 3.6), whose parts are nodes by their numbers, and rows of a table of
 -- nodes. Nothing here knows what a number or a place stands for.
 use Rattle.std.specs.Prelude.{ℕ, List}
+use Rattle.smt_theory.specs.declared.literal.LiteralKind.{LiteralKind}
 use Rattle.smt_theory.specs.declared.op.Op.{Op}
 
 pub data Node : Type 0 where
-  -- literals, by their digits
-  Numeral : (digits : List ℕ) → Node
-  Hexadecimal : (digits : List ℕ) → Node
-  Binary : (digits : List ℕ) → Node
+  -- a literal, by its digits
+  Literal : (kind : LiteralKind) → (digits : List ℕ) → Node
   -- an element of a declared sort, by its name
   Element : (name : List ℕ) → Node
   -- a variable: a place of the frame, from 0

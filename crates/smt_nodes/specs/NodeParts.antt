@@ -11,9 +11,7 @@ pub data NodeParts : Type 0 where
   Let : (values : List ℕ) → (body : ℕ) → NodeParts
 
 abbrev pub parts_of : node.Node → NodeParts
-parts_of (node.Numeral digits) = Args []
-parts_of (node.Hexadecimal digits) = Args []
-parts_of (node.Binary digits) = Args []
+parts_of (node.Literal kind digits) = Args []
 parts_of (node.Element name) = Args []
 parts_of (node.Slot place) = Args []
 parts_of (node.Apply op args) = Args args

@@ -1,13 +1,11 @@
 -- Nodes as the code has them.
 use Rattle.smt_nodes.specs.Node as spec
 use Rattle.smt_nodes.specs.declared.node.Node.{Node}
-use Rattle.smt_nodes.specs.declared.node.Node.TheVariants.{Numeral, Hex, Bin, Element, Slot, Apply, Declared}
+use Rattle.smt_nodes.specs.declared.node.Node.TheVariants.{Literal, Element, Slot, Apply, Declared}
 use Rattle.smt_nodes.specs.declared.node.Node.TheVariants.{Defined, Let}
 
 abbrev pub node_view : Node → spec.Node
-node_view (Numeral digits) = spec.Numeral digits.now
-node_view (Hex digits) = spec.Hexadecimal digits.now
-node_view (Bin digits) = spec.Binary digits.now
+node_view (Literal kind digits) = spec.Literal kind digits.now
 node_view (Element name) = spec.Element name.now
 node_view (Slot place) = spec.Slot place
 node_view (Apply op args) = spec.Apply op args.now

@@ -6,7 +6,7 @@
 //!
 //! ```text
 //! let x = nodes.push(&Node::Slot(0), 0)?;                               // 0
-//! let one = nodes.push(&Node::Numeral(b"1"), 0)?;                       // 1
+//! let one = nodes.push(&Node::Literal(LiteralKind::Numeral, b"1"), 0)?;                       // 1
 //! let sum = nodes.push(&Node::Apply { op: plus, args: &[x, one] }, 0)?; // 2
 //! nodes.get(sum.number())                                               // Some(Node::Apply { .. })
 //! ```

@@ -1,17 +1,13 @@
 //! Nodes, as a caller writes and reads them. This file does not know how a table holds them.
 
 use crate::term_id::TermId;
-use smt_theory::Op;
+use smt_theory::{LiteralKind, Op};
 
 /// A node of a term (SMT-LIB 2.6, section 3.6). Its parts are nodes, by their numbers.
 #[derive(Clone, Copy)]
 pub enum Node<'a> {
-    /// A numeral, by its decimal digits.
-    Numeral(&'a [u8]),
-    /// A hexadecimal literal, by its digits.
-    Hex(&'a [u8]),
-    /// A binary literal, by its digits.
-    Bin(&'a [u8]),
+    /// A literal, by its digits.
+    Literal(LiteralKind, &'a [u8]),
     /// An element of a declared sort, by its name.
     Element(&'a [u8]),
     /// A variable, by its place in the frame, from 0.

@@ -1,11 +1,8 @@
 //! The rows of a table, as they are stored. What is long is in lists, of which this file knows only how far
 //! each row reaches.
 
-ghost use Rattle.std.specs.Prelude.{◌≡◌};
-ghost use Rattle.smt_nodes.specs.Internal.Numbers.{radix};
-
 use crate::term_id::TermId;
-use smt_theory::PlainOp;
+use smt_theory::{LiteralKind, PlainOp};
 use std::mem::size_of;
 
 // Rows are read at random, and there may be many.
@@ -21,35 +18,14 @@ pub(crate) struct Ends {
     pub(crate) ops: u32,
 }
 
-/// The base of the digits of a literal.
-#[derive(Clone, Copy)]
-pub(crate) enum Base {
-    Decimal,
-    Hexadecimal,
-    Binary,
-}
-
-impl Base {
-    /// The base as a number.
-    pub(crate) fn radix(self) -> u8
-        ensures { result ≡ radix self }
-    {
-        match self {
-            Base::Decimal => 10,
-            Base::Hexadecimal => 16,
-            Base::Binary => 2,
-        }
-    }
-}
-
 /// A node, with the counts of its digits or arguments. In the lists these end where the row ends.
 #[derive(Clone, Copy)]
 pub(crate) enum Stored {
     /// A literal: the count of its digits, and the number that they spell.
-    Literal(Base, u32, u32),
+    Literal(LiteralKind, u32, u32),
     /// A literal whose number has no room here: the count of its digits, and the place of the number among
     /// the large ones.
-    Large(Base, u32, u32),
+    Large(LiteralKind, u32, u32),
     /// An element of a declared sort: the count of the bytes of its name, which are among the digits.
     Element(u32),
     Slot(u32),

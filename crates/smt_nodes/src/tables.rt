@@ -14,7 +14,7 @@ ghost use Rattle.smt_nodes.specs.NodeParts.{parts_of};
 ghost use Rattle.smt_nodes.specs.PartsView.{parts_view};
 ghost use Rattle.smt_nodes.specs.Internal.Annotations.{IsAnnotated, annotated_in, annotated_of, inner, stored_in};
 ghost use Rattle.smt_nodes.specs.Internal.Lists.{Grows, IsHeld, IsStored, IsUpTo, before, first_of, lengths};
-ghost use Rattle.smt_nodes.specs.Internal.Lists.{IsPrefix, lists_of, literal_of, node_of, no_lists};
+ghost use Rattle.smt_nodes.specs.Internal.Lists.{IsPrefix, lists_of, node_of, no_lists};
 ghost use Rattle.smt_nodes.specs.Internal.Numbers.{IsNumberHeld, held_number, large_of};
 ghost use Rattle.smt_nodes.specs.Internal.Numbers.{number_in};
 ghost use Rattle.smt_nodes.specs.Literals.{spelled};
@@ -23,10 +23,10 @@ use crate::annotated::{self, AnnotatedNode};
 use crate::large::{self, LargeNumber};
 use crate::node::{Node, NodeParts};
 use crate::op::NumberedOp;
-use crate::rows::{Base, Ends, Stored};
+use crate::rows::{Ends, Stored};
 use crate::term_id::TermId;
 use smt_faults::Memory;
-use smt_theory::{Op, PlainOp, number};
+use smt_theory::{LiteralKind, Op, PlainOp, number};
 use std::alloc::Global;
 
 /// Not more arguments than these are added one by one.
@@ -104,8 +104,8 @@ impl Tables {
         ensures { node_view result ≡ node_of (lists_of self.now) ends stored }
     {
         match stored {
-            Stored::Literal(base, count, _) => literal(base, self.digits(count, ends.digits)),
-            Stored::Large(base, count, _) => literal(base, self.digits(count, ends.digits)),
+            Stored::Literal(kind, count, _) => Node::Literal(kind, self.digits(count, ends.digits)),
+            Stored::Large(kind, count, _) => Node::Literal(kind, self.digits(count, ends.digits)),
             Stored::Element(count) => Node::Element(self.digits(count, ends.digits)),
             Stored::Slot(place) => Node::Slot(place as usize),
             Stored::Plain(op, count) => Node::Apply {
@@ -252,9 +252,7 @@ impl Tables {
             IsNumberHeld (large_of self.new) row s (spelled (node_view node.now))) }
     {
         match *node {
-            Node::Numeral(digits) => self.store_literal(Base::Decimal, digits, row),
-            Node::Hex(digits) => self.store_literal(Base::Hexadecimal, digits, row),
-            Node::Bin(digits) => self.store_literal(Base::Binary, digits, row),
+            Node::Literal(kind, digits) => self.store_literal(kind, digits, row),
             Node::Element(name) => Ok(Stored::Element(self.push_digits(name)?)),
             Node::Slot(place) => Ok(Stored::Slot(narrow(place)?)),
             Node::Apply { op, args } => self.store_apply(&op, args),
@@ -271,22 +269,27 @@ impl Tables {
     }
 
     // Stores a literal, as `store` does.
-    fn store_literal(&mut self, base: Base, digits: &[u8], row: usize) -> Result<Stored, Memory>
+    fn store_literal(
+        &mut self,
+        kind: LiteralKind,
+        digits: &[u8],
+        row: usize,
+    ) -> Result<Stored, Memory>
         ensures grown { Grows (lists_of self.old) (lists_of self.new) }
-        ensures stored { IfOk result (λ s. IsStored (lists_of self.new) s (literal_of base digits.now)) }
+        ensures stored { IfOk result (λ s. IsStored (lists_of self.new) s (spec.Literal kind digits.now)) }
         ensures longer { IsPrefix (large_of self.old) (large_of self.new) }
         ensures annotated { annotated_of self.new ≡ annotated_of self.old }
         ensures number { IfOk result (λ s.
-            IsNumberHeld (large_of self.new) row s (spelled (literal_of base digits.now))) }
+            IsNumberHeld (large_of self.new) row s (spelled (spec.Literal kind digits.now))) }
     {
         let count = self.push_digits(digits)?;
-        match number(base.radix(), digits) {
+        match number(kind.radix(), digits) {
             Some(number) if number <= MOST as u128 => {
-                Ok(Stored::Literal(base, count, number as u32))
+                Ok(Stored::Literal(kind, count, number as u32))
             }
             number => {
                 let place = self.push_large(LargeNumber { row, number })?;
-                Ok(Stored::Large(base, count, place))
+                Ok(Stored::Large(kind, count, place))
             }
         }
     }
@@ -422,18 +425,6 @@ impl Tables {
         ensures { result ≡ slice_index_or self.now.ops.items place (Op.Core CoreOp.True) }
     {
         self.ops.as_slice()[place as usize].op()
-    }
-}
-
-// A literal with these digits.
-#[inline(always)]
-fn literal(base: Base, digits: &[u8]) -> Node<'_>
-    ensures { node_view result ≡ literal_of base digits.now }
-{
-    match base {
-        Base::Decimal => Node::Numeral(digits),
-        Base::Hexadecimal => Node::Hex(digits),
-        Base::Binary => Node::Bin(digits),
     }
 }
 

@@ -2,14 +2,14 @@
 
 use crate::{Node, NodeParts, Nodes};
 use smt_faults::Memory;
-use smt_theory::{Arithmetic, BitsOp, IntsOp, Op};
+use smt_theory::{Arithmetic, BitsOp, IntsOp, LiteralKind, Op};
 use std::alloc::Global;
 
 // `(! (! (+ x (! 1))))`, where `x` is the first variable in scope, and then one operator with a number on top.
 fn sum(alloc: Global) -> Result<Nodes, Memory> {
     let mut nodes = Nodes::new(alloc);
     let x = nodes.push(&Node::Slot(0), 0)?;
-    let one = nodes.push(&Node::Numeral(b"1"), 1)?;
+    let one = nodes.push(&Node::Literal(LiteralKind::Numeral, b"1"), 1)?;
     let op = Op::Ints(IntsOp::Arithmetic(Arithmetic::Plus));
     let sum = nodes.push(
         &Node::Apply {
@@ -43,14 +43,14 @@ fn arity_by_parts(nodes: &Nodes, number: usize) -> usize {
 // one of 129 digits.
 fn numbers(alloc: Global) -> Result<[Option<u128>; 3], Memory> {
     let mut nodes = Nodes::new(alloc);
-    let _ = nodes.push(&Node::Bin(b"101"), 0)?;
-    let _ = nodes.push(&Node::Hex(b"Ffffffff"), 1)?;
+    let _ = nodes.push(&Node::Literal(LiteralKind::Binary, b"101"), 0)?;
+    let _ = nodes.push(&Node::Literal(LiteralKind::Hexadecimal, b"Ffffffff"), 1)?;
     let digits = [b'1'; 129];
-    let _ = nodes.push(&Node::Bin(&digits), 0)?;
+    let _ = nodes.push(&Node::Literal(LiteralKind::Binary, &digits), 0)?;
     nodes.cut(1);
     let _ = nodes.push(&Node::Slot(0), 0)?;
-    let large = nodes.push(&Node::Hex(b"Ffffffff"), 2)?;
-    let longest = nodes.push(&Node::Bin(&digits), 0)?;
+    let large = nodes.push(&Node::Literal(LiteralKind::Hexadecimal, b"Ffffffff"), 2)?;
+    let longest = nodes.push(&Node::Literal(LiteralKind::Binary, &digits), 0)?;
     Ok([
         nodes.literal(0),
         nodes.literal(large.number()),

@@ -4,8 +4,8 @@ use Rattle.std.specs.Prelude.{ℕ, zero, suc, ℤ, pos, negsuc, List, [], ◌∷
 use Rattle.std.specs.Prelude.{codes, false, true, if◌then◌else◌}
 use Rattle.std.specs.Fmt.{decimal, digit_glyph}
 use Rattle.smt_bits.specs.BitVector.{BitVector}
-use Rattle.smt_theory.specs.declared.sort.Sort.{Sort}
-use Rattle.smt_theory.specs.declared.sort.Sort.TheVariants.{Bool as Boolean, Int, Bits, Free}
+use Rattle.smt_theory.specs.Sort.{Sort}
+use Rattle.smt_theory.specs.Sort.{Boolean, Int, Bits, Free}
 use Rattle.smt_values.specs.Element.{Element, Truth, Integer, Vector, Abstract}
 
 -- an integer: of a negative one the minus sign is applied to its absolute value

@@ -28,9 +28,11 @@ impl Known {
     fn of(value: Option<Value>) -> Known {
         match value {
             None => Known::Open,
-            Some(Value::Bool(true)) => Known::True,
-            Some(Value::Bool(false)) => Known::False,
-            Some(_) => Known::Else,
+            Some(value) => match value.truth() {
+                Some(true) => Known::True,
+                Some(false) => Known::False,
+                None => Known::Else,
+            },
         }
     }
 }
@@ -85,7 +87,7 @@ impl<'a, 'l> Walk<'a, 'l> {
     pub fn is_false(&mut self, term: TermId) -> bool {
         let parts = self.work.evaluator.parts;
         let node = parts.root(term);
-        matches!(self.value(0, node), Some(Value::Bool(false)))
+        Known::of(self.value(0, node)) == Known::False
     }
 
     /// What a walk sees of the node of a part.

@@ -10,7 +10,7 @@ ghost use Rattle.smt_reasons.specs.ValueTexts.{text_of_integer};
 use smt_bits::Bits;
 use smt_faults::{Memory, TextFault};
 use smt_text::read_trees;
-use smt_theory::Sort;
+use smt_theory::{Sort, SortKind};
 use smt_values::Value;
 use std::alloc::Global;
 
@@ -34,11 +34,11 @@ pub(crate) fn value_text(alloc: Global, value: &Value) -> Result<Vec<u8>, Memory
 pub fn sort_text(alloc: Global, sort: Sort, name: &[u8]) -> Result<Vec<u8>, Memory>
     ensures { IfOk result (λ text. IsTextOfSort sort name.now text.items) }
 {
-    match sort {
-        Sort::Bool => Ok(Vec::from_slice(alloc, b"Bool")?),
-        Sort::Int => Ok(Vec::from_slice(alloc, b"Int")?),
-        Sort::Free(_) => symbol_text(alloc, name),
-        Sort::Bits(width) => {
+    match sort.kind() {
+        SortKind::Bool => Ok(Vec::from_slice(alloc, b"Bool")?),
+        SortKind::Int => Ok(Vec::from_slice(alloc, b"Int")?),
+        SortKind::Free(_) => symbol_text(alloc, name),
+        SortKind::Bits(width) => {
             let text = format!(in alloc; "(_ BitVec {})", width.bits())?;
             Ok(Vec::from_slice(alloc, text.as_bytes())?)
         }

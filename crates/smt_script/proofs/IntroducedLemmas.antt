@@ -11,7 +11,7 @@ use Rattle.smt_theory.specs.Operators.{is_plain_operator}
 use Rattle.smt_theory.specs.Theories.{theories_named}
 use Rattle.smt_theory.specs.declared.profile.Profile.{Profile}
 use Rattle.smt_theory.specs.Words.{look_up, result_and_then}
-use Rattle.smt_theory.specs.declared.sort.Sort.{Sort}
+use Rattle.smt_theory.specs.Sort.{Sort}
 use Rattle.smt_theory.specs.declared.theories.Theories.{Theories}
 use Rattle.smt_terms.specs.Elements.{ElementNames}
 use Rattle.smt_terms.specs.Assertions.{asserted_in}

@@ -3,7 +3,7 @@ use Rattle.std.proofs.Common.{◌≡◌, ◌-◌, ℕ, Bool, List, [], ◌∷◌
 use Rattle.std.proofs.Common.{◌≤◌, Ok, Result, append-nil, arith, subst}
 use Rattle.std.proofs.Math.Seq.{drop-append_seam}
 use Rattle.std.proofs.lemmas.List.{append_assoc, length-append, length-drop}
-use Rattle.smt_theory.specs.declared.sort.Sort.{Sort}
+use Rattle.smt_theory.specs.Sort.{Sort}
 use Rattle.smt_terms.specs.Internal.SoFar.{IsPlainHead, SoFar, WaitSince, sorts_since, terms_since, waiting}
 use Rattle.smt_terms.specs.Internal.Calls.{HasTheSame, SeesTheSame}
 use Rattle.smt_faults.specs.declared.term_flaw.TermFlaw.{TermFlaw}

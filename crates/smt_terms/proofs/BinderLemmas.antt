@@ -4,7 +4,7 @@ use Rattle.std.proofs.Common.{is_some, Result, Ok, Err, refl, ap, sym, ◌∙◌
 use Rattle.smt_trees.specs.Sexp.{Sexp, Sexps, Reserved, Items, Nil, Cons}
 use Rattle.smt_trees.specs.declared.reserved.Word.TheVariants.{Bang, Let}
 use Rattle.smt_theory.specs.Words.{look_up, result_and_then}
-use Rattle.smt_theory.specs.declared.sort.Sort.{Sort}
+use Rattle.smt_theory.specs.Sort.{Sort}
 use Rattle.smt_forms.specs.Bindings.{are_attributes, are_bindings}
 use Rattle.smt_terms.specs.Internal.SoFar.{binding}
 use Rattle.smt_terms.specs.Checking.{bound_in, flaw_of_labels, sort_in, unless}

@@ -5,7 +5,7 @@ use denote.Ref.{Bor}
 use Rattle.std.specs.Prelude.{IfErr, IfOk, IfSome, MatchOption, MatchResult, [], is_some, if◌then◌else◌}
 use Rattle.smt_faults.specs.declared.memory.Memory.{Memory}
 use Rattle.smt_trees.specs.Sexp.{Sexp, Sexps, Items, Nil, Cons}
-use Rattle.smt_theory.specs.declared.sort.Sort.{Sort}
+use Rattle.smt_theory.specs.Sort.{Sort}
 use Rattle.smt_forms.specs.Identifier.{Identifier, Plain, Indexed}
 use Rattle.smt_trees.specs.View.{sexp_of}
 use Rattle.smt_trees.specs.declared.view.Tree.{Tree}
@@ -14,7 +14,7 @@ use Rattle.smt_terms.specs.Blame.{IsBlamed, IsCall, IsInUse, IsLacking, IsToldOv
 use Rattle.smt_terms.specs.Blame.{IsFirstTold, IsToldTwice, IsToldWhole, IsTwice, whole_blame, with_theory}
 use Rattle.smt_forms.specs.ItemForm.{ItemForm, item_form}
 use Rattle.smt_theory.specs.Sort.{is_same_sort}
-use Rattle.smt_theory.specs.declared.sort.Sort.TheVariants.{Bool as Boolean}
+use Rattle.smt_theory.specs.Sort.{Boolean}
 use Rattle.smt_terms.specs.Checking.{sort_in}
 use Rattle.smt_terms.specs.Items.{is_set_aside}
 use Rattle.smt_faults.specs.Outcome.{IsOutcome, Tells}

@@ -14,6 +14,7 @@ use Rattle.smt_theory.specs.Words.{look_up}
 use Rattle.smt_theory.specs.declared.theories.Theories.{Theories}
 use Rattle.smt_forms.specs.ElementNames.{qualified_symbol}
 use Rattle.smt_forms.specs.Labels.{labels_among}
+use Rattle.smt_theory.specs.declared.literal.LiteralKind.TheVariants as literal
 use Rattle.smt_nodes.specs.Node as node
 use Rattle.smt_nodes.specs.Node.{Node, Row}
 use Rattle.smt_terms.specs.Denotes.{AreApart, Denotes, Head, IsLonger, IsNameOf, IsRow, Slots, Table, UsesNone}
@@ -156,11 +157,11 @@ pub denotes_within : (t : Table) (slots : Slots) (next around i : ℕ) (term : S
 denotes_within t slots next around i (Atom Symbol x) d =
     row_within t.rows i around (symbol_node t x (look_up slots x)) d.0
 denotes_within t slots next around i (Atom Numeral digits) d =
-    row_within t.rows i around (Some (node.Numeral digits)) d.0
+    row_within t.rows i around (Some (node.Literal literal.Numeral digits)) d.0
 denotes_within t slots next around i (Atom Hexadecimal digits) d =
-    row_within t.rows i around (Some (node.Hexadecimal digits)) d.0
+    row_within t.rows i around (Some (node.Literal literal.Hexadecimal digits)) d.0
 denotes_within t slots next around i (Atom Binary digits) d =
-    row_within t.rows i around (Some (node.Binary digits)) d.0
+    row_within t.rows i around (Some (node.Literal literal.Binary digits)) d.0
 denotes_within t slots next around i (Items (Cons (Reserved Underscore) parts)) d =
     row_within t.rows i around (node_of t d.0 []) d.2.0
 denotes_within t slots next around i (Items (Cons (Reserved As) parts)) d =

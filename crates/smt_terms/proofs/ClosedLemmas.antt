@@ -9,7 +9,7 @@ use Rattle.smt_trees.specs.Sexp.{Sexp, Sexps, Atom, Reserved, Items, Nil, Cons, 
 use Rattle.smt_trees.specs.Sexp.{Hexadecimal, Binary}
 use Rattle.smt_trees.specs.declared.reserved.Word.TheVariants.{As, Bang, Let, Underscore}
 use Rattle.smt_theory.specs.Words.{look_up, result_and_then}
-use Rattle.smt_theory.specs.declared.sort.Sort.{Sort}
+use Rattle.smt_theory.specs.Sort.{Sort}
 use Rattle.smt_forms.specs.Bindings.{are_attributes, are_bindings, named_trees}
 use Rattle.smt_terms.specs.Checking.{bound_in, flaw_of_labels, sort_applied, sort_in, sort_of_call}
 use Rattle.smt_terms.specs.Checking.{sort_of_symbol, sort_unless_variable, sorts_in, unless}

@@ -4,7 +4,7 @@ use Rattle.std.proofs.Common.{inr}
 use Rattle.smt_trees.specs.Sexp.{Sexp}
 use Rattle.smt_theory.specs.Sort.{is_same_sort}
 use Rattle.smt_theory.specs.Words.{result_and_then}
-use Rattle.smt_theory.specs.declared.sort.Sort.{Sort}
+use Rattle.smt_theory.specs.Sort.{Sort}
 use Rattle.smt_terms.specs.Checking.{sort_in}
 use Rattle.smt_terms.specs.Definitions.{defined_in, definition, definition_in, parameters_named}
 use Rattle.smt_terms.specs.Internal.LibraryView.{names_of_library, sort_names}

@@ -10,11 +10,12 @@ use Rattle.smt_theory.specs.Operators.{op_by}
 use Rattle.smt_theory.specs.Words.{look_up}
 use Rattle.smt_theory.specs.declared.op.Op.{Op}
 use Rattle.smt_theory.specs.declared.op.OpFault.{OpFault}
-use Rattle.smt_theory.specs.declared.sort.Sort.{Sort}
+use Rattle.smt_theory.specs.Sort.{Sort}
 use Rattle.smt_forms.specs.ElementNames.{qualified_symbol}
 use Rattle.smt_terms.specs.Elements.{element_among}
 use Rattle.smt_forms.specs.Identifier.{Identifier, Plain, Indexed}
 use Rattle.smt_forms.specs.Labels.{labels_among}
+use Rattle.smt_theory.specs.declared.literal.LiteralKind.TheVariants as literal
 use Rattle.smt_nodes.specs.Node as node
 use Rattle.smt_nodes.specs.Node.{Node, Row}
 use Rattle.smt_terms.specs.Denotes.{AreBound, AreDenoted, Denotes, HasBodyBelow, Head, IsLonger, IsNameOf}
@@ -161,10 +162,10 @@ module _ (t u : Table) (longer : IsLonger t u) where
         made_kept i around (symbol_node t x (look_up slots x)) (symbol_node u x (look_up slots x))
         (symbol_kept x (look_up slots x)) d
     denotes_kept slots next around i (Atom Numeral digits) d =
-        is_kept i around (Some (node.Numeral digits)) d
+        is_kept i around (Some (node.Literal literal.Numeral digits)) d
     denotes_kept slots next around i (Atom Hexadecimal digits) d =
-        is_kept i around (Some (node.Hexadecimal digits)) d
-    denotes_kept slots next around i (Atom Binary digits) d = is_kept i around (Some (node.Binary digits)) d
+        is_kept i around (Some (node.Literal literal.Hexadecimal digits)) d
+    denotes_kept slots next around i (Atom Binary digits) d = is_kept i around (Some (node.Literal literal.Binary digits)) d
     denotes_kept slots next around i (Items (Cons (Reserved Underscore) parts)) d =
         (d.0, d.1, made_kept i around (node_of t d.0 []) (node_of u d.0 []) (node_kept d.0 []) d.2)
     denotes_kept slots next around i (Items (Cons (Reserved As) parts)) d =

@@ -9,8 +9,8 @@ use Rattle.smt_theory.specs.Sort.{is_same_sort}
 use Rattle.smt_theory.specs.Words.{look_up, result_and_then}
 use Rattle.smt_theory.specs.declared.op.Op.{Op}
 use Rattle.smt_theory.specs.declared.op.OpFault.TheVariants as ops
-use Rattle.smt_theory.specs.declared.sort.Sort.{Sort}
-use Rattle.smt_theory.specs.declared.sort.Sort.TheVariants.{Free}
+use Rattle.smt_theory.specs.Sort.{Sort}
+use Rattle.smt_theory.specs.Sort.{Free}
 use Rattle.smt_forms.specs.Variables.{is_among}
 use Rattle.smt_terms.specs.Checking.{sort_alone, sort_of_operator, sort_of_symbol, sort_unless_element}
 use Rattle.smt_terms.specs.Declarations.{abbreviated_in, sort_declared_in}

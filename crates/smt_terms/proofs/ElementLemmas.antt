@@ -7,7 +7,7 @@ use Rattle.smt_theory.specs.Words.{look_up}
 use Rattle.smt_theory.specs.declared.op.Op.{Op}
 use Rattle.smt_theory.specs.declared.op.OpFault.{OpFault}
 use Rattle.smt_theory.specs.declared.op.OpFault.TheVariants as ops
-use Rattle.smt_theory.specs.declared.sort.Sort.{Sort}
+use Rattle.smt_theory.specs.Sort.{Sort}
 use Rattle.smt_faults.specs.declared.term_flaw.TermFlaw.TheVariants.{Unsupported}
 use Rattle.smt_forms.specs.ElementNames.{begins_at, qualified_symbol}
 use Rattle.smt_forms.specs.Identifier.{Plain}

@@ -6,10 +6,10 @@ use Rattle.std.specs.Option.{option_or}
 use Rattle.smt_trees.specs.Sexp.{Sexp, Sexps, Atom, Cons, Items, Nil, Reserved, Symbol}
 use Rattle.smt_trees.specs.declared.reserved.Word.TheVariants.{Bang, Let}
 use Rattle.smt_theory.specs.Operators.{op_by}
-use Rattle.smt_theory.specs.Ranks.{are_exactly}
+use Rattle.smt_theory.specs.Shapes.{are_exactly}
 use Rattle.smt_theory.specs.Words.{look_up, result_and_then}
 use Rattle.smt_theory.specs.declared.op.OpFault.TheVariants as ops
-use Rattle.smt_theory.specs.declared.sort.Sort.{Sort}
+use Rattle.smt_theory.specs.Sort.{Sort}
 use Rattle.smt_forms.specs.Bindings.{are_attributes, are_bindings}
 use Rattle.smt_forms.specs.Identifier.{Plain}
 use Rattle.smt_forms.specs.ItemForm.{ItemForm}

@@ -5,12 +5,12 @@ use Rattle.std.proofs.lemmas.Bool.{eq-eqb}
 use Rattle.smt_forms.specs.Identifier.{Plain}
 use Rattle.smt_nodes.specs.Node as node
 use Rattle.smt_theory.specs.Operators.{op_by, plain_op}
-use Rattle.smt_theory.specs.Ranks.{are_exactly}
+use Rattle.smt_theory.specs.Shapes.{are_exactly}
 use Rattle.smt_theory.specs.Sort.{is_same_sort}
 use Rattle.smt_theory.specs.Words.{look_up}
 use Rattle.smt_theory.specs.declared.op.Op.{Op}
 use Rattle.smt_theory.specs.declared.op.OpFault.TheVariants.{Unknown}
-use Rattle.smt_theory.specs.declared.sort.Sort.{Sort}
+use Rattle.smt_theory.specs.Sort.{Sort}
 use Rattle.smt_names.specs.Entries.{entries_of}
 use Rattle.smt_terms.proofs.LibraryLemmas.{found}
 use Rattle.smt_terms.specs.Denotes.{Head, applied_node, named_node, node_at}

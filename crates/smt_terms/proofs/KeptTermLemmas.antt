@@ -6,7 +6,7 @@ use Rattle.smt_nodes.specs.Node.{Row}
 use Rattle.smt_nodes.specs.Nodes.{rows_of}
 use Rattle.smt_trees.specs.Sexp.{Sexp}
 use Rattle.smt_trees.specs.View.{sexp_of}
-use Rattle.smt_theory.specs.declared.sort.Sort.{Sort}
+use Rattle.smt_theory.specs.Sort.{Sort}
 use Rattle.smt_forms.specs.Labels.{labels_in}
 use Rattle.smt_forms.specs.ScopeView.{scope_view}
 use Rattle.smt_forms.specs.declared.variable.Variable.{Variable}

@@ -8,7 +8,7 @@ use Rattle.smt_trees.specs.View.{sexps_of}
 use Rattle.smt_trees.specs.declared.reserved.Word.TheVariants.{Let}
 use Rattle.smt_trees.specs.declared.view.Trees.{Trees}
 use Rattle.smt_theory.specs.Words.{look_up}
-use Rattle.smt_theory.specs.declared.sort.Sort.{Sort}
+use Rattle.smt_theory.specs.Sort.{Sort}
 use Rattle.smt_forms.specs.Bindings.{are_bindings, are_named_trees, first_named, let_form}
 use Rattle.smt_forms.specs.Labels.{labels_in, labels_in_bindings}
 use Rattle.smt_forms.specs.ScopeOf.{scope_of}

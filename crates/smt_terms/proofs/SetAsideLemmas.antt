@@ -4,10 +4,10 @@ use Rattle.std.proofs.Common.{None, is_some, Result, Ok, Err, refl, ap, sym, ◌
 use Rattle.std.specs.Option.{option_and_then}
 use Rattle.std.proofs.lemmas.Slice.Eq.{slice_eq-Decides}
 use Rattle.smt_trees.specs.Sexp.{Sexp}
-use Rattle.smt_theory.specs.Ranks.{are_exactly}
+use Rattle.smt_theory.specs.Shapes.{are_exactly}
 use Rattle.smt_theory.specs.Sort.{is_same_sort}
 use Rattle.smt_theory.specs.Words.{result_and_then}
-use Rattle.smt_theory.specs.declared.sort.Sort.{Sort}
+use Rattle.smt_theory.specs.Sort.{Sort}
 use Rattle.smt_forms.specs.Bindings.{named_trees}
 use Rattle.smt_forms.specs.ItemForm.{ItemForm, item_form}
 use Rattle.smt_terms.specs.Definitions.{parameters_named}

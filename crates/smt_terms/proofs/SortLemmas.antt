@@ -3,7 +3,7 @@ use Rattle.std.proofs.Common.{List, ◌++◌}
 use Rattle.std.proofs.Common.{Result, Ok}
 use Rattle.smt_trees.specs.Sexp.{Sexps}
 use Rattle.smt_theory.specs.Words.{result_and_then}
-use Rattle.smt_theory.specs.declared.sort.Sort.{Sort}
+use Rattle.smt_theory.specs.Sort.{Sort}
 use Rattle.smt_terms.specs.SortTrees.{SortNames, sorts_named}
 use Rattle.smt_faults.specs.declared.term_flaw.TermFlaw.{TermFlaw}
 

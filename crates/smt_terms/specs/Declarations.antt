@@ -3,7 +3,7 @@
 use Rattle.std.specs.Prelude.{ℕ, List, true, false, Result, Ok, Err}
 use Rattle.smt_trees.specs.Sexp.{Sexp, Sexps}
 use Rattle.smt_theory.specs.Words.{result_and_then}
-use Rattle.smt_theory.specs.declared.sort.Sort.TheVariants.{Free}
+use Rattle.smt_theory.specs.Sort.{Free}
 use Rattle.smt_terms.specs.Freshness.{NewAbbreviation, NewSymbol, where_fresh}
 use Rattle.smt_terms.specs.Signature.{Entry, Declared, Rank, Signature, names_of, sort_names_of}
 use Rattle.smt_terms.specs.SortTrees.{SortNames, sort_named, sorts_named}

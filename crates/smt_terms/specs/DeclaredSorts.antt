@@ -1,7 +1,7 @@
 -- SMT-LIB 2.6, section 4.2.3: the names of the sorts that commands declare.
 use Rattle.std.specs.Prelude.{ℕ, List, [], ◌∷◌, Bool, ◌&&◌, Option, Some, None, if◌then◌else◌}
 use Rattle.smt_theory.specs.Sort.{is_same_sort}
-use Rattle.smt_theory.specs.declared.sort.Sort.{Sort}
+use Rattle.smt_theory.specs.Sort.{Sort}
 use Rattle.smt_terms.specs.declared.named_sort.NamedSort.{NamedSort}
 
 -- whether a name stands for the sort because a command declared it

@@ -8,14 +8,15 @@ use Rattle.smt_theory.specs.Operators.{op_by}
 use Rattle.smt_theory.specs.Words.{look_up}
 use Rattle.smt_theory.specs.declared.op.Op.{Op}
 use Rattle.smt_theory.specs.declared.op.OpFault.{OpFault}
-use Rattle.smt_theory.specs.declared.sort.Sort.{Sort}
-use Rattle.smt_theory.specs.declared.sort.Sort.TheVariants.{Bool as Boolean}
+use Rattle.smt_theory.specs.Sort.{Sort}
+use Rattle.smt_theory.specs.Sort.{Boolean}
 use Rattle.smt_theory.specs.declared.theories.Theories.{Theories}
 use Rattle.smt_forms.specs.Bindings.{named_trees}
 use Rattle.smt_forms.specs.ElementNames.{qualified_symbol}
 use Rattle.smt_forms.specs.Identifier.{Identifier, Plain, Indexed, applied, indexed}
 use Rattle.smt_forms.specs.Labels.{labels_among}
 use Rattle.smt_forms.specs.Variables.{uses_variable}
+use Rattle.smt_theory.specs.declared.literal.LiteralKind.TheVariants as literal
 use Rattle.smt_nodes.specs.Node as node
 use Rattle.smt_nodes.specs.Node.{Node, Row}
 use Rattle.smt_terms.specs.Elements.{ElementNames, element_among}
@@ -129,10 +130,10 @@ abbrev mutual
   pub Denotes : Table → Slots → (next around i : ℕ) → Sexp → Type 0
   Denotes t slots next around i (Atom Symbol x) = IsNode t around i (symbol_node t x (look_up slots x))
   Denotes t slots next around i (Atom Numeral digits) =
-      IsNode t around i (Some (node.Numeral digits))
+      IsNode t around i (Some (node.Literal literal.Numeral digits))
   Denotes t slots next around i (Atom Hexadecimal digits) =
-      IsNode t around i (Some (node.Hexadecimal digits))
-  Denotes t slots next around i (Atom Binary digits) = IsNode t around i (Some (node.Binary digits))
+      IsNode t around i (Some (node.Literal literal.Hexadecimal digits))
+  Denotes t slots next around i (Atom Binary digits) = IsNode t around i (Some (node.Literal literal.Binary digits))
   Denotes t slots next around i (Items (Cons (Reserved Underscore) parts)) =
       (f : Identifier) × (indexed parts ≡ Ok f) × IsNode t around i (node_of t f [])
   Denotes t slots next around i (Items (Cons (Reserved As) parts)) =

@@ -4,8 +4,8 @@ use Rattle.std.specs.Prelude.{ℕ, List, Bool, false, not, ◌||◌, Option, Som
 use Rattle.std.specs.Prelude.{Result, Ok, Err, if◌then◌else◌}
 use Rattle.smt_trees.specs.Sexp.{Sexps, Atom, Nil, Cons, Symbol}
 use Rattle.smt_theory.specs.Words.{look_up, result_and_then}
-use Rattle.smt_theory.specs.declared.sort.Sort.{Sort}
-use Rattle.smt_theory.specs.declared.sort.Sort.TheVariants.{Free}
+use Rattle.smt_theory.specs.Sort.{Sort}
+use Rattle.smt_theory.specs.Sort.{Free}
 use Rattle.smt_forms.specs.ElementNames.{begins_at, sort_of_element}
 use Rattle.smt_forms.specs.Variables.{is_among}
 use Rattle.smt_terms.specs.SortTrees.{SortNames, sort_named}

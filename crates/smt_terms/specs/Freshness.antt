@@ -4,7 +4,7 @@ use Rattle.std.specs.Prelude.{ℕ, List, Bool, not, ◌||◌, ◌&&◌, Option, 
 use Rattle.std.specs.Prelude.{if◌then◌else◌}
 use Rattle.smt_theory.specs.Operators.{is_plain_operator}
 use Rattle.smt_theory.specs.Words.{look_up}
-use Rattle.smt_theory.specs.declared.sort.Sort.{Sort}
+use Rattle.smt_theory.specs.Sort.{Sort}
 use Rattle.smt_forms.specs.Variables.{is_among}
 use Rattle.smt_terms.specs.Elements.{ElementNames, element_sort, names_element}
 use Rattle.smt_terms.specs.Signature.{Entry, Names, Signature, declared_named, entry_named, names_of}

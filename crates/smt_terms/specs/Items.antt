@@ -4,10 +4,10 @@ use Rattle.std.specs.Prelude.{ℕ, List, [], ◌∷◌, Bool, true, not, ◌&&�
 use Rattle.std.specs.Prelude.{Err, map, unwrap_or, if◌then◌else◌}
 use Rattle.smt_trees.specs.Sexp.{Sexp, Sexps, Atom, Reserved, Items, Nil, Cons, Symbol}
 use Rattle.smt_trees.specs.declared.reserved.Word.TheVariants.{DeclareFun, DeclareSort, Forall}
-use Rattle.smt_theory.specs.Ranks.{are_exactly}
+use Rattle.smt_theory.specs.Shapes.{are_exactly}
 use Rattle.smt_theory.specs.Sort.{is_same_sort}
 use Rattle.smt_theory.specs.Words.{result_and_then}
-use Rattle.smt_theory.specs.declared.sort.Sort.{Sort}
+use Rattle.smt_theory.specs.Sort.{Sort}
 use Rattle.smt_forms.specs.ItemForm.{ItemForm, item_form}
 use Rattle.smt_terms.specs.Checking.{unless}
 use Rattle.smt_terms.specs.Definitions.{definition_in, parameters_named}

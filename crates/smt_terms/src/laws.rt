@@ -8,7 +8,7 @@ ghost use Rattle.std.specs.Prelude.{◌≡◌, ◌≢◌, ◌<◌, ◌↔◌, �
 ghost use Rattle.std.specs.Prelude.{bytes_eq, length};
 ghost use Rattle.smt_trees.specs.Sexp.{Sexp, Sexps};
 ghost use Rattle.smt_nodes.specs.Node.{Row};
-ghost use Rattle.smt_theory.specs.declared.sort.Sort.{Sort};
+ghost use Rattle.smt_theory.specs.Sort.{Sort};
 ghost use Rattle.smt_theory.specs.declared.theories.Theories.{Theories};
 ghost use Rattle.smt_terms.specs.Checking.{sort_in};
 ghost use Rattle.smt_terms.specs.Assertions.{asserted_in};

@@ -18,7 +18,7 @@ use crate::named_sort::NamedSort;
 use smt_faults::{TermFault, TermFlaw};
 use smt_forms::{are_indexes, sort_of_element};
 use smt_names::NameMap;
-use smt_theory::{Sort, Theories, Width, number};
+use smt_theory::{Sort, SortKind, Theories, Width, number};
 use smt_trees::{Tree, Trees, Word};
 use std::alloc::Global;
 
@@ -32,7 +32,7 @@ pub(crate) struct SortNames {
 
 impl SortNames {
     ghost use Rattle.smt_terms.specs.Internal.LibraryView.{abbreviations_of, sort_names};
-    ghost use Rattle.smt_theory.specs.declared.sort.Sort.{Sort};
+    ghost use Rattle.smt_theory.specs.Sort.{Sort};
     ghost use Rattle.smt_terms.specs.declared.named_sort.NamedSort.{NamedSort};
 
     /// The names of sorts in these theories, without abbreviations.
@@ -128,7 +128,7 @@ impl SortNames {
             return Err(TermFault::NotFresh);
         }
         let named = NamedSort {
-            sort: Sort::Free(command),
+            sort: Sort::free(command),
             is_declared: true,
         };
         Ok(self.abbreviations.insert(name, named)?)
@@ -197,7 +197,7 @@ fn sort_of_word(theories: Theories, name: &[u8]) -> Result<Sort, TermFlaw>
     ensures { result ≡ sorts.sort_of_word theories name.now }
 {
     if is_named(name, b"Bool") {
-        Ok(Sort::Bool)
+        Ok(Sort::bool())
     } else if is_named(name, b"Int") {
         integers(theories)
     } else if is_named(name, b"Real") || is_named(name, b"String") {
@@ -211,7 +211,7 @@ fn integers(theories: Theories) -> Result<Sort, TermFlaw>
     ensures { result ≡ sorts.integers theories }
 {
     if theories.ints {
-        Ok(Sort::Int)
+        Ok(Sort::int())
     } else {
         Err(TermFlaw::Unknown)
     }
@@ -270,7 +270,7 @@ pub(crate) fn bit_vectors(theories: Theories, width: Option<Width>) -> Result<So
     ensures { result ≡ sorts.bit_vectors theories width }
 {
     if theories.bits {
-        width.map(Sort::Bits).ok_or(TermFlaw::Index)
+        width.map(Sort::bits).ok_or(TermFlaw::Index)
     } else {
         Err(TermFlaw::Unknown)
     }
@@ -302,8 +302,8 @@ fn if_declared(named: NamedSort) -> Option<Sort>
 fn if_free(sort: Sort) -> Option<Sort>
     ensures { result ≡ elements.if_free sort }
 {
-    match sort {
-        Sort::Free(_) => Some(sort),
+    match sort.kind() {
+        SortKind::Free(_) => Some(sort),
         _ => None,
     }
 }
@@ -312,7 +312,7 @@ fn if_free(sort: Sort) -> Option<Sort>
 pub(crate) fn are_equal(found: Sort, sort: Sort) -> bool
     ensures { result ≡ is_same_sort found sort }
 {
-    found == sort
+    found.is_same(sort)
 }
 
 fn is_named(name: &[u8], word: &[u8]) -> bool

@@ -9,12 +9,14 @@ use Rattle.std.proofs.Math.Pow.{pow_mono}
 use Rattle.std.proofs.lemmas.Slice.Eq.{bytes_eq-Decides}
 use Rattle.smt_theory.proofs.DigitLemmas.{large_below_word}
 use Rattle.smt_theory.proofs.LookUpLemmas.{map-some, ok_or-Ok}
-use Rattle.smt_theory.specs.BitsOperators.{AreInRange, IsBitsName, bits_indexes}
-use Rattle.smt_theory.specs.BitsOperators.{bits_named, constant_by}
-use Rattle.smt_theory.specs.BitsOperators.{constant_digits, extract_by, indexed_bits, indexed_constant}
-use Rattle.smt_theory.specs.BitsOperators.{only_number, repeat_by}
+use Rattle.smt_theory.specs.Bits.{AreInRange, IsBitsName, bits_indexes}
+use Rattle.smt_theory.specs.Bits.{bits_named, constant_by}
+use Rattle.smt_theory.specs.Bits.{constant_digits, extract_by, indexed_bits, indexed_constant}
+use Rattle.smt_theory.specs.Bits.{only_number, repeat_by}
 use Rattle.smt_theory.specs.Numbers.{below_word, is_numeral}
-use Rattle.smt_theory.specs.Operators.{core_named, divisible_by, ints_named, op_by}
+use Rattle.smt_theory.specs.Core.{core_named}
+use Rattle.smt_theory.specs.Ints.{divisible_by, ints_named}
+use Rattle.smt_theory.specs.Operators.{op_by}
 use Rattle.smt_theory.specs.Width.{width_of}
 use Rattle.smt_theory.specs.Index.{IndexView}
 use Rattle.smt_theory.specs.Index.{Number, Large, Name}

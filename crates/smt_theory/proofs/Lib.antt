@@ -5,8 +5,6 @@ pub mod OperatorFaultLemmas
 pub mod NamesLikeLemmas
 pub mod DigitLemmas
 pub mod RankLemmas
-pub mod BitsRankLemmas
-pub mod RankTableLemmas
 pub mod MisfitLemmas
 pub mod WideLemmas
 mod DigitTableLemmas

@@ -5,9 +5,13 @@ use Rattle.std.specs.Prelude.{bytes_eq, find, option_map}
 use Rattle.std.specs.Bool.{then_some}
 use Rattle.std.proofs.lemmas.Slice.Eq.{bytes_eq-Decides}
 use Rattle.smt_theory.proofs.LookUpLemmas.{Each, find_named}
-use Rattle.smt_theory.specs.BitsOperators.{bits_name, bits_named, bits_plain}
-use Rattle.smt_theory.specs.NamesLike.{bits_like, bits_of_five, bits_of_six, core_like, if_named, ints_like}
-use Rattle.smt_theory.specs.Operators.{core_name, core_named, core_plain, ints_name, ints_named, ints_plain}
+use Rattle.smt_theory.specs.Bits.{bits_name, bits_named, bits_plain}
+use Rattle.smt_theory.specs.Bits.{bits_like, bits_of_five, bits_of_six}
+use Rattle.smt_theory.specs.Core.{core_like}
+use Rattle.smt_theory.specs.Words.{if_named}
+use Rattle.smt_theory.specs.Ints.{ints_like}
+use Rattle.smt_theory.specs.Core.{core_name, core_named, core_plain}
+use Rattle.smt_theory.specs.Ints.{ints_name, ints_named, ints_plain}
 use Rattle.smt_theory.specs.Operators.{name_of}
 use Rattle.smt_theory.specs.PlainOp.{op_of_plain}
 use Rattle.smt_theory.specs.declared.op.Arithmetic.TheVariants as arithmetic

@@ -5,12 +5,13 @@ use Rattle.std.specs.Prelude.{IsTrue, bytes_eq, codes, ok_or}
 use Rattle.std.proofs.lemmas.Slice.Eq.{bytes_eq-Decides}
 use Rattle.smt_theory.proofs.BitsOperatorLemmas.{constant_digits-own}
 use Rattle.smt_theory.proofs.OperatorLemmas.{op_by-name, op_by-own}
-use Rattle.smt_theory.specs.BitsOperators.{AreInRange, bits_indexes, constant_by, constant_digits, extract_by}
-use Rattle.smt_theory.specs.BitsOperators.{indexed_bits, indexed_constant, repeat_by}
+use Rattle.smt_theory.specs.Bits.{AreInRange, bits_indexes, constant_by, constant_digits, extract_by}
+use Rattle.smt_theory.specs.Bits.{indexed_bits, indexed_constant, repeat_by}
 use Rattle.smt_theory.specs.Index.{IndexView}
 use Rattle.smt_theory.specs.Numbers.{is_numeral}
 use Rattle.smt_theory.specs.Operators.{IsIndexedName, IsNameOf, IsOfTheories, IsOperatorBy, IsOperatorOf}
-use Rattle.smt_theory.specs.Operators.{IsPlainName, divisible_by, indexed_op, indexes_of, op_by, plain_op}
+use Rattle.smt_theory.specs.Operators.{IsPlainName, indexed_op, indexes_of, op_by, plain_op}
+use Rattle.smt_theory.specs.Ints.{divisible_by}
 use Rattle.smt_theory.specs.Words.{result_and_then}
 use Rattle.smt_theory.specs.declared.op.BitsOp.{BitsOp}
 use Rattle.smt_theory.specs.declared.op.BitsOp.TheVariants.{Constant, Concat, Extract, Unary, Folded, Binary}

@@ -6,10 +6,12 @@ use Rattle.std.specs.Prelude.{IsTrue, bytes_eq, codes, option_map, ok_or}
 use Rattle.std.proofs.lemmas.Slice.Eq.{bytes_eq-Decides}
 use Rattle.smt_theory.proofs.BitsOperatorLemmas.{bits_found, indexed_bits-own}
 use Rattle.smt_theory.proofs.LookUpLemmas.{Each, find_named, map-some, ok_or-Ok, option_or-some, when-some}
-use Rattle.smt_theory.specs.BitsOperators.{AreInRange, IsBitsName, bits_indexes, bits_name, bits_named}
-use Rattle.smt_theory.specs.BitsOperators.{bits_plain, indexed_bits}
-use Rattle.smt_theory.specs.Operators.{core_name, ints_name, core_plain, ints_plain, core_named, ints_named}
-use Rattle.smt_theory.specs.Operators.{plain_op, divisible_by, indexed_op, op_by, indexes_of, IsNameOf}
+use Rattle.smt_theory.specs.Bits.{AreInRange, IsBitsName, bits_indexes, bits_name, bits_named}
+use Rattle.smt_theory.specs.Bits.{bits_plain, indexed_bits}
+use Rattle.smt_theory.specs.Core.{core_name, core_plain, core_named}
+use Rattle.smt_theory.specs.Ints.{ints_name, ints_plain, ints_named}
+use Rattle.smt_theory.specs.Operators.{plain_op, indexed_op, op_by, indexes_of, IsNameOf}
+use Rattle.smt_theory.specs.Ints.{divisible_by}
 use Rattle.smt_theory.specs.Operators.{IsOperatorOf}
 use Rattle.smt_theory.specs.Index.{IndexView, index_view}
 use Rattle.smt_theory.specs.Index.{Number, Large, Name}

@@ -1,24 +1,25 @@
--- Tests of sorts, and the computed ranks of Core and Ints beside the table.
-use Rattle.std.proofs.Common.{◌≡◌, ◌↔◌, ◌⊎◌, inl, inr, ℕ, ◌<◌, ◌≤◌, Bool, true, false, cond, ◌&&◌, ◌||◌, List}
-use Rattle.std.proofs.Common.{[], ◌∷◌, Some, None, length, get_or, nat_lt, nat_le, refl, sym, ap, subst}
-use Rattle.std.proofs.Common.{arith, rules}
+-- Tests of sorts, and the ranks that are computed beside the table, shape by shape.
+use Rattle.std.proofs.Common.{◌≡◌, ◌↔◌, ℕ, ◌+◌, ◌-◌, ◌*◌, ◌<◌, ◌≤◌, ◌==◌, Bool, true, false, cond, ◌&&◌, List, []}
+use Rattle.std.proofs.Common.{◌∷◌, Option, Some, None, length, map, get_or, nat_lt, nat_le, option_map, refl, sym}
+use Rattle.std.proofs.Common.{ap, ◌∙◌, subst, arith, rules}
 use Rattle.std.specs.Prelude.{All}
 use Rattle.std.specs.Bool.{Decides, then_some}
-use Rattle.std.specs.List.{list_all}
+use Rattle.std.specs.List.{sum}
+use Rattle.std.specs.Option.{option_and_then}
 use Rattle.std.proofs.lemmas.Bool.Decides.{Decides-eqb}
-use Rattle.std.proofs.lemmas.List.Sums.{AllPass-from_list_all, list_all-from_AllPass}
+use Rattle.std.proofs.lemmas.List.Sums.{AllPass-from_list_all, list_all-from_AllPass, sum_by-cons}
 use Rattle.std.proofs.lemmas.Slice.Eq.{slice_eq-Decides}
-use Rattle.smt_theory.specs.Ranks.{HasCoreRank, HasIntsRank, AreSeveral, AreSeveralOfOne, are_exactly}
-use Rattle.smt_theory.specs.Ranks.{are_several, are_several_of_one, choice_rank, core_rank, ints_rank}
-use Rattle.smt_theory.specs.Sort.{is_same_sort}
-use Rattle.smt_theory.specs.declared.op.Arithmetic.TheVariants.{Minus, Plus, Times, Div}
-use Rattle.smt_theory.specs.declared.op.CoreOp.{CoreOp}
-use Rattle.smt_theory.specs.declared.op.CoreOp.TheVariants.{True, False, Not, Implies, And, Or, Xor, Equal}
-use Rattle.smt_theory.specs.declared.op.CoreOp.TheVariants.{Distinct, Ite}
-use Rattle.smt_theory.specs.declared.op.IntsOp.{IntsOp}
-use Rattle.smt_theory.specs.declared.op.IntsOp.TheVariants.{Arithmetic, Comparison, Mod, Abs, Divisible}
-use Rattle.smt_theory.specs.declared.sort.Sort.{Sort}
-use Rattle.smt_theory.specs.declared.sort.Sort.TheVariants.{Bool as Boolean, Int, Bits, Free}
+use Rattle.smt_theory.specs.Shapes.{AreOf, HasShape, IsMade, all_are, are_alike, are_exactly, are_of, choice_rank}
+use Rattle.smt_theory.specs.Shapes.{common_width, joined_width, made_by, rank_by, slice_width, times_width}
+use Rattle.smt_theory.specs.Shapes.{width_behind, within_limit}
+use Rattle.smt_theory.specs.Sort.{Sort, Boolean, Int, Bits, Free, is_same_sort}
+use Rattle.smt_theory.specs.declared.shapes.Arity.{Arity}
+use Rattle.smt_theory.specs.declared.shapes.Arity.TheVariants.{One, Two, OneOrMore, Several}
+use Rattle.smt_theory.specs.declared.shapes.Made.{Made}
+use Rattle.smt_theory.specs.declared.shapes.Made.TheVariants.{Same, Given, Slice, Times, Longer}
+use Rattle.smt_theory.specs.declared.shapes.Shape.{Shape}
+use Rattle.smt_theory.specs.declared.shapes.Shape.TheVariants.{Constant, Uniform, Alike, Choice, Vectors, Joined}
+use Rattle.smt_theory.specs.declared.shapes.Shape.TheVariants.{OutOfRange}
 
 pub is_same_sort-Decides : (a b : Sort) → Decides (is_same_sort a b) (a ≡ b)
 is_same_sort-Decides Boolean Boolean = (λ _. refl, λ _. refl)
@@ -43,25 +44,17 @@ are_exactly-Decides sorts args =
     slice_eq-Decides is_same_sort-Decides args sorts (are_exactly sorts args) refl
 
 -- of two tests and two facts
-pub Decides-and : {P Q : Type 0} (p q : Bool) → Decides p P → Decides q Q → Decides (p && q) (P × Q)
+Decides-and : {P Q : Type 0} (p q : Bool) → Decides p P → Decides q Q → Decides (p && q) (P × Q)
 Decides-and true q d e = (λ h. (d.0 refl, e.0 h), λ h. e.1 h.1)
 Decides-and false q d e = (λ h. cc, λ h. d.1 h.0)
-
-Decides-or : {P Q : Type 0} (p q : Bool) → Decides p P → Decides q Q → Decides (p || q) (P ⊎ Q)
-Decides-or true q d e = (λ _. inl (d.0 refl), λ _. refl)
-Decides-or false q d e = (λ h. inr (e.0 h), λ h. elim h [ inl p ↦ absurd_of (d.1 p) | inr x ↦ e.1 x ])
-  where
-    absurd_of : false ≡ true → q ≡ true
-    absurd_of h = cc
 
 pub nat_le-Decides : (m n : ℕ) → Decides (nat_le m n) (m ≤ n)
 nat_le-Decides m n = search rules
 
-pub nat_lt-Decides : (m n : ℕ) → Decides (nat_lt m n) (m < n)
+nat_lt-Decides : (m n : ℕ) → Decides (nat_lt m n) (m < n)
 nat_lt-Decides m n = search rules
 
-all_same-Decides : (sort : Sort) (args : List Sort)
-    → Decides (list_all (λ arg. is_same_sort arg sort) args) (All (λ arg. arg ≡ sort) args)
+all_same-Decides : (sort : Sort) (args : List Sort) → Decides (all_are sort args) (All (λ arg. arg ≡ sort) args)
 all_same-Decides sort args = (
   λ h k d below. (is_same_sort-Decides (get_or args k d) sort).0
       (AllPass-from_list_all (λ arg. is_same_sort arg sort) args h k d below),
@@ -69,23 +62,75 @@ all_same-Decides sort args = (
       (λ k d below. (is_same_sort-Decides (get_or args k d) sort).1 (h k d below)),
 )
 
-pub are_several-Decides : (sort : Sort) (args : List Sort)
-    → Decides (are_several sort args) (AreSeveral sort args)
-are_several-Decides sort args =
+pub both : (a b : Bool) → (a && b) ≡ true → (a ≡ true) × (b ≡ true)
+both true b h = (refl, h)
+both false b h = cc
+
+-- a list of three or more has neither one nor two items
+longer : (n k : ℕ) (b : Bool) → ((n == k) && b) ≡ true → k < n → ⊥
+longer n k b h more = let e = (Decides-eqb n k).0 (both _ _ h).0 in omega arith
+
+-- one or two arguments of a sort
+one-Decides : (sort : Sort) (args : List Sort) → Decides (are_of One sort args) (args ≡ sort ∷ [])
+one-Decides sort [] = (λ h. cc, λ h. cc)
+one-Decides sort (a ∷ []) = by (is_same_sort a sort) (is_same_sort-Decides a sort)
+  where
+    by : (b : Bool) → Decides b (a ≡ sort) → Decides (b && true) (a ∷ [] ≡ sort ∷ [])
+    by true d = (λ h. ap (λ s. s ∷ []) (d.0 refl), λ h. refl)
+    by false d = (λ h. cc, λ h. d.1 (cc))
+one-Decides sort (a ∷ b ∷ args) = (λ h. absurd (longer (length (a ∷ b ∷ args)) 1 _ h (omega arith)), λ h. cc)
+
+two-Decides : (sort : Sort) (args : List Sort) → Decides (are_of Two sort args) (args ≡ sort ∷ sort ∷ [])
+two-Decides sort [] = (λ h. cc, λ h. cc)
+two-Decides sort (a ∷ []) = (λ h. cc, λ h. cc)
+two-Decides sort (a ∷ b ∷ []) =
+    by (is_same_sort a sort) (is_same_sort b sort) (is_same_sort-Decides a sort) (is_same_sort-Decides b sort)
+  where
+    by : (p q : Bool) → Decides p (a ≡ sort) → Decides q (b ≡ sort)
+        → Decides (p && (q && true)) (a ∷ b ∷ [] ≡ sort ∷ sort ∷ [])
+    by true true d e = (λ h. ap (λ s. s ∷ b ∷ []) (d.0 refl) ∙ ap (λ s. sort ∷ s ∷ []) (e.0 refl), λ h. refl)
+    by true false d e = (λ h. cc, λ h. e.1 (cc))
+    by false q d e = (λ h. cc, λ h. d.1 (cc))
+two-Decides sort (a ∷ b ∷ c ∷ args) =
+    (λ h. absurd (longer (length (a ∷ b ∷ c ∷ args)) 2 _ h (omega arith)), λ h. cc)
+
+pub are_of-Decides : (arity : Arity) (sort : Sort) (args : List Sort)
+    → Decides (are_of arity sort args) (AreOf arity sort args)
+are_of-Decides One sort args = one-Decides sort args
+are_of-Decides Two sort args = two-Decides sort args
+are_of-Decides OneOrMore sort args =
+    Decides-and (nat_le 1 (length args)) _ (nat_le-Decides 1 (length args)) (all_same-Decides sort args)
+are_of-Decides Several sort args =
     Decides-and (nat_le 2 (length args)) _ (nat_le-Decides 2 (length args)) (all_same-Decides sort args)
 
-are_several_of_one-Decides : (args : List Sort) → Decides (are_several_of_one args) (AreSeveralOfOne args)
-are_several_of_one-Decides [] = (λ h. cc, λ h. absurd (none h.1.0))
+-- the first of so many arguments of a sort is of that sort, and there is one
+pub first_is : (arity : Arity) (sort first : Sort) (args : List Sort) → AreOf arity sort (first ∷ args) → first ≡ sort
+first_is One sort first args h = cc
+first_is Two sort first args h = cc
+first_is OneOrMore sort first args h = h.1 0 sort (omega arith)
+first_is Several sort first args h = h.1 0 sort (omega arith)
+
+none_are : (arity : Arity) (sort : Sort) → AreOf arity sort [] → ⊥
+none_are One sort h = absurd_of h
   where
-    none : 2 ≤ 0 → ⊥
-    none h = omega arith
-are_several_of_one-Decides (arg ∷ args) = (
-  λ h. (arg, (are_several-Decides arg (arg ∷ args)).0 h),
-  λ h. (are_several-Decides arg (arg ∷ args)).1 (first_is h.0 h.1),
+    absurd_of : [] ≡ sort ∷ [] → ⊥
+    absurd_of h = cc
+none_are Two sort h = absurd_of h
+  where
+    absurd_of : [] ≡ sort ∷ sort ∷ [] → ⊥
+    absurd_of h = cc
+none_are OneOrMore sort h = let some = h.0 in omega arith
+none_are Several sort h = let some = h.0 in omega arith
+
+alike-Decides : (args : List Sort) → Decides (are_alike args) ((sort : Sort) × AreOf Several sort args)
+alike-Decides [] = (λ h. cc, λ h. absurd (none_are Several h.0 h.1))
+alike-Decides (arg ∷ args) = (
+  λ h. (arg, (are_of-Decides Several arg (arg ∷ args)).0 h),
+  λ h. (are_of-Decides Several arg (arg ∷ args)).1
+      (subst (λ one. AreOf Several one (arg ∷ args)) (sym (first_is Several h.0 arg args h.1)) h.1),
 )
-  where
-    first_is : (sort : Sort) → AreSeveral sort (arg ∷ args) → AreSeveral arg (arg ∷ args)
-    first_is sort h = subst (λ one. AreSeveral one (arg ∷ args)) (sym (h.1 0 sort (omega arith))) h
+
+-- ---- shapes without widths
 
 -- one row of the table, computed
 row : {P : Type 0} (b : Bool) (given sort : Sort) → Decides b P → (then_some b given ≡ Some sort)
@@ -96,7 +141,7 @@ row false given sort d = (λ h. cc, λ h. absurd (none (d.1 h.0)))
     none : false ≡ true → ⊥
     none h = cc
 
-choice-row : (args : List Sort) (sort : Sort) → (choice_rank args ≡ Some sort) ↔ HasCoreRank Ite args sort
+choice-row : (args : List Sort) (sort : Sort) → (choice_rank args ≡ Some sort) ↔ HasShape Choice args sort
 choice-row [] sort = (λ h. cc, λ h. cc)
 choice-row (a ∷ []) sort = (λ h. cc, λ h. cc)
 choice-row (a ∷ b ∷ []) sort = (λ h. cc, λ h. cc)
@@ -110,32 +155,197 @@ choice-row (a ∷ b ∷ c ∷ []) sort =
     by true d = (λ h. let e = d.0 refl in cc, λ h. cc)
     by false d = (λ h. cc, λ h. let e : false ≡ true = d.1 (cc, cc) in cc)
 
-pub core-row : (op : CoreOp) (args : List Sort) (sort : Sort) → (core_rank op args ≡ Some sort)
-    ↔ HasCoreRank op args sort
-core-row True args sort = row (are_exactly [] args) Boolean sort (are_exactly-Decides [] args)
-core-row False args sort = row (are_exactly [] args) Boolean sort (are_exactly-Decides [] args)
-core-row Not args sort =
-    row (are_exactly (Boolean ∷ []) args) Boolean sort (are_exactly-Decides (Boolean ∷ []) args)
-core-row Implies args sort = row (are_several Boolean args) Boolean sort (are_several-Decides Boolean args)
-core-row And args sort = row (are_several Boolean args) Boolean sort (are_several-Decides Boolean args)
-core-row Or args sort = row (are_several Boolean args) Boolean sort (are_several-Decides Boolean args)
-core-row Xor args sort = row (are_several Boolean args) Boolean sort (are_several-Decides Boolean args)
-core-row Equal args sort = row (are_several_of_one args) Boolean sort (are_several_of_one-Decides args)
-core-row Distinct args sort = row (are_several_of_one args) Boolean sort (are_several_of_one-Decides args)
-core-row Ite args sort = choice-row args sort
+-- ---- shapes with widths
 
-pub ints-row : (op : IntsOp) (args : List Sort) (sort : Sort) → (ints_rank op args ≡ Some sort)
-    ↔ HasIntsRank op args sort
-ints-row (Arithmetic Minus) args sort =
-    row (are_exactly (Int ∷ []) args || are_several Int args) Int sort
-    (Decides-or _ _ (are_exactly-Decides (Int ∷ []) args) (are_several-Decides Int args))
-ints-row (Arithmetic Plus) args sort = row (are_several Int args) Int sort (are_several-Decides Int args)
-ints-row (Arithmetic Times) args sort = row (are_several Int args) Int sort (are_several-Decides Int args)
-ints-row (Arithmetic Div) args sort = row (are_several Int args) Int sort (are_several-Decides Int args)
-ints-row Mod args sort =
-    row (are_exactly (Int ∷ Int ∷ []) args) Int sort (are_exactly-Decides (Int ∷ Int ∷ []) args)
-ints-row Abs args sort = row (are_exactly (Int ∷ []) args) Int sort (are_exactly-Decides (Int ∷ []) args)
-ints-row (Comparison op) args sort = row (are_several Int args) Boolean sort (are_several-Decides Int args)
-ints-row (Divisible n) args sort =
-    row (nat_lt 0 n && are_exactly (Int ∷ []) args) Boolean sort
-    (Decides-and (nat_lt 0 n) _ (nat_lt-Decides 0 n) (are_exactly-Decides (Int ∷ []) args))
+-- the width of so many bit vectors of one width
+common_width-is : (arity : Arity) (args : List Sort) (m : ℕ) → (common_width arity args ≡ Some m)
+    ↔ AreOf arity (Bits m) args
+common_width-is arity [] m = (λ h. cc, λ h. absurd (none_are arity (Bits m) h))
+common_width-is arity (Boolean ∷ args) m = (λ h. cc, λ h. let e = first_is arity (Bits m) Boolean args h in cc)
+common_width-is arity (Int ∷ args) m = (λ h. cc, λ h. let e = first_is arity (Bits m) Int args h in cc)
+common_width-is arity (Free f ∷ args) m = (λ h. cc, λ h. let e = first_is arity (Bits m) (Free f) args h in cc)
+common_width-is arity (Bits n ∷ args) m =
+    by (are_of arity (Bits n) (Bits n ∷ args)) (are_of-Decides arity (Bits n) (Bits n ∷ args))
+  where
+    same : AreOf arity (Bits m) (Bits n ∷ args) → AreOf arity (Bits n) (Bits n ∷ args)
+    same h = subst (λ s. AreOf arity s (Bits n ∷ args)) (sym (first_is arity (Bits m) (Bits n) args h)) h
+
+    by : (b : Bool) → Decides b (AreOf arity (Bits n) (Bits n ∷ args)) → (cond b (Some n) None ≡ Some m)
+        ↔ AreOf arity (Bits m) (Bits n ∷ args)
+    by true d = (
+      λ h. let e : n ≡ m = cc in subst (λ k. AreOf arity (Bits k) (Bits n ∷ args)) e (d.0 refl),
+      λ h. let e = first_is arity (Bits m) (Bits n) args h in cc,
+    )
+    by false d = (λ h. cc, λ h. let e : false ≡ true = d.1 (same h) in cc)
+
+-- what is made of bit vectors of one width
+when-row : {P : Type 0} (b : Bool) (width : ℕ) (sort : Sort) → Decides b P
+    → (option_map Bits (cond b (Some width) None) ≡ Some sort) ↔ (P × (sort ≡ Bits width))
+when-row true width sort d = (λ h. (d.0 refl, cc), λ h. let e = h.1 in cc)
+when-row false width sort d = (λ h. cc, λ h. let e : false ≡ true = d.1 h.0 in cc)
+
+same-row : (given sort : Sort) → (Some given ≡ Some sort) ↔ (sort ≡ given)
+same-row given sort = (λ h. cc, λ h. cc)
+
+slice-row : (i j m : ℕ) (sort : Sort) → (option_map Bits (slice_width i j m) ≡ Some sort)
+    ↔ ((j ≤ i) × (i < m) × (sort ≡ Bits (i - j + 1)))
+slice-row i j m sort =
+    let row = when-row (nat_le j i && nat_lt i m) (i - j + 1) sort
+    (Decides-and (nat_le j i) (nat_lt i m) (nat_le-Decides j i) (nat_lt-Decides i m)) in
+    (λ h. let r = row.0 h in (r.0.0, r.0.1, r.1), λ h. row.1 ((h.0, h.1), h.2))
+
+within-row : (width : ℕ) (sort : Sort) → (option_map Bits (within_limit width) ≡ Some sort)
+    ↔ ((width ≤ 128) × (sort ≡ Bits width))
+within-row width sort = when-row (nat_le width 128) width sort (nat_le-Decides width 128)
+
+times-row : (i m : ℕ) (sort : Sort) → (option_map Bits (times_width i m) ≡ Some sort)
+    ↔ ((1 ≤ i) × (i * m ≤ 128) × (sort ≡ Bits (i * m)))
+times-row i m sort = by (nat_le 1 i) (nat_le-Decides 1 i) (within-row (i * m) sort)
+  where
+    by : (b : Bool) → Decides b (1 ≤ i)
+        → ((option_map Bits (within_limit (i * m)) ≡ Some sort) ↔ ((i * m ≤ 128) × (sort ≡ Bits (i * m))))
+        → (option_map Bits (cond b (within_limit (i * m)) None) ≡ Some sort)
+        ↔ ((1 ≤ i) × (i * m ≤ 128) × (sort ≡ Bits (i * m)))
+    by true d row = (λ h. let r = row.0 h in (d.0 refl, r.0, r.1), λ h. row.1 (h.1, h.2))
+    by false d row = (λ h. cc, λ h. let e : false ≡ true = d.1 h.0 in cc)
+
+made-row : (made : Made) (m : ℕ) (sort : Sort) → (made_by made m ≡ Some sort) ↔ IsMade made m sort
+made-row Same m sort = same-row (Bits m) sort
+made-row (Given given) m sort = same-row given sort
+made-row (Slice i j) m sort = slice-row i j m sort
+made-row (Times i) m sort = times-row i m sort
+made-row (Longer i) m sort = within-row (m + i) sort
+
+vectors-row : (arity : Arity) (made : Made) (args : List Sort) (sort : Sort)
+    → (option_and_then (made_by made) (common_width arity args) ≡ Some sort)
+    ↔ HasShape (Vectors arity made) args sort
+vectors-row arity made args sort = by (common_width arity args) (common_width-is arity args)
+  where
+    by : (o : Option ℕ) → ((m : ℕ) → (o ≡ Some m) ↔ AreOf arity (Bits m) args)
+        → (option_and_then (made_by made) o ≡ Some sort) ↔ HasShape (Vectors arity made) args sort
+    by None is = (λ h. cc, λ h. let e : None ≡ Some h.0 = (is h.0).1 h.1 in cc)
+    by (Some n) is = (
+      λ h. (n, (is n).0 refl, (made-row made n sort).0 h),
+      λ h. let e : Some n ≡ Some h.0 = (is h.0).1 h.1 in made_of h.0 e h.2,
+    )
+      where
+        made_of : (m : ℕ) → Some n ≡ Some m → IsMade made m sort → made_by made n ≡ Some sort
+        made_of m e h = ap (option_and_then (made_by made)) e ∙ (made-row made m sort).1 h
+
+-- ---- bit vectors one behind the other
+
+sum-cons : (m : ℕ) (widths : List ℕ) → sum (m ∷ widths) ≡ m + sum widths
+sum-cons m widths = sum_by-cons (λ n. n) m widths
+
+width_behind-own : (args : List Sort) (before width : ℕ) → width_behind before args ≡ Some width
+    → (widths : List ℕ) × (args ≡ map Bits widths) × (width ≡ before + sum widths)
+    × (before ≤ 128 → width ≤ 128)
+width_behind-own [] before width h = (
+  [],
+  refl,
+  (let e : before ≡ width = cc in omega arith),
+  λ le.
+      (let e : before ≡ width = cc in omega arith),
+)
+width_behind-own (Boolean ∷ args) before width h = cc
+width_behind-own (Int ∷ args) before width h = cc
+width_behind-own (Free f ∷ args) before width h = cc
+width_behind-own (Bits m ∷ args) before width h = by (nat_le (before + m) 128)
+    (nat_le-Decides (before + m) 128).0 (width_behind-own args (before + m) width) h
+  where
+    by : (b : Bool) → (b ≡ true → before + m ≤ 128)
+        → (width_behind (before + m) args ≡ Some width
+        → (widths : List ℕ) × (args ≡ map Bits widths) × (width ≡ before + m + sum widths)
+        × (before + m ≤ 128 → width ≤ 128))
+        → option_and_then (λ w. width_behind w args) (cond b (Some (before + m)) None) ≡ Some width
+        → (widths : List ℕ) × (Bits m ∷ args ≡ map Bits widths) × (width ≡ before + sum widths)
+        × (before ≤ 128 → width ≤ 128)
+    by true le own h = let r = own h
+        in (
+          m ∷ r.0,
+          ap (λ ss. Bits m ∷ ss) r.1,
+          (let e = r.2 in let s = sum-cons m r.0 in omega arith),
+          λ _. r.3 (le refl),
+        )
+    by false le own h = cc
+
+width_behind-found : (widths : List ℕ) (before : ℕ) → before + sum widths ≤ 128
+    → width_behind before (map Bits widths) ≡ Some (before + sum widths)
+width_behind-found [] before h = ap Some (omega arith)
+width_behind-found (m ∷ widths) before h =
+    let s = sum-cons m widths in
+    let le : nat_le (before + m) 128 ≡ true = (nat_le-Decides (before + m) 128).1 (omega arith) in
+    let rest = width_behind-found widths (before + m) (omega arith) in
+    let e : before + m + sum widths ≡ before + sum (m ∷ widths) = omega arith in
+    rw le (rest ∙ ap Some e)
+
+joined-own : (args : List Sort) (width : ℕ) → joined_width args ≡ Some width
+    → (widths : List ℕ) × (args ≡ map Bits widths) × (2 ≤ length widths) × (sum widths ≤ 128)
+    × (width ≡ sum widths)
+joined-own [] width h = cc
+joined-own (Boolean ∷ args) width h = cc
+joined-own (Int ∷ args) width h = cc
+joined-own (Free f ∷ args) width h = cc
+joined-own (Bits m ∷ []) width h = cc
+joined-own (Bits m ∷ Boolean ∷ args) width h = cc
+joined-own (Bits m ∷ Int ∷ args) width h = cc
+joined-own (Bits m ∷ Free f ∷ args) width h = cc
+joined-own (Bits m ∷ Bits n ∷ args) width h = by (nat_le (m + n) 128) (nat_le-Decides (m + n) 128).0 h
+  where
+    by : (b : Bool) → (b ≡ true → m + n ≤ 128)
+        → option_and_then (λ w. width_behind w args) (cond b (Some (m + n)) None) ≡ Some width
+        → (widths : List ℕ) × (Bits m ∷ Bits n ∷ args ≡ map Bits widths) × (2 ≤ length widths)
+        × (sum widths ≤ 128) × (width ≡ sum widths)
+    by false le h = cc
+    by true le h =
+        let r = width_behind-own args (m + n) width h in
+        let within = r.3 (le refl) in
+        let is = r.2 in
+        let s = sum-cons m (n ∷ r.0) in
+        let t = sum-cons n r.0 in
+        (m ∷ n ∷ r.0, ap (λ ss. Bits m ∷ Bits n ∷ ss) r.1, omega arith, omega arith, omega arith)
+
+joined-found : (widths : List ℕ) → 2 ≤ length widths → sum widths ≤ 128
+    → joined_width (map Bits widths) ≡ Some (sum widths)
+joined-found [] h le = absurd (none h)
+  where
+    none : 2 ≤ 0 → ⊥
+    none h = omega arith
+joined-found (m ∷ []) h le = absurd (none h)
+  where
+    none : 2 ≤ 1 → ⊥
+    none h = omega arith
+joined-found (m ∷ n ∷ widths) h le =
+    let s = sum-cons m (n ∷ widths) in width_behind-found (n ∷ widths) m (omega arith) ∙ ap Some (sym s)
+
+joined-row : (args : List Sort) (sort : Sort) → (option_map Bits (joined_width args) ≡ Some sort)
+    ↔ HasShape Joined args sort
+joined-row args sort = (
+  λ h. own (joined_width args) refl h,
+  λ h. rw (h.1, h.4)
+      (ap (option_map Bits) (joined-found h.0 h.2 h.3)),
+)
+  where
+    own : (o : Option ℕ) → joined_width args ≡ o → option_map Bits o ≡ Some sort
+        → HasShape Joined args sort
+    own None e h = cc
+    own (Some width) e h = let r = joined-own args width e in (r.0, r.1, r.2, r.3, (let is = r.4 in cc))
+
+-- ---- all shapes
+
+pub shape-row : (shape : Shape) (args : List Sort) (sort : Sort) → (rank_by shape args ≡ Some sort)
+    ↔ HasShape shape args sort
+shape-row (Constant given) args sort = row (are_exactly [] args) given sort (are_exactly-Decides [] args)
+shape-row (Uniform arity of given) args sort = row (are_of arity of args) given sort (are_of-Decides arity of args)
+shape-row Alike args sort = row (are_alike args) Boolean sort (alike-Decides args)
+shape-row Choice args sort = choice-row args sort
+shape-row (Vectors arity made) args sort = vectors-row arity made args sort
+shape-row Joined args sort = joined-row args sort
+shape-row OutOfRange args sort = (λ h. cc, λ h. absurd h)
+
+-- what is computed has one answer, and so has a shape
+pub one_rank : (shape : Shape) (args : List Sort) (a b : Sort) → HasShape shape args a → HasShape shape args b → a ≡ b
+one_rank shape args a b x y = by (rank_by shape args) ((shape-row shape args a).1 x) ((shape-row shape args b).1 y)
+  where
+    by : (o : Option Sort) → o ≡ Some a → o ≡ Some b → a ≡ b
+    by o e f = cc

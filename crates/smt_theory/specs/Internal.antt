@@ -1,2 +1,3 @@
--- What no claim names: a table that private contracts and proofs go by.
+-- What no claim names: tables that private contracts and proofs go by.
 pub mod Digits
+pub mod SortCodes

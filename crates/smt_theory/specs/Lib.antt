@@ -3,11 +3,14 @@ pub mod Sort
 pub mod Words
 pub mod Theories
 pub mod Numbers
+pub mod Literals
 pub mod Index
-pub mod BitsOperators
+pub mod Shapes
+pub mod Core
+pub mod Ints
+pub mod Bits
 pub mod Operators
 pub mod Ranks
 pub mod Misfits
-pub mod NamesLike
 pub mod PlainOp
 pub mod Internal

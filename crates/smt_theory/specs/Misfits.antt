@@ -1,61 +1,33 @@
 -- Why an operator has no rank for the sorts of its arguments: their number, or the first of them that does not fit, by
 -- a rule of this project where more than one could be changed: each fits the operator, and the first ones.
-use Rattle.std.specs.Prelude.{ℕ, List, [], ◌∷◌, Bool, true, false, not, ◌==◌, Option, Some, None}
-use Rattle.std.specs.Prelude.{length, nat_le, option_map, if◌then◌else◌}
+use Rattle.std.specs.Prelude.{ℕ, List, [], ◌∷◌, Bool, true, false, not, Option, Some, None, length, option_map}
+use Rattle.std.specs.Prelude.{if◌then◌else◌}
 use Rattle.std.specs.List.{position}
 use Rattle.std.specs.Option.{option_or}
-use Rattle.smt_theory.specs.Ranks.{rank_of}
-use Rattle.smt_theory.specs.Sort.{is_same_sort}
+use Rattle.smt_theory.specs.Ranks.{shape_of}
+use Rattle.smt_theory.specs.Shapes.{counts, rank_by, takes_count}
+use Rattle.smt_theory.specs.Sort.{Sort, Boolean, Bits, is_same_sort}
 use Rattle.smt_theory.specs.declared.misfits.RankFlaw.{RankFlaw}
 use Rattle.smt_theory.specs.declared.misfits.RankFlaw.TheVariants.{Argument, Count, Widths}
 use Rattle.smt_theory.specs.declared.misfits.Wanted.{Wanted}
 use Rattle.smt_theory.specs.declared.misfits.Wanted.TheVariants.{Only, AnyBits}
-use Rattle.smt_theory.specs.declared.op.Arithmetic.TheVariants.{Minus}
-use Rattle.smt_theory.specs.declared.op.BitsOp.{BitsOp}
-use Rattle.smt_theory.specs.declared.op.BitsOp.TheVariants as bits
-use Rattle.smt_theory.specs.declared.op.CoreOp.{CoreOp}
-use Rattle.smt_theory.specs.declared.op.CoreOp.TheVariants.{True, False, Not, Equal, Distinct, Ite}
-use Rattle.smt_theory.specs.declared.op.IntsOp.{IntsOp}
-use Rattle.smt_theory.specs.declared.op.IntsOp.TheVariants.{Arithmetic, Mod, Abs, Divisible}
 use Rattle.smt_theory.specs.declared.op.Op.{Op}
-use Rattle.smt_theory.specs.declared.op.Op.TheVariants.{Core, Ints, Bits as Vectors}
-use Rattle.smt_theory.specs.declared.sort.Sort.{Sort}
-use Rattle.smt_theory.specs.declared.sort.Sort.TheVariants.{Bool as Boolean, Int, Bits}
+use Rattle.smt_theory.specs.declared.shapes.Arity.TheVariants.{Several}
+use Rattle.smt_theory.specs.declared.shapes.Shape.{Shape}
+use Rattle.smt_theory.specs.declared.shapes.Shape.TheVariants.{Constant, Uniform, Alike, Choice, Vectors, Joined}
+use Rattle.smt_theory.specs.declared.shapes.Shape.TheVariants.{OutOfRange}
 
 -- ---- numbers of arguments
 
--- the least number of arguments that an operator takes, with whether it takes more
-abbrev pub core_counts : CoreOp → ℕ × Bool
-core_counts True = (0, false)
-core_counts False = (0, false)
-core_counts Not = (1, false)
-core_counts Ite = (3, false)
-core_counts _ = (2, true)
-
-abbrev pub ints_counts : IntsOp → ℕ × Bool
-ints_counts (Arithmetic Minus) = (1, true)
-ints_counts Mod = (2, false)
-ints_counts Abs = (1, false)
-ints_counts (Divisible n) = (1, false)
-ints_counts _ = (2, true)
-
-abbrev pub bits_counts : BitsOp → ℕ × Bool
-bits_counts (bits.Constant number n) = (0, false)
-bits_counts bits.Concat = (2, true)
-bits_counts (bits.Folded op) = (2, true)
-bits_counts (bits.Binary op) = (2, false)
-bits_counts (bits.Comparison op) = (2, false)
-bits_counts bits.Comp = (2, false)
-bits_counts _ = (1, false)
-
-abbrev pub counts_of : Op → ℕ × Bool
-counts_of (Core op) = core_counts op
-counts_of (Ints op) = ints_counts op
-counts_of (Vectors op) = bits_counts op
-
--- whether it takes so many arguments
-abbrev pub takes_count : ℕ × Bool → ℕ → Bool
-takes_count counts n = if counts.1 then nat_le counts.0 n else n == counts.0
+-- the least number of arguments that an operator of this shape takes, and whether it takes more
+abbrev pub counts_of : Shape → ℕ × Bool
+counts_of (Constant given) = (0, false)
+counts_of (Uniform arity sort given) = counts arity
+counts_of Alike = counts Several
+counts_of Choice = (3, false)
+counts_of (Vectors arity made) = counts arity
+counts_of Joined = counts Several
+counts_of OutOfRange = (0, true)
 
 -- ---- arguments
 
@@ -96,24 +68,15 @@ first_other_width [] = None
 first_other_width (arg ∷ args) =
     if is_bits arg then first_other arg (arg ∷ args) else Some (Argument 0 AnyBits)
 
-abbrev pub misfit_in_core : CoreOp → List Sort → Option RankFlaw
-misfit_in_core Equal args = first_other_than_first args
-misfit_in_core Distinct args = first_other_than_first args
-misfit_in_core Ite args = misfit_in_choice args
-misfit_in_core _ args = first_other Boolean args
-
-abbrev pub misfit_in_bits : BitsOp → List Sort → Option RankFlaw
-misfit_in_bits (bits.Folded op) args = first_other_width args
-misfit_in_bits (bits.Binary op) args = first_other_width args
-misfit_in_bits (bits.Comparison op) args = first_other_width args
-misfit_in_bits bits.Comp args = first_other_width args
-misfit_in_bits _ args = first_scalar args
-
 -- the first argument that does not fit
-abbrev pub argument_misfit : Op → List Sort → Option RankFlaw
-argument_misfit (Core op) args = misfit_in_core op args
-argument_misfit (Ints op) args = first_other Int args
-argument_misfit (Vectors op) args = misfit_in_bits op args
+abbrev pub argument_misfit : Shape → List Sort → Option RankFlaw
+argument_misfit (Constant given) args = None
+argument_misfit (Uniform arity sort given) args = first_other sort args
+argument_misfit Alike args = first_other_than_first args
+argument_misfit Choice args = misfit_in_choice args
+argument_misfit (Vectors arity made) args = first_other_width args
+argument_misfit Joined args = first_scalar args
+argument_misfit OutOfRange args = None
 
 -- ---- what is told
 
@@ -122,8 +85,11 @@ abbrev pub unless_ranked : Option Sort → Option RankFlaw
 unless_ranked None = Some Widths
 unless_ranked (Some sort) = None
 
+abbrev pub misfit_by : Shape → List Sort → Option RankFlaw
+misfit_by shape args =
+    if takes_count (counts_of shape) (length args)
+    then option_or (argument_misfit shape args) (unless_ranked (rank_by shape args))
+    else Some (Count (counts_of shape).0)
+
 abbrev pub misfit_of : Op → List Sort → Option RankFlaw
-misfit_of op args =
-    if takes_count (counts_of op) (length args)
-    then option_or (argument_misfit op args) (unless_ranked (rank_of op args))
-    else Some (Count (counts_of op).0)
+misfit_of op args = misfit_by (shape_of op) args

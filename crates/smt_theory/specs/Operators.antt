@@ -1,52 +1,22 @@
 -- SMT-LIB 2.6, theories Core, Ints and FixedSizeBitVectors, and logic QF_BV: the operators by name and
 -- indexes.
-use Rattle.std.specs.Prelude.{ℕ, ◌≡◌, ◌≢◌, ◌<◌, List, [], ◌∷◌, Bool, ◌&&◌, IsTrue, Option, Some, None, Result}
-use Rattle.std.specs.Prelude.{Ok, Err, is_some, option_map, ok_or, nat_lt, find, bytes_eq, codes}
+use Rattle.std.specs.Prelude.{ℕ, true, false, ◌≡◌, ◌≢◌, ◌<◌, List, [], ◌∷◌, Bool, ◌&&◌, IsTrue, Option, None, Result}
+use Rattle.std.specs.Prelude.{Ok, Err, is_some, option_map, ok_or, bytes_eq, codes}
 use Rattle.std.specs.Prelude.{if◌then◌else◌}
 use Rattle.std.specs.Option.{option_or}
-use Rattle.smt_theory.specs.BitsOperators.{AreInRange, IsBitsName, bits_indexes, bits_name, bits_named}
-use Rattle.smt_theory.specs.BitsOperators.{indexed_bits}
+use Rattle.smt_theory.specs.Bits.{AreInRange, IsBitsName, bits_indexes, bits_name, bits_named}
+use Rattle.smt_theory.specs.Bits.{indexed_bits}
+use Rattle.smt_theory.specs.Core.{core_name, core_named}
 use Rattle.smt_theory.specs.Index.{IndexView, Number}
+use Rattle.smt_theory.specs.Ints.{divisible_by, ints_name, ints_named}
 use Rattle.smt_theory.specs.Words.{result_and_then}
-use Rattle.smt_theory.specs.declared.op.Arithmetic.TheVariants.{Minus, Plus, Times, Div}
-use Rattle.smt_theory.specs.declared.op.Comparison.TheVariants.{AtMost, Less, AtLeast, Greater}
-use Rattle.smt_theory.specs.declared.op.CoreOp.{CoreOp}
-use Rattle.smt_theory.specs.declared.op.CoreOp.TheVariants.{True, False, Not, Implies, And, Or, Xor, Equal}
-use Rattle.smt_theory.specs.declared.op.CoreOp.TheVariants.{Distinct, Ite}
-use Rattle.smt_theory.specs.declared.op.IntsOp.{IntsOp}
-use Rattle.smt_theory.specs.declared.op.IntsOp.TheVariants.{Arithmetic, Comparison, Mod, Abs, Divisible}
+use Rattle.smt_theory.specs.declared.op.IntsOp.TheVariants.{Divisible}
+use Rattle.smt_theory.specs.declared.op.CoreOp.TheVariants.{Ite}
 use Rattle.smt_theory.specs.declared.op.Op.{Op}
 use Rattle.smt_theory.specs.declared.op.Op.TheVariants.{Core, Ints, Bits}
 use Rattle.smt_theory.specs.declared.op.OpFault.{OpFault}
 use Rattle.smt_theory.specs.declared.op.OpFault.TheVariants.{Unknown, Index as WrongIndex}
 use Rattle.smt_theory.specs.declared.theories.Theories.{Theories}
-
--- theory Core
-abbrev pub core_name : CoreOp → List ℕ
-core_name True = codes "true"
-core_name False = codes "false"
-core_name Not = codes "not"
-core_name Implies = codes "=>"
-core_name And = codes "and"
-core_name Or = codes "or"
-core_name Xor = codes "xor"
-core_name Equal = codes "="
-core_name Distinct = codes "distinct"
-core_name Ite = codes "ite"
-
--- theory Ints
-abbrev pub ints_name : IntsOp → List ℕ
-ints_name (Arithmetic Minus) = codes "-"
-ints_name (Arithmetic Plus) = codes "+"
-ints_name (Arithmetic Times) = codes "*"
-ints_name (Arithmetic Div) = codes "div"
-ints_name Mod = codes "mod"
-ints_name Abs = codes "abs"
-ints_name (Comparison AtMost) = codes "<="
-ints_name (Comparison Less) = codes "<"
-ints_name (Comparison AtLeast) = codes ">="
-ints_name (Comparison Greater) = codes ">"
-ints_name (Divisible n) = codes "divisible"
 
 -- the name of an operator; of a constant what stands before its numeral
 abbrev pub name_of : Op → List ℕ
@@ -54,20 +24,10 @@ name_of (Core op) = core_name op
 name_of (Ints op) = ints_name op
 name_of (Bits op) = bits_name op
 
--- the plain operators, that is those without indexes
-abbrev pub core_plain : List CoreOp
-core_plain = True ∷ False ∷ Not ∷ Implies ∷ And ∷ Or ∷ Xor ∷ Equal ∷ Distinct ∷ Ite ∷ []
-
-abbrev pub ints_plain : List IntsOp
-ints_plain =
-    Arithmetic Minus ∷ Arithmetic Plus ∷ Arithmetic Times ∷ Arithmetic Div ∷ Mod ∷ Abs ∷ Comparison AtMost
-    ∷ Comparison Less ∷ Comparison AtLeast ∷ Comparison Greater ∷ []
-
-abbrev pub core_named : List ℕ → Option CoreOp
-core_named symbol = find (λ op. bytes_eq symbol (core_name op)) core_plain
-
-abbrev pub ints_named : List ℕ → Option IntsOp
-ints_named symbol = find (λ op. bytes_eq symbol (ints_name op)) ints_plain
+-- whether an operator is `ite`
+abbrev pub is_choice : Op → Bool
+is_choice (Core Ite) = true
+is_choice _ = false
 
 -- the plain operator of a name
 abbrev pub plain_op : Theories → List ℕ → Option Op
@@ -79,11 +39,6 @@ plain_op theories symbol =
 -- whether a name is a plain operator's, so that nothing new may have it
 abbrev pub is_plain_operator : Theories → List ℕ → Bool
 is_plain_operator theories symbol = is_some (plain_op theories symbol)
-
--- the indexes of `divisible` are one number that is not 0
-abbrev pub divisible_by : List IndexView → Option Op
-divisible_by (Number n ∷ []) = if nat_lt 0 n then Some (Ints (Divisible n)) else None
-divisible_by _ = None
 
 -- the indexed operator of a name
 abbrev pub indexed_op : Theories → List ℕ → List IndexView → Result Op OpFault

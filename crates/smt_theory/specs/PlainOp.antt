@@ -1,9 +1,9 @@
 -- Operators that hold no number, and those that do.
-use Rattle.std.specs.Prelude.{Bool, true, false}
-use Rattle.smt_theory.specs.declared.op.BitsOp.{BitsOp}
+use Rattle.std.specs.Prelude.{Bool, false}
+use Rattle.smt_theory.specs.Bits.{bits_number}
+use Rattle.smt_theory.specs.Ints.{ints_number}
 use Rattle.smt_theory.specs.declared.op.BitsOp.TheVariants as bits
 use Rattle.smt_theory.specs.declared.op.IntsOp.TheVariants as ints
-use Rattle.smt_theory.specs.declared.op.IntsOp.{IntsOp}
 use Rattle.smt_theory.specs.declared.op.Op.{Op}
 use Rattle.smt_theory.specs.declared.op.Op.TheVariants as ops
 use Rattle.smt_theory.specs.declared.op.plain.PlainOp.{PlainOp}
@@ -23,21 +23,7 @@ op_of_plain (Binary op) = ops.Bits (bits.Binary op)
 op_of_plain (BitsOrder op) = ops.Bits (bits.Comparison op)
 op_of_plain Comp = ops.Bits bits.Comp
 
--- an operator holds a number
-abbrev ints_number : IntsOp → Bool
-ints_number (ints.Divisible n) = true
-ints_number _ = false
-
-abbrev bits_number : BitsOp → Bool
-bits_number (bits.Constant x width) = true
-bits_number (bits.Extract i j) = true
-bits_number (bits.Repeat i) = true
-bits_number (bits.ZeroExtend i) = true
-bits_number (bits.SignExtend i) = true
-bits_number (bits.RotateLeft i) = true
-bits_number (bits.RotateRight i) = true
-bits_number _ = false
-
+-- whether an operator holds a number
 abbrev pub has_number : Op → Bool
 has_number (ops.Core op) = false
 has_number (ops.Ints op) = ints_number op

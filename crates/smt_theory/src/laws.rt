@@ -10,7 +10,7 @@ ghost use Rattle.smt_theory.specs.Sort.{is_same_sort};
 ghost use Rattle.smt_theory.specs.Index.{IndexView};
 ghost use Rattle.smt_theory.specs.declared.op.Op.{Op};
 ghost use Rattle.smt_theory.specs.declared.op.OpFault.TheVariants.{Index, Unknown};
-ghost use Rattle.smt_theory.specs.declared.sort.Sort.{Sort};
+ghost use Rattle.smt_theory.specs.Sort.{Sort};
 ghost use Rattle.smt_theory.specs.declared.theories.Theories.{Theories};
 
 /// An operator has a result's sort for arguments of given sorts exactly where the table has it, and it has at

@@ -16,24 +16,28 @@
 //! ```text
 //! let theories = theories_of(Profile::Base, b"QF_LIA")?;                    // Core and Ints
 //! let op = op_of(theories, b"<", &[]).ok()?;                                // the relation <
-//! rank(op, &[Sort::Int, Sort::Int, Sort::Int])                              // Some(Sort::Bool)
+//! rank(op, &[Sort::int(), Sort::int(), Sort::int()])                        // Some(Sort::bool())
 //! ```
 #![tactic(auto)]
 
 mod index;
 pub mod laws;
+mod literal;
 mod misfits;
 mod numbers;
 mod op;
 mod profile;
 mod ranks;
+mod shapes;
 mod sort;
+mod sort_kind;
 mod symbols;
 mod theories;
 mod wide;
 mod width;
 
 pub use index::Index;
+pub use literal::LiteralKind;
 pub use misfits::{RankFlaw, Wanted, misfit};
 pub use numbers::{digit, number};
 pub use op::names::{op_of, plain_op_of};
@@ -43,7 +47,9 @@ pub use op::{
     IntsOp, Op, OpFault,
 };
 pub use profile::Profile;
-pub use ranks::{plain_rank, rank};
+pub use ranks::{plain_rank, rank, shape};
+pub use shapes::{Arity, Made, Shape};
 pub use sort::Sort;
+pub use sort_kind::SortKind;
 pub use theories::{Theories, all_theories, theories_of};
 pub use width::Width;

@@ -3,12 +3,13 @@
 ghost use Rattle.std.specs.Prelude.{◌≡◌, not};
 ghost use Rattle.std.specs.List.{position};
 ghost use Rattle.smt_theory.specs.Misfits as misfits;
-ghost use Rattle.smt_theory.specs.Misfits.{argument_misfit, counts_of, misfit_of};
+ghost use Rattle.smt_theory.specs.Misfits.{misfit_of};
 ghost use Rattle.smt_theory.specs.Sort.{is_same_sort};
 ghost use Rattle.smt_theory.specs.declared.misfits.Wanted.TheVariants.{AnyBits, Only};
 
-use crate::op::{Arithmetic, BitsOp, CoreOp, IntsOp, Op};
-use crate::ranks::{is_same, rank};
+use crate::op::Op;
+use crate::ranks::shape;
+use crate::shapes::{Arity, Shape, counts, rank_by, takes_count};
 use crate::sort::Sort;
 
 /// Why an operator has no rank for the sorts of its arguments.
@@ -41,110 +42,49 @@ pub enum Wanted {
 pub fn misfit(op: Op, args: &[Sort]) -> Option<RankFlaw>
     ensures { result ≡ misfit_of op args.now }
 {
-    let (least, takes_more) = counts(&op);
+    misfit_by(&shape(op), args)
+}
+
+fn misfit_by(shape: &Shape, args: &[Sort]) -> Option<RankFlaw>
+    ensures { result ≡ misfits.misfit_by shape.now args.now }
+{
+    let (least, takes_more) = counts_of(shape);
     if !takes_count(least, takes_more, args.len()) {
         return Some(RankFlaw::Count { wanted: least });
     }
-    if let Some(found) = misfit_of_argument(&op, args) {
+    if let Some(found) = argument_misfit(shape, args) {
         return Some(found);
     }
-    match rank(op, args) {
+    match rank_by(*shape, args) {
         Some(_) => None,
         None => Some(RankFlaw::Widths),
     }
 }
 
-// Whether an operator that takes at least so many arguments, and perhaps more, takes this many.
-fn takes_count(least: usize, takes_more: bool, count: usize) -> bool
-    ensures { result ≡ misfits.takes_count (least, takes_more) count }
+// The least number of arguments that an operator of this shape takes, and whether it takes more.
+fn counts_of(shape: &Shape) -> (usize, bool)
+    ensures { result ≡ misfits.counts_of shape.now }
 {
-    if takes_more {
-        count >= least
-    } else {
-        count == least
-    }
-}
-
-// The least number of arguments that an operator takes, and whether it takes more.
-fn counts(op: &Op) -> (usize, bool)
-    ensures { result ≡ counts_of op.now }
-{
-    match op {
-        Op::Core(op) => counts_in_core(*op),
-        Op::Ints(op) => counts_in_ints(*op),
-        Op::Bits(op) => counts_in_bits(*op),
-    }
-}
-
-fn counts_in_core(op: CoreOp) -> (usize, bool)
-    ensures { result ≡ misfits.core_counts op }
-{
-    match op {
-        CoreOp::True | CoreOp::False => (0, false),
-        CoreOp::Not => (1, false),
-        CoreOp::Implies | CoreOp::And | CoreOp::Or | CoreOp::Xor => (2, true),
-        CoreOp::Equal | CoreOp::Distinct => (2, true),
-        CoreOp::Ite => (3, false),
-    }
-}
-
-fn counts_in_ints(op: IntsOp) -> (usize, bool)
-    ensures { result ≡ misfits.ints_counts op }
-{
-    match op {
-        IntsOp::Arithmetic(Arithmetic::Minus) => (1, true),
-        IntsOp::Arithmetic(Arithmetic::Plus | Arithmetic::Times | Arithmetic::Div) => (2, true),
-        IntsOp::Comparison(_) => (2, true),
-        IntsOp::Mod => (2, false),
-        IntsOp::Abs | IntsOp::Divisible(_) => (1, false),
-    }
-}
-
-fn counts_in_bits(op: BitsOp) -> (usize, bool)
-    ensures { result ≡ misfits.bits_counts op }
-{
-    match op {
-        BitsOp::Constant(..) => (0, false),
-        BitsOp::Concat | BitsOp::Folded(_) => (2, true),
-        BitsOp::Binary(_) | BitsOp::Comparison(_) | BitsOp::Comp => (2, false),
-        BitsOp::Extract(..) | BitsOp::Unary(_) | BitsOp::Repeat(_) => (1, false),
-        BitsOp::ZeroExtend(_) | BitsOp::SignExtend(_) => (1, false),
-        BitsOp::RotateLeft(_) | BitsOp::RotateRight(_) => (1, false),
+    match *shape {
+        Shape::Constant(_) => (0, false),
+        Shape::Uniform(arity, _, _) | Shape::Vectors(arity, _) => counts(arity),
+        Shape::Alike | Shape::Joined => counts(Arity::Several),
+        Shape::Choice => (3, false),
+        Shape::OutOfRange => (0, true),
     }
 }
 
 // The first argument that does not fit.
-fn misfit_of_argument(op: &Op, args: &[Sort]) -> Option<RankFlaw>
-    ensures { result ≡ argument_misfit op.now args.now }
+fn argument_misfit(shape: &Shape, args: &[Sort]) -> Option<RankFlaw>
+    ensures { result ≡ misfits.argument_misfit shape.now args.now }
 {
-    match op {
-        Op::Core(op) => misfit_in_core(*op, args),
-        Op::Ints(_) => first_other(args, &Sort::Int),
-        Op::Bits(op) => misfit_in_bits(*op, args),
-    }
-}
-
-fn misfit_in_core(op: CoreOp, args: &[Sort]) -> Option<RankFlaw>
-    ensures { result ≡ misfits.misfit_in_core op args.now }
-{
-    match op {
-        CoreOp::Equal | CoreOp::Distinct => first_other_than_first(args),
-        CoreOp::Ite => misfit_in_choice(args),
-        CoreOp::True | CoreOp::False | CoreOp::Not => first_other(args, &Sort::Bool),
-        CoreOp::Implies | CoreOp::And | CoreOp::Or | CoreOp::Xor => first_other(args, &Sort::Bool),
-    }
-}
-
-fn misfit_in_bits(op: BitsOp, args: &[Sort]) -> Option<RankFlaw>
-    ensures { result ≡ misfits.misfit_in_bits op args.now }
-{
-    match op {
-        BitsOp::Folded(_) | BitsOp::Binary(_) => first_other_width(args),
-        BitsOp::Comparison(_) | BitsOp::Comp => first_other_width(args),
-        BitsOp::Constant(..) | BitsOp::Concat | BitsOp::Extract(..) => first_scalar(args),
-        BitsOp::Unary(_) | BitsOp::Repeat(_) => first_scalar(args),
-        BitsOp::ZeroExtend(_) | BitsOp::SignExtend(_) => first_scalar(args),
-        BitsOp::RotateLeft(_) | BitsOp::RotateRight(_) => first_scalar(args),
+    match shape {
+        Shape::Constant(_) | Shape::OutOfRange => None,
+        Shape::Uniform(_, sort, _) => first_other(args, sort),
+        Shape::Alike => first_other_than_first(args),
+        Shape::Choice => misfit_in_choice(args),
+        Shape::Vectors(_, _) => first_other_width(args),
+        Shape::Joined => first_scalar(args),
     }
 }
 
@@ -160,9 +100,9 @@ fn misfit_in_choice(args: &[Sort]) -> Option<RankFlaw>
 fn misfit_of_choice(condition: Sort, chosen: &Sort, other: Sort) -> Option<RankFlaw>
     ensures { result ≡ misfits.misfit_of_choice condition chosen.now other }
 {
-    if !is_same(condition, Sort::Bool) {
-        Some(of_sort(0, Sort::Bool))
-    } else if !is_same(*chosen, other) {
+    if !condition.is_same(Sort::bool()) {
+        Some(of_sort(0, Sort::bool()))
+    } else if !chosen.is_same(other) {
         Some(of_sort(2, *chosen))
     } else {
         None
@@ -201,7 +141,7 @@ fn first_other(args: &[Sort], sort: &Sort) -> Option<RankFlaw>
 fn place_of_other(args: &[Sort], sort: Sort) -> Option<usize>
     ensures { result ≡ position (λ arg. not (is_same_sort arg sort)) args.now }
 {
-    args.iter().position(|arg| !is_same(*arg, sort))
+    args.iter().position(|arg| !arg.is_same(sort))
 }
 
 // The first argument that is no bit vector.
@@ -241,5 +181,5 @@ fn of_bits(place: usize) -> RankFlaw
 fn is_bits(sort: Sort) -> bool
     ensures { result ≡ misfits.is_bits sort }
 {
-    matches!(sort, Sort::Bits(_))
+    sort.width().is_some()
 }

@@ -1,9 +1,16 @@
 //! Operators by theory, and why an identifier is none. This file finds no operator by its name, and gives
 //! none a rank.
 
-mod bits_names;
+pub(crate) mod bits_ops;
+pub(crate) mod core_ops;
+pub(crate) mod ints_ops;
 pub(crate) mod names;
 pub(crate) mod plain;
+
+ghost use Rattle.std.specs.Prelude.{◌≡◌, IsTrue};
+ghost use Rattle.smt_theory.specs.Operators.{is_choice};
+ghost use Rattle.smt_theory.specs.declared.op.CoreOp.TheVariants.{Ite};
+ghost use Rattle.smt_theory.specs.declared.op.Op.TheVariants.{Core};
 
 use crate::width::Width;
 use std::error::Error;
@@ -15,6 +22,17 @@ pub enum Op {
     Core(CoreOp),
     Ints(IntsOp),
     Bits(BitsOp),
+}
+
+impl Op {
+    /// Whether it is `ite`, which needs the value of one branch alone.
+    #[inline(always)]
+    pub fn is_choice(&self) -> bool
+        ensures exact { result ≡ is_choice self.now }
+        ensures choice { IsTrue result → self.now ≡ Core Ite }
+    {
+        matches!(self, Op::Core(CoreOp::Ite))
+    }
 }
 
 /// An operator of the theory Core.

@@ -36,6 +36,23 @@ impl Width {
         }
     }
 
+    /// The width of one bit.
+    #[inline(always)]
+    pub(crate) fn one() -> Width
+        ensures { result ≡ 1 }
+    {
+        Width { bits: 1 }
+    }
+
+    // The width of so many bits.
+    pub(crate) fn of(bits: u64) -> Width
+        requires some { 1 ≤ bits }
+        requires within { bits ≤ 128 }
+        ensures { result ≡ bits }
+    {
+        Width { bits: bits as u8 }
+    }
+
     /// The number of bits, 1 to 128.
     pub fn bits(self) -> u64
         ensures value { result ≡ self }

@@ -4,10 +4,13 @@ use Rattle.std.proofs.Common.{◌≡◌, ◌≢◌, ◌⊎◌, inl, inr, ℕ, su
 use Rattle.std.proofs.Common.{cond, List, [], ◌∷◌, Option, Some, None, is_some, length, nat_lt, nat_le, refl}
 use Rattle.std.proofs.Common.{sym, ap, subst, arith, rules}
 use Rattle.std.specs.List.{list_all, list_any, sum}
-use Rattle.std.specs.Prelude.{All, ◌==◌, IsSome, map, option_map}
+use Rattle.std.specs.Prelude.{All, ◌==◌, ◌&&◌, ◌^◌, IsSome, map, option_map}
 use Rattle.smt_bits.specs.BitVector.{BitVector, vector}
 use Rattle.smt_bits.specs.Parts.{concatenation}
-use Rattle.smt_theory.specs.Ranks.{HasRank, AreSeveral}
+use Rattle.smt_theory.specs.Ranks.{HasRank}
+use Rattle.smt_theory.specs.Shapes.{AreOf, HasShape}
+use Rattle.smt_theory.specs.declared.shapes.Arity.TheVariants.{One, OneOrMore, Several}
+use Rattle.smt_theory.specs.declared.shapes.Shape.TheVariants.{Constant as Nullary, Uniform, OutOfRange}
 use Rattle.smt_theory.specs.declared.op.Arithmetic.TheVariants.{Minus, Plus, Times, Div}
 use Rattle.smt_theory.specs.declared.op.BitsFolded.{BitsFolded}
 use Rattle.smt_theory.specs.declared.op.BitsOp.{BitsOp}
@@ -22,8 +25,8 @@ use Rattle.smt_theory.specs.declared.op.IntsOp.TheVariants.{Arithmetic as Left, 
 use Rattle.smt_theory.specs.declared.op.IntsOp.TheVariants.{Divisible}
 use Rattle.smt_theory.specs.declared.op.Op.{Op}
 use Rattle.smt_theory.specs.declared.op.Op.TheVariants.{Core, Ints, Bits}
-use Rattle.smt_theory.specs.declared.sort.Sort.{Sort}
-use Rattle.smt_theory.specs.declared.sort.Sort.TheVariants.{Bool as Boolean, Int, Bits as BitsSort}
+use Rattle.smt_theory.specs.Sort.{Sort}
+use Rattle.smt_theory.specs.Sort.{Boolean, Int, Bits as BitsSort}
 use Rattle.smt_values.proofs.BitSortLemmas.{one, sum-cons, two, vector_is}
 use Rattle.smt_values.specs.BitOperations.{folded_vector}
 use Rattle.smt_values.specs.Element.{Element, Truth, Integer, Vector, Abstract, IsOfSort, AreOfSorts}
@@ -183,14 +186,14 @@ core_known Ite sorts sort es r h = choice sort es (subst (λ ss. AreOfSorts ss e
 
 -- ---- theory Ints
 
-divisible : (n : ℕ) (es : List Element) → 0 < n → AreOfSorts (Int ∷ []) es
+divisible : (n : ℕ) (es : List Element) → nat_lt 0 n ≡ true → AreOfSorts (Int ∷ []) es
     → IsSome (known_step (Ints (Divisible n)) (map Some es))
-divisible n [] some h = absurd h
-divisible n (Integer z ∷ []) some h = let positive : nat_lt 0 n ≡ true = search rules in rw positive refl
-divisible n (Truth b ∷ []) some h = absurd h.0
-divisible n (Vector v ∷ []) some h = absurd h.0
-divisible n (Abstract name ∷ []) some h = absurd h.0
-divisible n (e ∷ f ∷ es) some h = absurd h.1
+divisible n [] positive h = absurd h
+divisible n (Integer z ∷ []) positive h = rw positive refl
+divisible n (Truth b ∷ []) positive h = absurd h.0
+divisible n (Vector v ∷ []) positive h = absurd h.0
+divisible n (Abstract name ∷ []) positive h = absurd h.0
+divisible n (e ∷ f ∷ es) positive h = absurd h.1
 
 pub ints_known : (op : IntsOp) (sorts : List Sort) (sort : Sort) (es : List Element)
     → HasRank (Ints op) sorts sort → AreOfSorts sorts es → sort ≢ Int
@@ -202,28 +205,39 @@ ints_known (Left Div) sorts sort es r h other = absurd (other r.1)
 ints_known Mod sorts sort es r h other = absurd (other r.1)
 ints_known Abs sorts sort es r h other = absurd (other r.1)
 ints_known (Chain op) sorts sort es r h other = rw (integers es (all_of Int sorts es r.0.1 h)) refl
-ints_known (Divisible n) sorts sort es r h other =
-    divisible n es r.0.0 (subst (λ ss. AreOfSorts ss es) r.0.1 h)
+ints_known (Divisible n) sorts sort es r h other = by (nat_lt 0 n) refl r
+  where
+    by : (b : Bool) → nat_lt 0 n ≡ b → HasShape (cond b (Uniform One Int Boolean) OutOfRange) sorts sort
+        → IsSome (known_step (Ints (Divisible n)) (map Some es))
+    by true positive r = divisible n es positive (subst (λ ss. AreOfSorts ss es) r.0 h)
+    by false positive r = absurd r
 
 -- each operator takes an integer
-several_need : (sorts : List Sort) → AreSeveral Int sorts → All (λ s. s ≢ Int) sorts → ⊥
+several_need : (sorts : List Sort) → AreOf Several Int sorts → All (λ s. s ≢ Int) sorts → ⊥
 several_need sorts several none =
     none 0 Int (let two = several.0 in omega arith) (several.1 0 Int (let two = several.0 in omega arith))
+
+some_need : (sorts : List Sort) → AreOf OneOrMore Int sorts → All (λ s. s ≢ Int) sorts → ⊥
+some_need sorts some none =
+    none 0 Int (let one = some.0 in omega arith) (some.1 0 Int (let one = some.0 in omega arith))
 
 first_need : (sorts rest : List Sort) → sorts ≡ Int ∷ rest → All (λ s. s ≢ Int) sorts → ⊥
 first_need sorts rest is none = (subst (λ ss. All (λ s. s ≢ Int) ss) is none) 0 Int (omega arith) refl
 
 pub ints_need : (op : IntsOp) (sorts : List Sort) (sort : Sort) → HasRank (Ints op) sorts sort
     → All (λ s. s ≢ Int) sorts → ⊥
-ints_need (Left Minus) sorts sort r none =
-    elim r.0 [ inl e ↦ first_need sorts [] e none | inr several ↦ several_need sorts several none ]
+ints_need (Left Minus) sorts sort r none = some_need sorts r.0 none
 ints_need (Left Plus) sorts sort r none = several_need sorts r.0 none
 ints_need (Left Times) sorts sort r none = several_need sorts r.0 none
 ints_need (Left Div) sorts sort r none = several_need sorts r.0 none
 ints_need Mod sorts sort r none = first_need sorts (Int ∷ []) r.0 none
 ints_need Abs sorts sort r none = first_need sorts [] r.0 none
 ints_need (Chain op) sorts sort r none = several_need sorts r.0 none
-ints_need (Divisible n) sorts sort r none = first_need sorts [] r.0.1 none
+ints_need (Divisible n) sorts sort r none = by (nat_lt 0 n) r
+  where
+    by : (b : Bool) → HasShape (cond b (Uniform One Int Boolean) OutOfRange) sorts sort → ⊥
+    by true r = first_need sorts [] r.0 none
+    by false r = absurd r
 
 -- ---- bit vectors
 
@@ -271,7 +285,7 @@ concat_steps (m ∷ widths) (e ∷ es) s h within =
     rw fits (concat_steps widths es (vector (s.width + (vector_of e).width) _) h.1 (omega arith))
 
 several_known : (op : BitsFolded) (m : ℕ) (sorts : List Sort) (es : List Element)
-    → AreSeveral (BitsSort m) sorts → AreOfSorts sorts es
+    → AreOf Several (BitsSort m) sorts → AreOfSorts sorts es
     → IsSome (known_step (Bits (Folded op)) (map Some es))
 several_known op m [] es several h = absurd (none several.0)
   where
@@ -307,12 +321,17 @@ constant_known x n (e ∷ es) h = absurd h
 
 pub bits_known : (op : BitsOp) (sorts : List Sort) (sort : Sort) (es : List Element)
     → HasRank (Bits op) sorts sort → AreOfSorts sorts es → IsSome (known_step (Bits op) (map Some es))
-bits_known (Constant x n) sorts sort es r h = constant_known x n es (subst (λ ss. AreOfSorts ss es) r.3 h)
+bits_known (Constant x n) sorts sort es r h = by (nat_le 1 n && nat_le n 128 && nat_lt x (2 ^ n)) r
+  where
+    by : (b : Bool) → HasShape (cond b (Nullary (BitsSort n)) OutOfRange) sorts sort
+        → IsSome (known_step (Bits (Constant x n)) (map Some es))
+    by true r = constant_known x n es (subst (λ ss. AreOfSorts ss es) r.0 h)
+    by false r = absurd r
 bits_known Concat sorts sort es r h = parts_known r.0 sorts es r.1 r.2 r.3 h
 bits_known (Extract i j) sorts sort es r h =
     of_one (Extract i j) r.0 sorts es r.1 h (λ v width.
-    let a : nat_le j i ≡ true = (let le = r.2 in search rules) in
-    let less : i < v.width = (let le = r.3 in omega arith) in
+    let a : nat_le j i ≡ true = (let le = r.2.0 in search rules) in
+    let less : i < v.width = (let le = r.2.1 in omega arith) in
     let b : nat_lt i v.width ≡ true = search rules in
     rw (a, b) refl)
 bits_known (Unary op) sorts sort es r h = of_one (Unary op) r.0 sorts es r.1 h (λ v width. refl)
@@ -323,18 +342,18 @@ bits_known (Comparison op) sorts sort es r h =
 bits_known Comp sorts sort es r h = of_two Comp r.0 sorts es r.1 h (λ v w same. rw same refl)
 bits_known (Repeat i) sorts sort es r h =
     of_one (Repeat i) r.0 sorts es r.1 h (λ v width.
-    let a : nat_le 1 i ≡ true = (let some = r.2 in search rules) in
-    let fits : i * v.width ≤ 128 = rw width r.3 in
+    let a : nat_le 1 i ≡ true = (let some = r.2.0 in search rules) in
+    let fits : i * v.width ≤ 128 = rw width r.2.1 in
     let b : nat_le (i * v.width) 128 ≡ true = search rules in
     rw (a, b) refl)
 bits_known (ZeroExtend i) sorts sort es r h =
     of_one (ZeroExtend i) r.0 sorts es r.1 h (λ v width.
-    let fits : v.width + i ≤ 128 = rw width r.2 in
+    let fits : v.width + i ≤ 128 = rw width r.2.0 in
     let b : nat_le (v.width + i) 128 ≡ true = search rules in
     rw b refl)
 bits_known (SignExtend i) sorts sort es r h =
     of_one (SignExtend i) r.0 sorts es r.1 h (λ v width.
-    let fits : v.width + i ≤ 128 = rw width r.2 in
+    let fits : v.width + i ≤ 128 = rw width r.2.0 in
     let b : nat_le (v.width + i) 128 ≡ true = search rules in
     rw b refl)
 bits_known (RotateLeft i) sorts sort es r h = of_one (RotateLeft i) r.0 sorts es r.1 h (λ v width. refl)

@@ -1,6 +1,6 @@
 -- Results of operators on bit vectors are of the sorts that ranks give.
-use Rattle.std.proofs.Common.{◌≡◌, ℕ, ◌+◌, ◌-◌, ◌*◌, ◌%◌, ◌^◌, ◌<◌, ◌≤◌, List, [], ◌∷◌, length, refl, sym, ap}
-use Rattle.std.proofs.Common.{◌∙◌, subst, arith}
+use Rattle.std.proofs.Common.{◌≡◌, ℕ, ◌+◌, ◌-◌, ◌*◌, ◌%◌, ◌^◌, ◌<◌, ◌≤◌, Bool, true, false, cond, ◌&&◌, List, [], ◌∷◌, length}
+use Rattle.std.proofs.Common.{nat_le, nat_lt, refl, sym, ap, ◌∙◌, subst, arith, rules}
 use Rattle.std.proofs.Math.Nat.{mod-lt, one-le-mul}
 use Rattle.std.proofs.Math.Pow.{pow_mono, pow_pos}
 use Rattle.std.proofs.lemmas.List.Sums.{sum_by-cons}
@@ -10,7 +10,10 @@ use Rattle.smt_bits.specs.BitVector.{BitVector, IsVector, vector}
 use Rattle.smt_bits.specs.Operators.{bvneg, bvadd, bvsub, bvmul, bvudiv, bvurem, bvnot, bvand, bvor, bvxor}
 use Rattle.smt_bits.specs.Operators.{bvnand, bvnor, bvxnor, bvsdiv, bvsrem, bvsmod, bvshl, bvlshr, bvashr}
 use Rattle.smt_bits.specs.Operators.{bvcomp, concat, extract, repeat, sign_extend, rotate_left, rotate_right}
-use Rattle.smt_theory.specs.Ranks.{HasBitsRank, AreSeveral}
+use Rattle.smt_theory.specs.Ranks.{HasRank}
+use Rattle.smt_theory.specs.Shapes.{AreOf, HasShape}
+use Rattle.smt_theory.specs.declared.shapes.Arity.TheVariants.{Several}
+use Rattle.smt_theory.specs.declared.shapes.Shape.TheVariants.{Constant as Nullary, OutOfRange}
 use Rattle.smt_theory.specs.declared.op.BitsBinary.{BitsBinary}
 use Rattle.smt_theory.specs.declared.op.BitsBinary.TheVariants.{Nand, Nor, Xnor, Subtract, DivideUnsigned}
 use Rattle.smt_theory.specs.declared.op.BitsBinary.TheVariants.{RemainderUnsigned, DivideSigned}
@@ -24,8 +27,9 @@ use Rattle.smt_theory.specs.declared.op.BitsOp.TheVariants.{Comparison, Comp, Re
 use Rattle.smt_theory.specs.declared.op.BitsOp.TheVariants.{RotateLeft, RotateRight}
 use Rattle.smt_theory.specs.declared.op.BitsUnary.{BitsUnary}
 use Rattle.smt_theory.specs.declared.op.BitsUnary.TheVariants.{Not, Negate}
-use Rattle.smt_theory.specs.declared.sort.Sort.{Sort}
-use Rattle.smt_theory.specs.declared.sort.Sort.TheVariants.{Bool as BoolSort, Bits as BitsSort}
+use Rattle.smt_theory.specs.declared.op.Op.TheVariants.{Bits}
+use Rattle.smt_theory.specs.Sort.{Sort}
+use Rattle.smt_theory.specs.Sort.{Boolean as BoolSort, Bits as BitsSort}
 use Rattle.smt_values.specs.BitOperations.{binary, concatenated, folded, folded_vector, operate_bits, unary}
 use Rattle.smt_values.specs.Element.{Element, Truth, Integer, Vector, Abstract, IsOfSort, AreOfSorts}
 use Rattle.smt_values.specs.Operations.{vector_of}
@@ -173,7 +177,7 @@ module _ (fits : ResultsFit) where
       (fits.concat_fits s.width t.width s.number t.number below d.1.1))
 
   several_of : (op : BitsFolded) (m : ℕ) (sorts : List Sort) (es : List Element)
-      → AreSeveral (BitsSort m) sorts → AreOfSorts sorts es
+      → AreOf Several (BitsSort m) sorts → AreOfSorts sorts es
       → IsOfSort (BitsSort m) (operate_bits (Folded op) (map vector_of es))
   several_of op m [] es h all = absurd (none h.0)
     where
@@ -207,14 +211,22 @@ module _ (fits : ResultsFit) where
       subst (IsOfSort (BitsSort n)) (sym (ap (operate_bits op) o.is ∙ is o.v))
       (fit o.v o.width o.some o.below)
 
-  pub bits : (op : BitsOp) (sorts : List Sort) (sort : Sort) (es : List Element) → HasBitsRank op sorts sort
+  pub bits : (op : BitsOp) (sorts : List Sort) (sort : Sort) (es : List Element) → HasRank (Bits op) sorts sort
       → AreOfSorts sorts es → IsOfSort sort (operate_bits op (map vector_of es))
-  bits (Constant x n) sorts sort es r h =
-      subst (λ s. IsOfSort s (Vector (vector n (x % 2 ^ n)))) (sym r.4) (refl, (r.0, mod-lt x (pow_pos n)))
+  bits (Constant x n) sorts sort es r h = by (nat_le 1 n && nat_le n 128 && nat_lt x (2 ^ n)) positive r
+    where
+      positive : (nat_le 1 n && nat_le n 128 && nat_lt x (2 ^ n)) ≡ true → 1 ≤ n
+      positive e = search rules
+
+      by : (b : Bool) → (b ≡ true → 1 ≤ n) → HasShape (cond b (Nullary (BitsSort n)) OutOfRange) sorts sort
+          → IsOfSort sort (Vector (vector n (x % 2 ^ n)))
+      by true some r =
+          subst (λ s. IsOfSort s (Vector (vector n (x % 2 ^ n)))) (sym r.1) (refl, (some refl, mod-lt x (pow_pos n)))
+      by false some r = absurd r
   bits Concat sorts sort es r h = subst (λ s. IsOfSort s (operate_bits Concat (map vector_of es))) (sym r.4)
       (several_parts r.0 es r.2 (subst (λ ss. AreOfSorts ss es) r.1 h))
   bits (Extract i j) sorts sort es r h =
-      subst (λ s. IsOfSort s (operate_bits (Extract i j) (map vector_of es))) (sym r.4)
+      subst (λ s. IsOfSort s (operate_bits (Extract i j) (map vector_of es))) (sym r.2.2)
       (of_one (λ v. vector (i - j + 1) (extract i j v.number)) (Extract i j) r.0 (i - j + 1) es (λ v. refl)
       (λ v w some below. (refl, (omega arith, fits.extract_fits i j v.number)))
       (subst (λ ss. AreOfSorts ss es) r.1 h))
@@ -240,23 +252,23 @@ module _ (fits : ResultsFit) where
       (subst (λ vs. IsOfSort (BitsSort 1) (operate_bits Comp vs)) (sym o.is)
       (refl, (omega arith, fits.comp_fits o.v.number o.w.number)))
   bits (Repeat i) sorts sort es r h =
-      subst (λ s. IsOfSort s (operate_bits (Repeat i) (map vector_of es))) (sym r.4)
+      subst (λ s. IsOfSort s (operate_bits (Repeat i) (map vector_of es))) (sym r.2.2)
       (of_one (λ v. vector (i * v.width) (repeat i v.width v.number)) (Repeat i) r.0 (i * r.0) es (λ v. refl)
       (λ v w some below. (
         ap (λ n. i * n) w,
-        (positive i v.width r.2 some, fits.repeat_fits i v.width v.number below),
+        (positive i v.width r.2.0 some, fits.repeat_fits i v.width v.number below),
       ))
       (subst (λ ss. AreOfSorts ss es) r.1 h))
     where
       positive : (i m : ℕ) → 1 ≤ i → 1 ≤ m → 1 ≤ i * m
       positive i m a b = one-le-mul a b
   bits (ZeroExtend i) sorts sort es r h =
-      subst (λ s. IsOfSort s (operate_bits (ZeroExtend i) (map vector_of es))) (sym r.3)
+      subst (λ s. IsOfSort s (operate_bits (ZeroExtend i) (map vector_of es))) (sym r.2.1)
       (of_one (λ v. vector (v.width + i) v.number) (ZeroExtend i) r.0 (r.0 + i) es (λ v. refl)
       (λ v w some below. (ap (λ n. n + i) w, (omega arith, wider v.width i v.number below)))
       (subst (λ ss. AreOfSorts ss es) r.1 h))
   bits (SignExtend i) sorts sort es r h =
-      subst (λ s. IsOfSort s (operate_bits (SignExtend i) (map vector_of es))) (sym r.3)
+      subst (λ s. IsOfSort s (operate_bits (SignExtend i) (map vector_of es))) (sym r.2.1)
       (of_one (λ v. vector (v.width + i) (sign_extend i v.width v.number)) (SignExtend i) r.0 (r.0 + i) es
       (λ v. refl)
       (λ v w some below. (ap (λ n. n + i) w, (omega arith, fits.sign_extend_fits i v.width v.number)))

@@ -13,8 +13,8 @@ use Rattle.smt_theory.specs.declared.op.CoreOp.{CoreOp}
 use Rattle.smt_theory.specs.declared.op.CoreOp.TheVariants.{True, False, Not, Implies, And, Or, Xor, Equal, Distinct, Ite}
 use Rattle.smt_theory.specs.declared.op.Op.{Op}
 use Rattle.smt_theory.specs.declared.op.Op.TheVariants.{Core, Ints, Bits}
-use Rattle.smt_theory.specs.declared.sort.Sort.{Sort}
-use Rattle.smt_theory.specs.declared.sort.Sort.TheVariants as sort
+use Rattle.smt_theory.specs.Sort.{Sort}
+use Rattle.smt_theory.specs.Sort as sort
 use Rattle.smt_values.proofs.AllKnownLemmas.{result_known}
 use Rattle.smt_values.specs.Element.{AreOfSorts, Element, Truth, element_of, known_element, known_elements}
 use Rattle.smt_values.specs.KnownOperations.{as_disjunction, decided, is_known, known_choice, known_core, known_step}
@@ -375,6 +375,6 @@ reason_range op sorts s args ranked are is = by s ranked
 
     by : (t : Sort) → HasRank op sorts t → t ≡ sort.Int
     by sort.Int ranks = refl
-    by sort.Bool ranks = absurd (none_known _ unknown (result_known op sorts sort.Bool args ranks are (λ e. cc)))
+    by sort.Boolean ranks = absurd (none_known _ unknown (result_known op sorts sort.Boolean args ranks are (λ e. cc)))
     by (sort.Bits n) ranks = absurd (none_known _ unknown (result_known op sorts (sort.Bits n) args ranks are (λ e. cc)))
     by (sort.Free n) ranks = absurd (none_known _ unknown (result_known op sorts (sort.Free n) args ranks are (λ e. cc)))

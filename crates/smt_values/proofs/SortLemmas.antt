@@ -1,8 +1,11 @@
 -- Results are of the sorts that ranks give.
-use Rattle.std.proofs.Common.{◌≡◌, ◌⊎◌, inl, inr, ℕ, ◌≤◌, ℤ, Bool, true, false, cond, List, [], ◌∷◌, length}
+use Rattle.std.proofs.Common.{◌≡◌, ℕ, ◌≤◌, ℤ, Bool, true, false, cond, List, [], ◌∷◌, length}
 use Rattle.std.proofs.Common.{sym, subst, arith}
-use Rattle.std.specs.Prelude.{map}
-use Rattle.smt_theory.specs.Ranks.{HasRank, HasCoreRank, HasIntsRank, AreSeveral}
+use Rattle.std.specs.Prelude.{map, nat_lt}
+use Rattle.smt_theory.specs.Ranks.{HasRank}
+use Rattle.smt_theory.specs.Shapes.{HasShape}
+use Rattle.smt_theory.specs.declared.shapes.Arity.TheVariants.{One}
+use Rattle.smt_theory.specs.declared.shapes.Shape.TheVariants.{Uniform, OutOfRange}
 use Rattle.smt_theory.specs.declared.op.Arithmetic.{Arithmetic}
 use Rattle.smt_theory.specs.declared.op.Arithmetic.TheVariants.{Minus, Plus, Times, Div}
 use Rattle.smt_theory.specs.declared.op.CoreOp.{CoreOp}
@@ -13,8 +16,8 @@ use Rattle.smt_theory.specs.declared.op.IntsOp.TheVariants.{Arithmetic as Left, 
 use Rattle.smt_theory.specs.declared.op.IntsOp.TheVariants.{Divisible}
 use Rattle.smt_theory.specs.declared.op.Op.{Op}
 use Rattle.smt_theory.specs.declared.op.Op.TheVariants.{Core, Ints, Bits}
-use Rattle.smt_theory.specs.declared.sort.Sort.{Sort}
-use Rattle.smt_theory.specs.declared.sort.Sort.TheVariants.{Bool as Boolean, Int}
+use Rattle.smt_theory.specs.Sort.{Sort}
+use Rattle.smt_theory.specs.Sort.{Boolean, Int}
 use Rattle.smt_values.proofs.BitSortLemmas.{ResultsFit, bits}
 use Rattle.smt_values.specs.Element.{Element, Truth, IsOfSort, AreOfSorts}
 use Rattle.smt_values.specs.Operations.{DivisionByZero, truth_of, integer_of, chosen, operate_core}
@@ -36,7 +39,7 @@ choice sort (c ∷ a ∷ b ∷ []) h = by (truth_of c)
     by true = h.1.0
     by false = h.1.1.0
 
-core : (op : CoreOp) (sorts : List Sort) (sort : Sort) (es : List Element) → HasCoreRank op sorts sort
+core : (op : CoreOp) (sorts : List Sort) (sort : Sort) (es : List Element) → HasRank (Core op) sorts sort
     → AreOfSorts sorts es → IsOfSort sort (operate_core op es)
 core True sorts sort es r h = truth sort _ r.1
 core False sorts sort es r h = truth sort _ r.1
@@ -85,13 +88,9 @@ divisible t n (a ∷ []) = tt
 divisible t n (a ∷ b ∷ zs) = tt
 
 ints : (t : DivisionByZero) (op : IntsOp) (sorts : List Sort) (sort : Sort) (es : List Element)
-    → HasIntsRank op sorts sort → AreOfSorts sorts es
+    → HasRank (Ints op) sorts sort → AreOfSorts sorts es
     → IsOfSort sort (operate_ints t op (map integer_of es))
-ints t (Left Minus) sorts sort es r h = integer sort _ r.1 (from_left t Minus sorts es (some r.0) h)
-  where
-    some : ((sorts ≡ Int ∷ []) ⊎ AreSeveral Int sorts) → 1 ≤ length sorts
-    some (inl e) = subst (λ ss. 1 ≤ length ss) (sym e) (omega arith)
-    some (inr m) = let two = m.0 in omega arith
+ints t (Left Minus) sorts sort es r h = integer sort _ r.1 (from_left t Minus sorts es r.0.0 h)
 ints t (Left Plus) sorts sort es r h =
     let two = r.0.0 in integer sort _ r.1 (from_left t Plus sorts es (omega arith) h)
 ints t (Left Times) sorts sort es r h =
@@ -101,9 +100,13 @@ ints t (Left Div) sorts sort es r h =
 ints t (Chain op) sorts sort es r h = truth sort _ r.1
 ints t Mod sorts sort es r h = integer sort _ r.1 (of_two t es (subst (λ ss. AreOfSorts ss es) r.0 h))
 ints t Abs sorts sort es r h = integer sort _ r.1 (of_one t es (subst (λ ss. AreOfSorts ss es) r.0 h))
-ints t (Divisible n) sorts sort es r h = subst
-    (λ s. IsOfSort s (operate_ints t (Divisible n) (map integer_of es))) (sym r.1)
-    (divisible t n (map integer_of es))
+ints t (Divisible n) sorts sort es r h = by (nat_lt 0 n) r
+  where
+    by : (b : Bool) → HasShape (cond b (Uniform One Int Boolean) OutOfRange) sorts sort
+        → IsOfSort sort (operate_ints t (Divisible n) (map integer_of es))
+    by true r = subst (λ s. IsOfSort s (operate_ints t (Divisible n) (map integer_of es))) (sym r.1)
+        (divisible t n (map integer_of es))
+    by false r = absurd r
 
 pub result_of_sort : (fits : ResultsFit) (t : DivisionByZero) (op : Op) (sorts : List Sort) (sort : Sort)
     (es : List Element) → HasRank op sorts sort → AreOfSorts sorts es → IsOfSort sort (operate t op es)

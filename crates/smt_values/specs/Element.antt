@@ -2,9 +2,9 @@
 -- known of them.
 use Rattle.std.specs.Prelude.{◌≡◌, ℕ, ℤ, List, [], ◌∷◌, Bool, Option, Some, None, option_map, map}
 use Rattle.smt_bits.specs.BitVector.{BitVector, IsVector}
-use Rattle.smt_theory.specs.declared.sort.Sort.{Sort}
-use Rattle.smt_theory.specs.declared.sort.Sort.TheVariants.{Bool as BoolSort, Int as IntSort}
-use Rattle.smt_theory.specs.declared.sort.Sort.TheVariants.{Bits as BitsSort, Free}
+use Rattle.smt_theory.specs.Sort.{Sort}
+use Rattle.smt_theory.specs.Sort.{Boolean as BoolSort, Int as IntSort}
+use Rattle.smt_theory.specs.Sort.{Bits as BitsSort, Free}
 use Rattle.smt_values.specs.declared.value.Value.{Value}
 use Rattle.smt_values.specs.declared.value.Value.TheVariants.{Bool as BoolValue, Int as IntValue}
 use Rattle.smt_values.specs.declared.value.Value.TheVariants.{Bits as BitsValue, Abstract as AbstractValue}

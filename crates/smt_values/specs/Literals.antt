@@ -3,6 +3,8 @@
 use Rattle.std.specs.Prelude.{ℕ, pos, List, Option, Some, None, option_map, if◌then◌else◌}
 use Rattle.std.specs.Str.Parse.{digits_value}
 use Rattle.smt_bits.specs.Literals.{known_constant}
+use Rattle.smt_theory.specs.declared.literal.LiteralKind.{LiteralKind}
+use Rattle.smt_theory.specs.declared.literal.LiteralKind.TheVariants.{Numeral, Hexadecimal, Binary}
 use Rattle.smt_values.specs.Element.{Element, Abstract, Integer, Vector}
 use Rattle.smt_values.specs.KnownOperations.{within}
 use Rattle.smt_values.specs.Names.{fits}
@@ -17,6 +19,12 @@ hex_element digits = option_map Vector (known_constant 16 4 digits)
 
 abbrev pub bin_element : List ℕ → Option Element
 bin_element digits = option_map Vector (known_constant 2 1 digits)
+
+-- what is known of a literal's value
+abbrev pub literal_element : LiteralKind → List ℕ → Option Element
+literal_element Numeral digits = numeral_element digits
+literal_element Hexadecimal digits = hex_element digits
+literal_element Binary digits = bin_element digits
 
 -- the element of a declared sort that has this name; open where the name is too long to be held
 abbrev pub name_element : List ℕ → Option Element

@@ -85,6 +85,10 @@ pub record DivisionByZero : Type 0 where
   pub quotients : List (ℤ × ℤ)
   pub remainders : List (ℤ × ℤ)
 
+-- where every quotient and remainder by zero is 0
+abbrev pub zero_by_zero : DivisionByZero
+zero_by_zero = record { quotients = []; remainders = [] }
+
 abbrev pub at_zero : List (ℤ × ℤ) → ℤ → ℤ
 at_zero [] a = pos 0
 at_zero (row ∷ table) a = if int_eq a row.0 then row.1 else at_zero table a

@@ -28,7 +28,7 @@ mod reasons;
 mod value;
 
 pub use integer::Integer;
-pub use literal_values::{bin, bin_of, element, hex, hex_of, numeral, numeral_of};
+pub use literal_values::{bin, bin_of, element, hex, hex_of, literal_of, numeral, numeral_of};
 pub use name::{LONGEST, Name};
 pub use operations::{apply, apply_in_place};
 pub use reasons::{OpenReason, Reason, is_connective, why};

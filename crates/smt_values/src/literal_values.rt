@@ -2,15 +2,17 @@
 
 ghost use Rattle.std.specs.Prelude.{◌≡◌, List, ℕ};
 ghost use Rattle.std.specs.Str.Parse.{digits_value};
+ghost use Rattle.smt_theory.specs.Literals.{radix};
 ghost use Rattle.smt_theory.specs.Numbers.{below_word};
 ghost use Rattle.smt_values.specs.Element.{known_element};
-ghost use Rattle.smt_values.specs.Literals.{bin_element, hex_element, name_element, numeral_element};
+ghost use Rattle.smt_values.specs.Literals.{bin_element, hex_element, literal_element, name_element};
+ghost use Rattle.smt_values.specs.Literals.{numeral_element};
 
 use crate::integer::Integer;
 use crate::name::Name;
 use crate::value::Value;
 use smt_bits::literals;
-use smt_theory::number;
+use smt_theory::{LiteralKind, number};
 
 /// The integer that the decimal digits of a numeral spell; `None` exactly where it is over 2^127 - 1.
 ///
@@ -63,6 +65,19 @@ pub fn bin_of(number: Option<u128>, digits: &[u8]) -> Option<Value>
     ensures { known_element result ≡ bin_element digits.now }
 {
     literals::bin_of(number, digits).map(Value::Bits)
+}
+
+/// The value that a literal's digits spell, where `number` is what `smt_theory::number` returns for them.
+#[inline(always)]
+pub fn literal_of(kind: LiteralKind, number: Option<u128>, digits: &[u8]) -> Option<Value>
+    requires { number ≡ below_word (digits_value (radix kind) digits.now) }
+    ensures { known_element result ≡ literal_element kind digits.now }
+{
+    match kind {
+        LiteralKind::Numeral => numeral_of(number),
+        LiteralKind::Hexadecimal => hex_of(number, digits),
+        LiteralKind::Binary => bin_of(number, digits),
+    }
 }
 
 /// The element of a declared sort that has this name; `None` where the name has more than 31 bytes or a byte 0.

@@ -2,7 +2,7 @@
 
 ghost use Rattle.std.specs.Prelude.{◌≡◌, Some};
 ghost use Rattle.smt_values.specs.Element.{element_of};
-ghost use Rattle.smt_values.specs.KnownOperations.{known_integer};
+ghost use Rattle.smt_values.specs.KnownOperations.{known_integer, known_truth};
 
 use crate::integer::Integer;
 use crate::name::Name;
@@ -25,6 +25,17 @@ pub enum Value {
 }
 
 impl Value {
+    /// The truth value that the value is; `None` where it is of another sort.
+    #[inline(always)]
+    pub fn truth(&self) -> Option<bool>
+        ensures { result ≡ known_truth (Some (element_of self.now)) }
+    {
+        match self {
+            Value::Bool(truth) => Some(*truth),
+            Value::Int(_) | Value::Bits(_) | Value::Abstract(_) => None,
+        }
+    }
+
     /// The integer that the value is; `None` where it is of another sort.
     pub fn integer(&self) -> Option<i128>
         ensures { result ≡ known_integer (Some (element_of self.now)) }

@@ -1,5 +1,6 @@
 pub mod ClapLemmas
 pub mod DefaultLemmas
+pub mod OptionLemmas
 pub mod RowLemmas
 pub mod SettingsLemmas
 pub mod WordRuleLemmas

@@ -7,8 +7,6 @@ use Rattle.smt_theory.specs.declared.op.Op.TheVariants.{Core}
 use Rattle.smt_theory.specs.PlainOp.{op_of_plain}
 use Rattle.smt_nodes.specs.Internal.Annotations.{annotated_in}
 use Rattle.smt_nodes.specs.Node as spec
-use Rattle.smt_nodes.specs.declared.rows.Base.{Base}
-use Rattle.smt_nodes.specs.declared.rows.Base.TheVariants.{Decimal, Hexadecimal, Binary}
 use Rattle.smt_nodes.specs.declared.rows.Ends.{Ends}
 use Rattle.smt_nodes.specs.declared.rows.Stored.{Stored}
 use Rattle.smt_nodes.specs.declared.rows.Stored.TheVariants.{Literal, Large, Element, Slot, Plain, Numbered}
@@ -57,15 +55,9 @@ pub record Grows (t u : Lists) : Type 0 where
 abbrev pub before : {A : Type 0} → ℕ → ℕ → List A → List A
 before n end xs = slice_range xs (end - n) end
 
--- a literal with these digits
-abbrev pub literal_of : Base → List ℕ → spec.Node
-literal_of Decimal digits = spec.Numeral digits
-literal_of Hexadecimal digits = spec.Hexadecimal digits
-literal_of Binary digits = spec.Binary digits
-
 abbrev pub node_of : Lists → Ends → Stored → spec.Node
-node_of t ends (Literal base n number) = literal_of base (before n ends.digits t.digits)
-node_of t ends (Large base n place) = literal_of base (before n ends.digits t.digits)
+node_of t ends (Literal kind n number) = spec.Literal kind (before n ends.digits t.digits)
+node_of t ends (Large kind n place) = spec.Literal kind (before n ends.digits t.digits)
 node_of t ends (Element n) = spec.Element (before n ends.digits t.digits)
 node_of t ends (Slot place) = spec.Slot place
 node_of t ends (Plain op n) = spec.Apply (op_of_plain op) (before n ends.parts t.parts)

@@ -1,16 +1,9 @@
 -- The numbers that literals spell, as rows hold them, and the large ones behind the rows.
 use Rattle.std.specs.Prelude.{◌≡◌, ℕ, List, Option, Some, None, option_map, slice_get}
 use Rattle.smt_nodes.specs.declared.large.LargeNumber.{LargeNumber}
-use Rattle.smt_nodes.specs.declared.rows.Base.{Base}
-use Rattle.smt_nodes.specs.declared.rows.Base.TheVariants.{Decimal, Hexadecimal, Binary}
 use Rattle.smt_nodes.specs.declared.rows.Stored.{Stored}
 use Rattle.smt_nodes.specs.declared.rows.Stored.TheVariants.{Literal, Large}
 use Rattle.smt_nodes.specs.declared.tables.Tables.{Tables}
-
-abbrev pub radix : Base → ℕ
-radix Decimal = 10
-radix Hexadecimal = 16
-radix Binary = 2
 
 abbrev pub large_of : Tables → List LargeNumber
 large_of t = t.large.items
@@ -21,13 +14,13 @@ number_in None = None
 
 -- the number that is held of a literal; none of another node
 abbrev pub held_number : List LargeNumber → Stored → Option ℕ
-held_number large (Literal base n number) = Some number
-held_number large (Large base n place) = number_in (slice_get large place)
+held_number large (Literal kind n number) = Some number
+held_number large (Large kind n place) = number_in (slice_get large place)
 held_number large _ = None
 
 -- the place of a number that is large
 abbrev pub place_in : Stored → Option ℕ
-place_in (Large base n place) = Some place
+place_in (Large kind n place) = Some place
 place_in _ = None
 
 -- what a row of this number holds is this number, and where that is large, the row's own

@@ -368,12 +368,12 @@ fn check_literal(library: &mut Library<'_>, literal: Tree<'_>) -> Result<TermId,
     ensures kept { (i : ℕ) (t : Sexp) → IsTerm library.old i t → IsTerm library.new i t }
 {
     let (term, sort) = library.check_transient(literal)?;
-    match sort {
-        Sort::Bool => Ok(term),
-        Sort::Int | Sort::Bits(_) | Sort::Free(_) => Err(CommandFault::Term {
+    if !sort.is_same(Sort::bool()) {
+        return Err(CommandFault::Term {
             fault: TermFault::IllSorted,
-        }),
+        });
     }
+    Ok(term)
 }
 
 // Whether a command of a kind ends the assumptions of the check before it.

@@ -18,7 +18,7 @@ use Rattle.smt_theory.specs.Sort.{is_same_sort}
 use Rattle.smt_theory.specs.Words.{look_up}
 use Rattle.smt_theory.specs.declared.misfits.RankFlaw.TheVariants as flaws
 use Rattle.smt_theory.specs.declared.misfits.Wanted.{Wanted}
-use Rattle.smt_theory.specs.declared.sort.Sort.{Sort}
+use Rattle.smt_theory.specs.Sort.{Sort}
 use Rattle.smt_forms.specs.Identifier.{Identifier, applied}
 use Rattle.smt_terms.specs.Blame.{IsBlamed, IsToldWhole, call_flaw, with_theory}
 use Rattle.smt_terms.specs.Internal.LibraryView.{names_of_library, sort_names}

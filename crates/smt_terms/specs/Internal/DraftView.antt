@@ -1,7 +1,7 @@
 -- What is kept of a term while it is checked.
 use Rattle.std.specs.Prelude.{◌≤◌, ◌<◌, ◌-◌, ℕ, ◌+◌, List, [], ◌∷◌, Bool, drop, length, map, take}
 use Rattle.smt_trees.specs.Sexp.{Sexp, Sexps}
-use Rattle.smt_theory.specs.declared.sort.Sort.{Sort}
+use Rattle.smt_theory.specs.Sort.{Sort}
 use Rattle.smt_forms.specs.ScopeOf.{scope_of}
 use Rattle.smt_forms.specs.Variables.{any_uses_outer, bindings_use_outer, uses_outer}
 use Rattle.smt_terms.specs.declared.library.arguments.Arguments.{Arguments}

@@ -10,7 +10,7 @@ use Rattle.smt_trees.specs.declared.view.Tree.{Tree}
 use Rattle.smt_trees.specs.declared.view.Tree.TheVariants as tree
 use Rattle.smt_trees.specs.declared.view.Trees.{Trees}
 use Rattle.smt_theory.specs.Words.{look_up}
-use Rattle.smt_theory.specs.declared.sort.Sort.{Sort}
+use Rattle.smt_theory.specs.Sort.{Sort}
 use Rattle.smt_forms.specs.Bindings.{are_attributes, are_bindings, are_named_trees}
 use Rattle.smt_forms.specs.Identifier.{Identifier, applied}
 use Rattle.smt_forms.specs.Labels.{labels_among, labels_in, labels_in_all, labels_in_bindings}

@@ -3,7 +3,7 @@ use Rattle.std.specs.List.{All}
 use Rattle.std.specs.Prelude.{◌≡◌, ℕ, List, [], ◌∷◌, ◌++◌, IfErr, Ok, OnOk, Result, false, length, map}
 use Rattle.smt_nodes.specs.Node.{Row}
 use Rattle.smt_theory.specs.Operators.{is_plain_operator}
-use Rattle.smt_theory.specs.declared.sort.Sort.{Sort}
+use Rattle.smt_theory.specs.Sort.{Sort}
 use Rattle.smt_trees.specs.Sexp.{Sexp}
 use Rattle.smt_trees.specs.View.{sexp_of}
 use Rattle.smt_faults.specs.Outcome.{Tells}

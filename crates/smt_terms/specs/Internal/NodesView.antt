@@ -9,7 +9,7 @@ use Rattle.smt_theory.specs.Operators.{is_plain_operator, op_by}
 use Rattle.smt_theory.specs.Words.{look_up}
 use Rattle.smt_theory.specs.declared.op.Op.{Op}
 use Rattle.smt_theory.specs.declared.op.OpFault.{OpFault}
-use Rattle.smt_theory.specs.declared.sort.Sort.{Sort}
+use Rattle.smt_theory.specs.Sort.{Sort}
 use Rattle.smt_trees.specs.Sexp.{Sexp, Sexps}
 use Rattle.smt_terms.specs.Denotes.{AreBound, AreDenoted, Denotes, Head, IsLonger, Slots, Table}
 use Rattle.smt_terms.specs.Denotes.{applied_node, node_alone, node_of}

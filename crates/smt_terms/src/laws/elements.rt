@@ -6,8 +6,8 @@ ghost use Rattle.smt_trees.specs.Sexp.{Sexp, Sexps, Atom, Cons, Items, Nil, Rese
 ghost use Rattle.smt_trees.specs.declared.reserved.Word.TheVariants.{As, DeclareFun};
 ghost use Rattle.smt_theory.specs.Operators.{is_plain_operator};
 ghost use Rattle.smt_theory.specs.Words.{look_up};
-ghost use Rattle.smt_theory.specs.declared.sort.Sort.{Sort};
-ghost use Rattle.smt_theory.specs.declared.sort.Sort.TheVariants.{Free};
+ghost use Rattle.smt_theory.specs.Sort.{Sort};
+ghost use Rattle.smt_theory.specs.Sort.{Free};
 ghost use Rattle.smt_forms.specs.ElementNames.{is_numeral};
 ghost use Rattle.smt_forms.specs.ItemForm.{ItemForm};
 ghost use Rattle.smt_terms.specs.Checking.{sort_in};

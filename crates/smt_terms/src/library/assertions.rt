@@ -73,7 +73,7 @@ impl Library<'_> {
         ensures transient { self.new.transient ≡ self.old.transient }
     {
         let (checked, given) = self.check_whole(&[], Labels::new(self.alloc), term)?;
-        if !are_equal(checked.sort, Sort::Bool) {
+        if !are_equal(checked.sort, Sort::bool()) {
             return Err(TermFault::IllSorted);
         }
         self.add_labels(given.as_slice())?;

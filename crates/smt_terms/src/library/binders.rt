@@ -13,7 +13,7 @@ ghost use Rattle.smt_forms.specs.Variables.{is_among};
 ghost use Rattle.std.specs.Prelude.{if◌then◌else◌, not};
 ghost use Rattle.smt_forms.specs.Labels.{label_of_tree, labels_among};
 ghost use Rattle.smt_forms.specs.ScopeView.{scope_view};
-ghost use Rattle.smt_theory.specs.declared.sort.Sort.{Sort};
+ghost use Rattle.smt_theory.specs.Sort.{Sort};
 ghost use Rattle.smt_terms.specs.Internal.Calls.{IsSortedUnlessOpen, TellsOfLabel, TellsOfLabels, has_labels};
 ghost use Rattle.smt_terms.specs.Internal.DraftView.{IsPlaced, argument_sorts, placed_from, seen_by, sorts_from};
 ghost use Rattle.smt_terms.specs.Internal.Frames as frames;

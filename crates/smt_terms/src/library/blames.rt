@@ -3,12 +3,12 @@
 
 ghost use Rattle.std.specs.Prelude.{◌≡◌, [], IfOk, IfSome, Ok, Some, false};
 ghost use Rattle.smt_theory.specs.Sort.{is_same_sort};
-ghost use Rattle.smt_theory.specs.declared.sort.Sort as theory;
+ghost use Rattle.smt_theory.specs.Sort as theory;
 ghost use Rattle.smt_terms.specs.declared.blame.Blame.TheVariants.{Whole};
 ghost use Rattle.smt_trees.specs.Sexp.{Items};
 ghost use Rattle.smt_trees.specs.View.{sexp_of, sexps_of};
 ghost use Rattle.smt_faults.specs.declared.term_fault.TermFault.TheVariants as fault_of;
-ghost use Rattle.smt_theory.specs.declared.sort.Sort.TheVariants.{Bool as Boolean};
+ghost use Rattle.smt_theory.specs.Sort.{Boolean};
 ghost use Rattle.smt_forms.specs.ScopeView.{scope_view};
 ghost use Rattle.smt_terms.specs.Checking.{sort_in};
 ghost use Rattle.smt_terms.specs.Blame.{IsBlamed, IsFirstTold, IsToldOver, IsToldWhole, whole_blame};
@@ -45,7 +45,7 @@ impl Library<'_> {
         ensures whole { (s : Signature) → StandsFor self.now s
             → IsToldWhole Boolean (sort_in (in_assertion (names_of s)) [] (sexp_of term.entry)) result }
     {
-        self.blame_of_term(&[], Labels::new(self.alloc), term, Sort::Bool)
+        self.blame_of_term(&[], Labels::new(self.alloc), term, Sort::bool())
     }
 
     /// The same of terms that are assumed, each of which has to be a formula without labels: what is to blame for the
@@ -74,7 +74,7 @@ impl Library<'_> {
         ensures first { (sort : theory.Sort) → sort_in (names_of_library self.now) [] (sexp_of first.entry) ≡ Ok sort
             → is_same_sort sort Boolean ≡ false → IfOk result (λ found. found ≡ Some (Whole sort Boolean)) }
     {
-        match self.blame_of_term(&[], Labels::refused(self.alloc), first, Sort::Bool) {
+        match self.blame_of_term(&[], Labels::refused(self.alloc), first, Sort::bool()) {
             Ok(None) => self.blame_among(terms),
             Ok(Some(blame)) => Ok(Some(blame)),
             Err(Memory) => Err(Memory),
@@ -87,7 +87,7 @@ impl Library<'_> {
     {
         match self.first_refused(terms) {
             Ok(Some(term)) => {
-                self.blame_of_term(&[], Labels::refused(self.alloc), term, Sort::Bool)
+                self.blame_of_term(&[], Labels::refused(self.alloc), term, Sort::bool())
             }
             Ok(None) => Ok(None),
             Err(Memory) => Err(Memory),
@@ -288,7 +288,7 @@ impl Library<'_> {
 // Whether a term of which this is found is a formula.
 fn is_bool(checked: Result<CheckedTerm, TermFault>) -> Result<bool, Memory> {
     match checked {
-        Ok(checked) => Ok(are_equal(checked.sort, Sort::Bool)),
+        Ok(checked) => Ok(are_equal(checked.sort, Sort::bool())),
         Err(TermFault::Memory) => Err(Memory),
         Err(_) => Ok(false),
     }

@@ -7,7 +7,7 @@ ghost use Rattle.smt_trees.specs.Sexp.{Atom, Binary, Cons, Hexadecimal, Items, N
 ghost use Rattle.smt_trees.specs.declared.reserved.Word.TheVariants.{Underscore};
 ghost use Rattle.smt_trees.specs.View.{sexp_of, sexps_of};
 ghost use Rattle.smt_theory.specs.Operators.{op_by};
-ghost use Rattle.smt_theory.specs.Ranks.{are_exactly};
+ghost use Rattle.smt_theory.specs.Shapes.{are_exactly};
 ghost use Rattle.smt_theory.specs.Width.{width_of};
 ghost use Rattle.smt_theory.specs.Words.{look_up};
 ghost use Rattle.smt_terms.specs.Checking as checking;
@@ -32,7 +32,7 @@ use crate::sorts;
 use smt_faults::{TermFault, TermFlaw};
 use smt_forms::{Identifier, Scope, applied_identifier, indexed_identifier};
 use smt_nodes::{Node, Nodes, TermId};
-use smt_theory::{Op, OpFault, Sort, Width, op_of, plain_op_of, plain_rank, rank};
+use smt_theory::{LiteralKind, Op, OpFault, Sort, Width, op_of, plain_op_of, plain_rank, rank};
 use smt_trees::{Tree, Trees};
 
 impl Library<'_> {
@@ -86,7 +86,7 @@ impl Library<'_> {
         push_literal(
             &self.nodes,
             draft,
-            &Node::Numeral(digits),
+            &Node::Literal(LiteralKind::Numeral, digits),
             self.sort_of_numeral(),
             around,
         )
@@ -113,7 +113,7 @@ impl Library<'_> {
         push_literal(
             &self.nodes,
             draft,
-            &Node::Hex(digits),
+            &Node::Literal(LiteralKind::Hexadecimal, digits),
             self.sort_of_digits(4, digits),
             around,
         )
@@ -140,7 +140,7 @@ impl Library<'_> {
         push_literal(
             &self.nodes,
             draft,
-            &Node::Bin(digits),
+            &Node::Literal(LiteralKind::Binary, digits),
             self.sort_of_digits(1, digits),
             around,
         )
@@ -150,7 +150,7 @@ impl Library<'_> {
         ensures { result ≡ integers (names_of_library self.now).theories }
     {
         if self.sorts.theories.ints {
-            Ok(Sort::Int)
+            Ok(Sort::int())
         } else {
             Err(TermFlaw::Unknown)
         }
@@ -451,7 +451,19 @@ impl Library<'_> {
 pub(super) fn are_same(parameters: &[Sort], args: &[Sort]) -> bool
     ensures { result ≡ are_exactly parameters.now args.now }
 {
-    args == parameters
+    let mut left = args;
+    let mut wanted = parameters;
+    while let Some((arg, rest)) = left.split_first() {
+        let Some((sort, others)) = wanted.split_first() else {
+            return false;
+        };
+        if !arg.is_same(*sort) {
+            return false;
+        }
+        left = rest;
+        wanted = others;
+    }
+    wanted.is_empty()
 }
 
 // Whether an identifier is the plain name of a variable in scope.

@@ -4,7 +4,7 @@
 ghost use Rattle.std.specs.Prelude.{◌≡◌, ◌&&◌, map, option_map, None, Some, Ok, Err, Option, OnOk, OnErr, IfErr};
 ghost use Rattle.std.specs.Prelude.{IfOk, []};
 ghost use Rattle.smt_trees.specs.View.{sexp_of};
-ghost use Rattle.smt_theory.specs.Ranks.{are_exactly};
+ghost use Rattle.smt_theory.specs.Shapes.{are_exactly};
 ghost use Rattle.smt_theory.specs.Sort.{is_same_sort};
 ghost use Rattle.smt_terms.specs.Contents.{Extends, contents_of};
 ghost use Rattle.smt_terms.specs.Internal.LibraryView.{rank_of};

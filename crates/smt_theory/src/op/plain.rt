@@ -3,6 +3,8 @@
 ghost use Rattle.std.specs.Prelude.{◌≡◌, IfSome, IfNone, IsTrue};
 ghost use Rattle.smt_theory.specs.PlainOp.{has_number, op_of_plain};
 
+use crate::op::bits_ops::plain_bits;
+use crate::op::ints_ops::plain_ints;
 use crate::op::{
     Arithmetic, BitsBinary, BitsComparison, BitsFolded, BitsOp, BitsUnary, Comparison, CoreOp,
     IntsOp, Op,
@@ -55,43 +57,5 @@ impl PlainOp {
             Op::Ints(op) => plain_ints(op),
             Op::Bits(op) => plain_bits(op),
         }
-    }
-}
-
-// The plain form of an operator on integers.
-#[inline(always)]
-fn plain_ints(op: IntsOp) -> Option<PlainOp>
-    ensures same { IfSome result (λ plain. op_of_plain plain ≡ Op.Ints op) }
-    ensures none { IfNone result (IsTrue (has_number (Op.Ints op))) }
-{
-    match op {
-        IntsOp::Arithmetic(op) => Some(PlainOp::Arithmetic(op)),
-        IntsOp::Comparison(op) => Some(PlainOp::Order(op)),
-        IntsOp::Mod => Some(PlainOp::Mod),
-        IntsOp::Abs => Some(PlainOp::Abs),
-        IntsOp::Divisible(_) => None,
-    }
-}
-
-// The plain form of an operator on bit vectors.
-#[inline(always)]
-fn plain_bits(op: BitsOp) -> Option<PlainOp>
-    ensures same { IfSome result (λ plain. op_of_plain plain ≡ Op.Bits op) }
-    ensures none { IfNone result (IsTrue (has_number (Op.Bits op))) }
-{
-    match op {
-        BitsOp::Concat => Some(PlainOp::Concat),
-        BitsOp::Unary(op) => Some(PlainOp::Unary(op)),
-        BitsOp::Folded(op) => Some(PlainOp::Folded(op)),
-        BitsOp::Binary(op) => Some(PlainOp::Binary(op)),
-        BitsOp::Comparison(op) => Some(PlainOp::BitsOrder(op)),
-        BitsOp::Comp => Some(PlainOp::Comp),
-        BitsOp::Constant(_, _) => None,
-        BitsOp::Extract(_, _) => None,
-        BitsOp::Repeat(_) => None,
-        BitsOp::ZeroExtend(_) => None,
-        BitsOp::SignExtend(_) => None,
-        BitsOp::RotateLeft(_) => None,
-        BitsOp::RotateRight(_) => None,
     }
 }

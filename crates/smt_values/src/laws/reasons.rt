@@ -3,8 +3,8 @@
 ghost use Rattle.std.specs.Prelude.{◌≡◌, ℕ, List, Option, Some, None, IsTrue, length, map, slice_get};
 ghost use Rattle.smt_theory.specs.Ranks.{HasRank};
 ghost use Rattle.smt_theory.specs.declared.op.Op.{Op};
-ghost use Rattle.smt_theory.specs.declared.sort.Sort.{Sort};
-ghost use Rattle.smt_theory.specs.declared.sort.Sort.TheVariants.{Int};
+ghost use Rattle.smt_theory.specs.Sort.{Sort};
+ghost use Rattle.smt_theory.specs.Sort.{Int};
 ghost use Rattle.smt_values.specs.Element.{AreOfSorts, Element};
 ghost use Rattle.smt_values.specs.KnownOperations.{known_step};
 ghost use Rattle.smt_values.specs.Reasons.{divides_by_zero, open_reason, reason};

@@ -2,7 +2,7 @@ use Rattle.std.proofs.Common.{◌∙◌, ◌+◌, ◌∷◌, List, Some, ap, ref
 use Rattle.smt_nodes.specs.Literals.{literal_number, spelled}
 use Rattle.smt_nodes.specs.NodeView.{node_view}
 use Rattle.smt_values.specs.Element.{known_element}
-use Rattle.smt_values.specs.Literals.{bin_element, hex_element, name_element, numeral_element}
+use Rattle.smt_values.specs.Literals.{literal_element, name_element}
 use Rattle.smt_machine.specs.Internal.Parts.{meaning}
 use Rattle.smt_machine.specs.Internal.States.{state_of}
 use Rattle.smt_machine.specs.Internal.Tasks.{IsPlanned, visits}
@@ -13,36 +13,17 @@ use Rattle.smt_machine.proofs.RunLemmas.{visit_planned, visited}
 use Rattle.smt_machine.proofs.StepLemmas.{if_done}
 use Rattle.smt_machine.proofs.machine.Machine.visit_node.Goals as goal
 
-pub hex_of-requires : goal.hex_of-requires
-hex_of-requires c = c.literal-in-Hex.ensures ∙ ap literal_number (sym c.requires.here)
-    ∙ ap (λ n. spelled (node_view n)) c.in-Hex.is
+pub literal_of-requires : goal.literal_of-requires
+literal_of-requires c = c.literal.ensures ∙ ap literal_number (sym c.requires.here)
+    ∙ ap (λ n. spelled (node_view n)) c.in-Literal.is
 
-pub bin_of-requires : goal.bin_of-requires
-bin_of-requires c = c.literal-in-Bin.ensures ∙ ap literal_number (sym c.requires.here)
-    ∙ ap (λ n. spelled (node_view n)) c.in-Bin.is
-
-pub returns-in-Numeral : goal.returns-in-Numeral
-returns-in-Numeral c = if_done c.leave.result c.leave.ensures
-    (λ is nodes at. visited nodes c.args.number (Some (Known (numeral_element c.in-Numeral.field-0.now)))
-    (known_element c.numeral_of.result) c.args.self.now c.leave.new.self
-    (sym (ap (λ n. Some (meaning c.args.from.now n)) c.in-Numeral.is) ∙ at) (λ k. refl)
-    (sym (c.numeral_of.ensures c.in-Numeral.field-0.now
-    (c.literal.ensures ∙ ap literal_number (sym c.requires.here) ∙ ap (λ n. spelled (node_view n)) c.in-Numeral.is)))
-    is c.requires.based)
-
-pub returns-in-Hex : goal.returns-in-Hex
-returns-in-Hex c = if_done c.leave-in-Hex.result c.leave-in-Hex.ensures
-    (λ is nodes at. visited nodes c.args.number (Some (Known (hex_element c.in-Hex.digits.now)))
-    (known_element c.hex_of.result) c.args.self.now c.leave-in-Hex.new.self
-    (sym (ap (λ n. Some (meaning c.args.from.now n)) c.in-Hex.is) ∙ at) (λ k. refl)
-    (sym c.hex_of.ensures) is c.requires.based)
-
-pub returns-in-Bin : goal.returns-in-Bin
-returns-in-Bin c = if_done c.leave-in-Bin.result c.leave-in-Bin.ensures
-    (λ is nodes at. visited nodes c.args.number (Some (Known (bin_element c.in-Bin.digits.now)))
-    (known_element c.bin_of.result) c.args.self.now c.leave-in-Bin.new.self
-    (sym (ap (λ n. Some (meaning c.args.from.now n)) c.in-Bin.is) ∙ at) (λ k. refl)
-    (sym c.bin_of.ensures) is c.requires.based)
+pub returns-in-Literal : goal.returns-in-Literal
+returns-in-Literal c = if_done c.leave.result c.leave.ensures
+    (λ is nodes at. visited nodes c.args.number
+    (Some (Known (literal_element c.in-Literal.kind c.in-Literal.digits.now)))
+    (known_element c.literal_of.result) c.args.self.now c.leave.new.self
+    (sym (ap (λ n. Some (meaning c.args.from.now n)) c.in-Literal.is) ∙ at) (λ k. refl)
+    (sym c.literal_of.ensures) is c.requires.based)
 
 pub returns-in-Element : goal.returns-in-Element
 returns-in-Element c = if_done c.leave-in-Element.result c.leave-in-Element.ensures

@@ -16,6 +16,7 @@ use Rattle.smt_terms.proofs.ContentsLemmas.{extends_on, grown_by, nothing_more}
 use Rattle.smt_terms.proofs.DenotesLemmas.{denotes_kept}
 use Rattle.smt_terms.proofs.StandsLemmas.{and_more, stands_kept, under, under_more, whole}
 use Rattle.smt_terms.proofs.KeptTermLemmas.{checked_keeps, checked_longer}
+use Rattle.smt_theory.specs.Sort.{is_same_sort}
 use Rattle.smt_terms.proofs.library.Library.assert_checked.Goals as goal
 
 pub add_labels-requires : goal.add_labels-requires
@@ -50,7 +51,7 @@ returns-in_err-checked-clause-refused c =
 pub returns-then-not-are_equal-clause-refused : goal.returns-then-not-are_equal-clause-refused
 returns-then-not-are_equal-clause-refused c = λ s stands.
     inr (asserted_ill c.args.self.now s (labels_view c.new.result) (sexp_of c.args.term) c.in_ok-checked.checked.sort
-    stands c.new.ensures.view c.in_ok-checked.ensures.sort (sym c.are_equal.ensures ∙ c.if-not-are_equal.true))
+    stands c.new.ensures.view c.in_ok-checked.ensures.sort (ap (λ s. is_same_sort c.in_ok-checked.checked.sort s) (sym c.bool.ensures) ∙ (sym c.are_equal.ensures ∙ c.if-not-are_equal.true)))
 
 pub returns-then-not-are_equal-clause-grown : goal.returns-then-not-are_equal-clause-grown
 returns-then-not-are_equal-clause-grown c =
@@ -86,7 +87,7 @@ returns-clause-asserted c = λ s stands.
     (c.in_ok-checked.ensures.node (ready (terms_in (contents_of old)) s stands.terms)).1 in (
       map label_entry given,
       asserted_by old s labels given term sort stands c.new.ensures.view c.in_ok-checked.ensures.sort
-          (sym c.are_equal.ensures ∙ c.if-not-are_equal.false) c.in_ok-checked.ensures.given.0
+          (ap (λ s. is_same_sort sort s) (sym c.bool.ensures) ∙ (sym c.are_equal.ensures ∙ c.if-not-are_equal.false)) c.in_ok-checked.ensures.given.0
           c.in_ok-checked.ensures.given.1,
       whole bodies (contents_of c.add_labels.new.self) (with_entries s (map label_entry given))
           (labels_added (λ l. l.node) before.nodes _ given c.in_ok-add_labels.ensures.bodies kept.bodies

@@ -1,5 +1,5 @@
 use Rattle.std.proofs.Common.{ℕ, List, true, map, ap, sym, ◌∙◌}
-use Rattle.smt_theory.specs.declared.sort.Sort.{Sort}
+use Rattle.smt_theory.specs.Sort.{Sort}
 use Rattle.smt_forms.specs.ItemView.{item_view}
 use Rattle.smt_forms.specs.ScopeView.{scope_view}
 use Rattle.smt_terms.specs.Items.{has_rank_of}

@@ -1,7 +1,7 @@
 use Rattle.std.proofs.Common.{◌≡◌, ◌++◌, [], ℕ, List, map}
 use Rattle.smt_trees.specs.Sexp.{weight_all}
 use Rattle.smt_trees.specs.View.{sexp_of, sexps_of}
-use Rattle.smt_theory.specs.declared.sort.Sort.{Sort}
+use Rattle.smt_theory.specs.Sort.{Sort}
 use Rattle.smt_terms.specs.Internal.SoFar.{AreGivenOf}
 use Rattle.smt_terms.specs.Checking.{flaw_of_labels}
 use Rattle.smt_terms.specs.Internal.LabelsView.{labels_view}

@@ -2,7 +2,7 @@
 use Rattle.std.proofs.Common.{◌≡◌, ℕ, List, ◌++◌, ◌∷◌, [], length, map, refl, ap, ◌∙◌}
 use Rattle.std.proofs.lemmas.List.{map-append}
 use Rattle.smt_nodes.specs.Nodes.{rows_of}
-use Rattle.smt_theory.specs.declared.sort.Sort.{Sort}
+use Rattle.smt_theory.specs.Sort.{Sort}
 use Rattle.smt_terms.specs.Contents.{contents_of, declaration_view}
 use Rattle.smt_terms.specs.Denotes.{Head}
 use Rattle.smt_terms.specs.Internal.LibraryView.{abbreviations_of, ranks_of_library}

@@ -1,4 +1,5 @@
 use Rattle.smt_trees.specs.Sexp.{Atom, Hexadecimal}
+use Rattle.smt_theory.specs.declared.literal.LiteralKind.TheVariants as literal
 use Rattle.smt_nodes.specs.Node as node
 use Rattle.smt_terms.specs.Internal.NodesView.{AddsNode, Stands}
 use Rattle.smt_terms.proofs.NodeLemmas.{if_answered, literal_stands}
@@ -7,8 +8,8 @@ use Rattle.smt_terms.proofs.library.Library.push_hex.Goals as goal
 pub returns-clause-node : goal.returns-clause-node
 returns-clause-node c =
     let digits = c.args.digits.now in
-    if_answered c.push_literal.result (AddsNode c.args.self.now.nodes c.args.draft.now c.push_literal.new.draft c.args.around (node.Hexadecimal digits))
+    if_answered c.push_literal.result (AddsNode c.args.self.now.nodes c.args.draft.now c.push_literal.new.draft c.args.around (node.Literal literal.Hexadecimal digits))
     (Stands c.args.self.now c.args.draft.now c.push_literal.new.draft c.args.around (Atom Hexadecimal digits))
     (λ found adds. literal_stands c.args.self.now c.args.draft.now c.push_literal.new.draft c.args.around (Atom Hexadecimal digits)
-    (node.Hexadecimal digits) found c.push_literal.ensures.longer adds tt (λ t slots next i is. is))
+    (node.Literal literal.Hexadecimal digits) found c.push_literal.ensures.longer adds tt (λ t slots next i is. is))
     c.push_literal.ensures.added

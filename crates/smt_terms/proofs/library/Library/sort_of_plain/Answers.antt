@@ -1,5 +1,5 @@
 use Rattle.std.proofs.Common.{ap, sym, ◌∙◌}
-use Rattle.smt_theory.specs.Ranks.{are_exactly}
+use Rattle.smt_theory.specs.Shapes.{are_exactly}
 use Rattle.smt_terms.specs.Internal.DraftView.{sorts_from, terms_from}
 use Rattle.smt_terms.proofs.HeadLemmas.{some_head}
 use Rattle.smt_terms.proofs.library.Library.sort_of_plain.Goals as goal

@@ -1,7 +1,7 @@
 use Rattle.std.proofs.Common.{Ok, option_map, ap, sym, subst, ◌∙◌}
 use Rattle.smt_trees.specs.Sexp.{Atom, Symbol}
 use Rattle.smt_nodes.specs.Node as node
-use Rattle.smt_theory.specs.declared.sort.Sort.{Sort}
+use Rattle.smt_theory.specs.Sort.{Sort}
 use Rattle.smt_terms.specs.Checking as checking
 use Rattle.smt_terms.specs.Internal.DraftView.{is_open, seen_by}
 use Rattle.smt_terms.specs.Internal.LibraryView.{names_of_library}

@@ -1,5 +1,5 @@
 use Rattle.std.proofs.Common.{◌≡◌, ◌∷◌, [], List, ap, arith, length, refl, ◌∙◌}
-use Rattle.smt_theory.specs.declared.sort.Sort.{Sort}
+use Rattle.smt_theory.specs.Sort.{Sort}
 use Rattle.smt_trees.specs.Sexp.{Atom, Cons, Items, Symbol}
 use Rattle.smt_trees.specs.View.{sexps_of}
 use Rattle.smt_terms.specs.Internal.Frames.{variables_of}

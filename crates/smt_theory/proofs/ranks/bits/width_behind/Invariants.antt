@@ -1,9 +1,0 @@
-use Rattle.std.proofs.Common.{◌≡◌, length}
-use Rattle.smt_theory.specs.Ranks.{width_behind}
-use Rattle.smt_theory.proofs.ranks.bits.width_behind.Given as goal
-
-abbrev pub invariant-loop-next : goal.invariant-loop-next
-invariant-loop-next l = width_behind l.fn.before l.fn.args ≡ width_behind l.width l.left
-
-abbrev pub decreases-loop-next : goal.decreases-loop-next
-decreases-loop-next l = length l.left
