@@ -335,11 +335,11 @@ explains F3 off '(declare-sort U 0)(define-sort V () U)(declare-const c U)(check
     's:1:58: check 1, command 4: (check-sat)' 'a:1:6: item 1: (define-fun c () U V!val!0)' '    F3: a name, a sort or a literal is unknown there' \
     '    unknown: V!val!0'
 
-# A term that names an element costs a step, and a name that is too long leaves it open.
+# A term that names an element costs a step, and a name may be long.
 explains - off '(declare-sort U 0)(declare-const c U)(declare-const d U)(assert (= c d))(check-sat)(get-model)' \
     'sat ((define-fun c () U (as @aaaaaaaaaaaaaaaaaaaaaaaaaaaaaaaaaaaaaaaaaa U))(define-fun d () U (as @b U)))' \
-    's:1:73: check 1, command 5: (check-sat)' 's:1:57: claim, command 4: (assert (= c d))' \
-    'a:1:6: open, in c: (as @aaaaaaaaaaaaaaaaaaaaaaaaaaaaaaaaaaaaaaaaaa U)' '    an element whose name has over 31 bytes' 'a:1:5: model'
+    's:1:73: check 1, command 5: (check-sat)' 's:1:57: claim, command 4: (assert (= c d))' 's:1:57: false: (= c d)' \
+    '    c = @aaaaaaaaaaaaaaaaaaaaaaaaaaaaaaaaaaaaaaaaaa, d = @b' 'a:1:6: item c' 'a:1:76: item d' 'a:1:5: model'
 printf '%s' '(declare-sort U 0)(declare-const c U)(assert (= c c))(check-sat)(get-model)' >"$work/s"
 printf '%s' 'sat ((define-fun c () U (as @a U)))' >"$work/a"
 "$program" --explain --profile wide --steps 4 --print-success off "$work/s" "$work/a" >"$work/told" || [ $? = 2 ]

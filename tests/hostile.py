@@ -285,7 +285,12 @@ def main():
                 name, size / 1e6, " ".join(cells), took.memory / 1e6, took.memory / size, took.last), flush=True)
             if chosen.bound and shape.explained:
                 _, plain = measured(words + ["--profile", "wide"], shape, shape.size // chosen.part, work, chosen.patience)
-                if took.seconds > TIMES * plain.seconds + MORE or took.memory > TIMES * plain.memory + OWN:
+                seconds = took.seconds
+                # (what else runs may take the processor's caches: the least of three is the run's own)
+                for _ in range(2):
+                    if seconds > TIMES * plain.seconds + MORE:
+                        seconds = min(seconds, measured(words + explained, shape, shape.size // chosen.part, work, chosen.patience)[1].seconds)
+                if seconds > TIMES * plain.seconds + MORE or took.memory > TIMES * plain.memory + OWN:
                     print("hostile: %s: without its explanation %.2f s, %.1f MB" % (name, plain.seconds, plain.memory / 1e6))
                     wrong = 1
             if chosen.bound and (took.seconds > (shape.seconds or chosen.patience) or took.memory > OWN + shape.memory * size):

@@ -16,13 +16,12 @@ class Open:
 OPEN = Open()
 # An element of a declared sort, by its name.
 Abstract = namedtuple("Abstract", "name")
-LONGEST = 31
 LOWEST, HIGHEST = -(2**127), 2**127 - 1
 
 
 def element(name):
-    """The element of this name; not known where the name is too long."""
-    return Abstract(name) if len(name) <= LONGEST and "\0" not in name else OPEN
+    """The element of this name."""
+    return Abstract(name)
 
 
 def known(number):

@@ -75,7 +75,7 @@ TWO_MEANINGS += [("item", "as"), ("abbreviation", "body"), ("abbreviation", "ite
 TWO_MEANINGS += [("label", "told"), ("declared", "told"), ("none", "told"), ("abbreviation", "item")]
 TWO_MEANINGS += [("variable", where) for where in ("body", "as", "applied")]
 SORT_NAMES = ("U", "V", "S", "my sort", "U!val", "x", "uc_U", "Elem", "", "let", "!val!0", "_")
-# Sorts whose elements have names of 31 bytes, the longest that are known, and of 32.
+# Sorts whose elements have names of 31 bytes, and of 32.
 LONG_SORTS = ("a_sort_of_just_25_letters", "one_sort_of_all_26_letters")
 
 
@@ -600,7 +600,7 @@ class WideStory(Story):
         self.do(abbreviated if self.turn // 2 % 2 else [word("declare-sort"), symbol(name), numeral(0)])
 
     def aim_at_long_element(self):
-        """A constant whose value has a name of 31 bytes, which is known, or of 32."""
+        """A constant whose value has a name of 31 bytes, or of 32."""
         size = (31, 32)[self.turn % 2]
         self.fresh += 1
         constant = "long%d" % self.fresh

@@ -16,13 +16,21 @@ use crate::values::plain::plain_definitions;
 use anyhow::{Result, bail};
 use row_texts::{Field, want_key};
 use smt_eval::plain::{Closed, Definition};
-use smt_faults::TermFlaw;
+use smt_faults::{Memory, TermFlaw};
+use smt_names::Names;
 use smt_terms::Library;
 use smt_trees::{OwnedTree, Tree, Trees};
-use smt_values::Value;
+use smt_values::{ElementNumber, Value};
 use std::alloc::Global;
 use std::io;
 use std::io::Write;
+
+/// What a model defines, as trees, and the names of elements among them: the place of a name is its element's number.
+#[derive(Clone, Copy)]
+struct Defined<'a> {
+    definitions: &'a [Definition<'a>],
+    names: &'a Names,
+}
 
 /// Prints the results of a model and of terms over it, in order. It declares in the library the names that the
 /// model defines.
@@ -77,7 +85,26 @@ fn print_over<W: Write>(
     let Ok(definitions) = plain_definitions(alloc, &library, model) else {
         bail!("memory was refused");
     };
-    print_terms(alloc, out, script, model, definitions.as_slice(), terms)
+    let Ok(names) = element_names(alloc, &library) else {
+        bail!("memory was refused");
+    };
+    let defined = Defined {
+        definitions: definitions.as_slice(),
+        names: &names,
+    };
+    print_terms(alloc, out, script, model, defined, terms)
+}
+
+// The names of the elements that a model names, in the order of their numbers.
+fn element_names(alloc: Global, library: &Library<'_>) -> Result<Names, Memory> {
+    let mut names = Names::new(alloc);
+    for number in 0..u32::MAX {
+        match library.nodes().element_name(number) {
+            Some(name) => names.place(name)?,
+            None => break,
+        };
+    }
+    Ok(names)
 }
 
 fn print_terms<W: Write>(
@@ -85,7 +112,7 @@ fn print_terms<W: Write>(
     out: &mut W,
     script: &mut Library<'_>,
     model: Trees<'_>,
-    definitions: &[Definition<'_>],
+    defined: Defined<'_>,
     fields: &[Field],
 ) -> Result<()>
     requires { HoldsScript script.old }
@@ -95,7 +122,7 @@ fn print_terms<W: Write>(
             print_left(alloc, out, script, model, field)?;
         } else {
             want_key(field, "term")?;
-            print_value(alloc, out, script, model, definitions, field)?;
+            print_value(alloc, out, script, model, defined, field)?;
         }
     }
     Ok(())
@@ -141,16 +168,16 @@ fn print_value<W: Write>(
     out: &mut W,
     script: &mut Library<'_>,
     model: Trees<'_>,
-    definitions: &[Definition<'_>],
+    defined: Defined<'_>,
     field: &Field,
 ) -> Result<()>
     requires { HoldsScript script.old }
     ensures { (s : Signature) → StandsFor script.old s → StandsFor script.new s }
 {
     let tree = tree_of(alloc, field)?;
-    let by_tree = known_by_tree(alloc, script, definitions, tree.view())?;
+    let by_tree = known_by_tree(alloc, script, defined, tree.view())?;
     let by_node = known_by_node(script, model, tree.view())?;
-    write_value(out, field, &by_tree, &by_node)?;
+    write_value(out, defined.names, field, &by_tree, &by_node)?;
     Ok(())
 }
 
@@ -158,13 +185,14 @@ fn print_value<W: Write>(
 fn known_by_tree(
     alloc: Global,
     script: &Library<'_>,
-    definitions: &[Definition<'_>],
+    defined: Defined<'_>,
     tree: Tree<'_>,
 ) -> Result<Option<Value>> {
     let term = Closed {
         alloc,
         theories: script.theories(),
-        definitions,
+        definitions: defined.definitions,
+        names: defined.names,
         tree,
     };
     match term.value() {
@@ -177,14 +205,15 @@ fn known_by_tree(
 // term is refused, the flaw.
 fn write_value<W: Write>(
     out: &mut W,
+    names: &Names,
     field: &Field,
     by_tree: &Option<Value>,
     by_node: &Result<Option<Value>, TermFlaw>,
 ) -> io::Result<()> {
     write!(out, "{} => ", field.text)?;
-    write_known(out, by_tree)?;
+    write_known(out, names, by_tree)?;
     match by_node {
-        Ok(known) => write_other(out, by_tree, known)?,
+        Ok(known) => write_other(out, names, by_tree, known)?,
         Err(flaw) => write!(out, ", and no term: {flaw}")?,
     }
     writeln!(out)
@@ -192,30 +221,34 @@ fn write_value<W: Write>(
 
 fn write_other<W: Write>(
     out: &mut W,
+    names: &Names,
     by_tree: &Option<Value>,
     by_node: &Option<Value>,
 ) -> io::Result<()> {
     if by_node != by_tree {
         write!(out, ", but by its node ")?;
-        write_known(out, by_node)?;
+        write_known(out, names, by_node)?;
     }
     Ok(())
 }
 
-fn write_known<W: Write>(out: &mut W, known: &Option<Value>) -> io::Result<()> {
+fn write_known<W: Write>(out: &mut W, names: &Names, known: &Option<Value>) -> io::Result<()> {
     match known {
         Some(Value::Bool(value)) => write!(out, "{value}"),
         Some(Value::Bits(value)) => {
             let bits = value.width().bits();
             write!(out, "(_ bv{} {bits})", value.number())
         }
-        Some(Value::Abstract(name)) => write_name(out, name.as_bytes()),
+        Some(Value::Abstract(number)) => write_name(out, names, *number),
         Some(value) => write!(out, "{}", value.integer().unwrap_or(0)),
         None => write!(out, "open"),
     }
 }
 
-fn write_name<W: Write>(out: &mut W, name: &[u8]) -> io::Result<()> {
+fn write_name<W: Write>(out: &mut W, names: &Names, number: ElementNumber) -> io::Result<()> {
     out.write_all(b"the element ")?;
-    out.write_all(name)
+    match number.get() {
+        Some(place) if (place as usize) < names.len() => out.write_all(names.name(place as usize)),
+        _ => Ok(()),
+    }
 }

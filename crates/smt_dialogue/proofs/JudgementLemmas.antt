@@ -13,12 +13,34 @@ use Rattle.smt_values.specs.KnownOperations.{is_known}
 use Rattle.smt_machine.specs.Costs.{within}
 use Rattle.smt_eval.specs.Cost.{cost_over}
 use Rattle.smt_eval.specs.Known.{known_over}
+use Rattle.smt_eval.specs.Numbering.{in_numbers}
 use Rattle.smt_terms.specs.Signature.{Signature}
-use Rattle.smt_values.specs.Element.{Element, Truth}
+use Rattle.smt_values.specs.Element.{Abstract, Element, Integer, Truth, Vector}
 use Rattle.smt_report.specs.declared.claim.Claim.{Claim}
 use Rattle.smt_dialogue.specs.declared.claims.ReadClaim.{ReadClaim}
 use Rattle.smt_dialogue.specs.declared.judgement.Judgement.{Judgement}
 use Rattle.smt_dialogue.specs.declared.judgement.Judgement.TheVariants.{Refuted, TooLong}
+
+-- ---- values under numbers
+
+-- a truth value has no name
+pub truth_by_number : (names : List (List ℕ)) (known : Option Element) (b : Bool)
+    → in_numbers names known ≡ Some (Truth b) → known ≡ Some (Truth b)
+truth_by_number names None b is = is
+truth_by_number names (Some (Truth c)) b is = is
+truth_by_number names (Some (Integer z)) b is = is
+truth_by_number names (Some (Vector v)) b is = is
+truth_by_number names (Some (Abstract x)) b is = cc
+
+pub test_by_number : (names : List (List ℕ)) (known : Option Element) (b : Bool)
+    → is_known b known ≡ is_known b (in_numbers names known)
+test_by_number names None b = refl
+test_by_number names (Some (Truth c)) b = refl
+test_by_number names (Some (Integer z)) b = refl
+test_by_number names (Some (Vector v)) b = refl
+test_by_number names (Some (Abstract x)) b = refl
+
+-- ---- claims
 
 -- the first of two that is there
 abbrev pub or_first : Option Claim → Option Claim → Option Claim

@@ -24,7 +24,7 @@ use Rattle.smt_dialogue.specs.InForce.{flaw_of_pair, has_exited_after, need_afte
 use Rattle.smt_dialogue.specs.Pairs.{Pair, answers_taken, answers_then, next_of, pair_of, with_answer}
 use Rattle.smt_dialogue.specs.Report.{ArePaired}
 use Rattle.smt_dialogue.specs.Internal.AcceptedState.{Fits, options_of, state_behind}
-use Rattle.smt_dialogue.specs.Internal.PairingView.{AllNext, IsClosing, IsInTurn, IsNext, IsTurned, IsUnderWay}
+use Rattle.smt_dialogue.specs.Internal.PairingView.{AllNext, IsClosing, IsHeld, IsInTurn, IsNext, IsTurned, IsUnderWay}
 use Rattle.smt_dialogue.specs.Internal.PairingView.{Texts, turn_of}
 use Rattle.smt_dialogue.specs.Internal.TreeQueueView.{HasQueue, IsAhead, next_trees}
 use Rattle.smt_dialogue.specs.Internal.Turns.{IsTakenUp, taken_for}
@@ -155,44 +155,68 @@ answers_end x texts pairs later rest next none fault told ahead =
 
 -- ---- the next command
 
--- the command that was read is in turn
-pub command_read : (old new : Pairing) (texts : Texts) (pairs : List Pair) (later rest : Sexps) (t : OwnedTree)
-    (c : commands.Command) → old.command ≡ None → new.command ≡ Some t → new.dialogue ≡ old.dialogue
+-- the tree that was taken is in turn
+pub tree_taken : (old new : Pairing) (texts : Texts) (pairs : List Pair) (later rest : Sexps) (t : OwnedTree)
+    → old.command ≡ None → new.command ≡ Some t → new.dialogue ≡ old.dialogue
     → new.answers ≡ old.answers → old.script.next ≡ Some t
     → ((bytes : List ℕ) (text : TextSoFar) (left : Sexps)
     → HasQueue old.script bytes text (Cons (sexp_of t) left) → HasQueue new.script bytes text left)
-    → command_of (profile_of old.dialogue.stack) (sexp_of t) ≡ Ok c → has_exited_after pairs ≡ false
-    → IsUnderWay old texts pairs later rest
-    → IsUnderWay new texts pairs later rest × (is_some new.command ≡ true)
-command_read old new texts pairs later rest t c none some dialogue answers ready taken' read goes_on h =
+    → has_exited_after pairs ≡ false → IsUnderWay old texts pairs later rest
+    → IsNext None old new texts pairs later rest
+tree_taken old new texts pairs later rest t none some dialogue answers ready taken' goes_on h =
     let left : later ≡ h.left = subst
     (λ o. IsInTurn (profile_of old.dialogue.stack) o pairs later h.left) none h.in_turn in
     let behind = h.script_front.behind in
     let first : h.left ≡ Cons (sexp_of t) behind =
     h.script_front.begins ∙ ap (λ o. append (next_trees o) behind) ready in (
+      t,
+      some,
       record {
         left = behind;
-        in_turn = subst (λ o. IsInTurn (profile_of new.dialogue.stack) o pairs later behind) (sym some) (
-          c,
-          left ∙ first,
-          subst (λ d. command_of (profile_of d.stack) (sexp_of t) ≡ Ok c) (sym dialogue) read,
-          goes_on,
-        );
-        script_front = taken' texts.script_bytes texts.script behind
-            (subst (HasQueue old.script texts.script_bytes texts.script) first h.script_front);
-        answers_front = subst (λ f. HasQueue f texts.answers_bytes texts.answers rest) (sym answers)
-            h.answers_front;
+        first = left ∙ first;
+        goes_on = goes_on;
         early = h.early;
         stands = subst (λ d. Fits h.early (state_behind texts.taken d) pairs) (sym dialogue) h.stands;
-        closing = λ e. absurd (let empty : Cons (sexp_of t) behind ≡ Nil =
-            sym (left ∙ first) ∙
-            (subst (λ o. IsClosing (profile_of old.dialogue.stack) o texts later) none (h.closing e)).0 in cc);
-        paired =
-            subst (λ d. ArePaired (start_of d.stack) texts.script texts.answers pairs later rest)
-            (sym dialogue) h.paired;
+        way = λ c read. record {
+          left = behind;
+          in_turn = subst (λ o. IsInTurn (profile_of new.dialogue.stack) o pairs later behind) (sym some)
+              (c, left ∙ first, read, goes_on);
+          script_front = taken' texts.script_bytes texts.script behind
+              (subst (HasQueue old.script texts.script_bytes texts.script) first h.script_front);
+          answers_front = subst (λ f. HasQueue f texts.answers_bytes texts.answers rest) (sym answers)
+              h.answers_front;
+          early = h.early;
+          stands = subst (λ d. Fits h.early (state_behind texts.taken d) pairs) (sym dialogue) h.stands;
+          closing = λ e. absurd (let empty : Cons (sexp_of t) behind ≡ Nil =
+              sym (left ∙ first) ∙
+              (subst (λ o. IsClosing (profile_of old.dialogue.stack) o texts later) none (h.closing e)).0 in cc);
+          paired =
+              subst (λ d. ArePaired (start_of d.stack) texts.script texts.answers pairs later rest)
+              (sym dialogue) h.paired;
+        };
       },
-      ap is_some some,
     )
+
+-- a tree that was in turn stays so
+pub tree_stays : (x : Pairing) (texts : Texts) (pairs : List Pair) (later rest : Sexps) → true ≡ is_some x.command
+    → IsUnderWay x texts pairs later rest → IsNext None x x texts pairs later rest
+tree_stays x texts pairs later rest some h = by x.command refl
+  where
+    by : (o : Option OwnedTree) → x.command ≡ o → IsNext None x x texts pairs later rest
+    by None e = absurd (let none : true ≡ false = some ∙ ap is_some e in cc)
+    by (Some t) e =
+        let turn = subst (λ o. IsInTurn (profile_of x.dialogue.stack) o pairs later h.left) e h.in_turn in (
+          t,
+          e,
+          record {
+            left = h.left;
+            first = turn.1;
+            goes_on = turn.3;
+            early = h.early;
+            stands = h.stands;
+            way = λ c read. h;
+          },
+        )
 
 -- ---- the command in turn
 
@@ -333,12 +357,40 @@ turned_behind (turns.Waits closed) old middle new texts pairs later rest same h 
 turned_behind (turns.Ends fault) old middle new texts pairs later rest same h =
     (h.0, h.1, sym (same_turn old middle texts pairs later rest same) ∙ h.2)
 
--- where no turn came in its place, a command is in turn
+-- where no turn came in its place, a tree is in turn
 pub next_there : (o : Option Turn) (old new : Pairing) (texts : Texts) (pairs : List Pair) (later rest : Sexps)
     → o ≡ None → AllNext o old new → IsUnderWay old texts pairs later rest
-    → IsUnderWay new texts pairs later rest × (is_some new.command ≡ true)
+    → IsNext None old new texts pairs later rest
 next_there o old new texts pairs later rest none next h =
     subst (λ (t : Option Turn). IsNext t old new texts pairs later rest) none (next texts pairs later rest h)
+
+pub held_there : (o : Option Turn) (old new : Pairing) (texts : Texts) (pairs : List Pair) (later rest : Sexps)
+    (t : OwnedTree) → o ≡ None → new.command ≡ Some t → AllNext o old new → IsUnderWay old texts pairs later rest
+    → IsHeld t new texts pairs later rest
+held_there o old new texts pairs later rest t none some next h =
+    let n = next_there o old new texts pairs later rest none next h in
+    let same : n.0 ≡ t = let e : Some n.0 ≡ Some t = sym n.1 ∙ some in cc in
+    subst (λ (u : OwnedTree). IsHeld u new texts pairs later rest) same n.2
+
+-- a tree that is no command ends the dialogue
+pub refused_turn : (old new : Pairing) (texts : Texts) (pairs : List Pair) (later rest : Sexps) (t : OwnedTree)
+    (flaw : CommandFlaw) (line : Line) → IsHeld t new texts pairs later rest → new.dialogue ≡ old.dialogue
+    → command_of (profile_of new.dialogue.stack) (sexp_of t) ≡ Err flaw
+    → line ≡ lines.CommandFault (new.dialogue.commands + 1) flaw
+    → IsTurned (turns.Ends (Some line)) old new texts pairs later rest
+refused_turn old new texts pairs later rest t flaw line h same read is =
+    let start = start_of new.dialogue.stack in
+    let answers = record texts.answers { trees = rest } in (
+      h.early,
+      h.stands,
+      sym (same_turn old new texts pairs later rest same)
+          ∙ ap (turn_at start pairs answers texts.script.told texts.script.fault) h.first
+          ∙ ap (λ b. cond b (Ends (Some (lines.CommandFault (length pairs + 1) AfterExit)))
+          (turn_of_command start pairs (command_of (profile_of new.dialogue.stack) (sexp_of t)) answers)) h.goes_on
+          ∙ ap (λ r. turn_of_command start pairs r answers) read
+          ∙ ap (λ n. Ends (Some (lines.CommandFault (n + 1) flaw))) (sym h.stands.commands)
+          ∙ ap (λ (l : Line). Ends (Some l)) (sym is),
+    )
 
 pub is_ready : (next : Option OwnedTree) (texts : TextSoFar) (rest : Sexps) → IsAhead comes.Tree next texts rest
     → is_some next ≡ true

@@ -180,14 +180,18 @@ impl Pairing {
         ensures kept { IsBeginning (waiting self.old) (waiting self.new) }
         ensures cut { OnErr result (waiting self.new ≡ waiting self.old) }
     {
-        if let Some(instead) = self.next_command()? {
+        if let Some(instead) = self.next_tree()? {
             return Ok(instead);
         }
         let Some(tree) = &self.command else {
             unreachable!()
         };
-        let Ok(command) = read_command(self.dialogue.stack.profile(), tree.view()) else {
-            unreachable!()
+        let command = match read_command(self.dialogue.stack.profile(), tree.view()) {
+            Ok(command) => command,
+            Err(flaw) => {
+                let number = self.dialogue.commands + 1;
+                return Ok(Turn::Ends(Some(refused(number, flaw))));
+            }
         };
         let turn = take_up(&mut self.dialogue, &command, &mut self.answers)?;
         if let Turn::GoesOn = turn {
@@ -196,8 +200,8 @@ impl Pairing {
         Ok(turn)
     }
 
-    // Reads the next command of the script, if none is in turn. Where none can be read, returns the turn instead.
-    fn next_command(&mut self) -> Result<Option<Turn>, Memory>
+    // Takes the next tree of the script, if none is in turn. Where none can be taken, returns the turn instead.
+    fn next_tree(&mut self) -> Result<Option<Turn>, Memory>
         requires room { HasRoom self.old }
         ensures next { IfOk result (λ turn. AllNext turn self.old self.new) }
         ensures fed { IsFedAlike self.old self.new }
@@ -207,7 +211,7 @@ impl Pairing {
             return Ok(None);
         }
         match self.script.look()? {
-            Ahead::Tree => Ok(self.read_next()),
+            Ahead::Tree => Ok(self.take_next()),
             Ahead::Wait => Ok(Some(Turn::Waits { closed: false })),
             Ahead::End(Some(flaw)) => {
                 Ok(Some(Turn::Ends(Some(text_fault(Side::Script, flaw)))))
@@ -238,9 +242,8 @@ impl Pairing {
         }
     }
 
-    // Takes the ready tree as the one in turn, if it is a command. Where the command is refused, returns the turn that
-    // ends the dialogue.
-    fn read_next(&mut self) -> Option<Turn>
+    // Takes the ready tree as the one in turn. Behind an `exit`, returns the turn that ends the dialogue.
+    fn take_next(&mut self) -> Option<Turn>
         requires none { self.old.command ≡ None }
         requires ready { is_some self.old.script.next ≡ true }
         requires commands { self.old.dialogue.commands + 1 < 2 ^ 64 }
@@ -248,19 +251,14 @@ impl Pairing {
         ensures fed { IsFedAlike self.old self.new }
         ensures dialogue { self.new.dialogue ≡ self.old.dialogue }
     {
-        let number = self.dialogue.commands + 1;
         if self.dialogue.stack.exited() {
+            let number = self.dialogue.commands + 1;
             return Some(Turn::Ends(Some(refused(number, CommandFlaw::AfterExit))));
         }
         let Some(tree) = self.script.take() else {
             unreachable!()
         };
-        match read_command(self.dialogue.stack.profile(), tree.view()) {
-            Ok(_) => {
-                self.command = Some(tree);
-                None
-            }
-            Err(flaw) => Some(Turn::Ends(Some(refused(number, flaw)))),
-        }
+        self.command = Some(tree);
+        None
     }
 }

@@ -1,12 +1,11 @@
 -- What the name of an element means, and what is known of it.
-use Rattle.std.proofs.Common.{◌≡◌, ◌≢◌, ◌↔◌, inl, inr, ℕ, ◌≤◌, Bool, true, false, cond, not, ◌&&◌, ◌||◌, List}
-use Rattle.std.proofs.Common.{[], ◌∷◌, length, map, Option, Some, None, Result, Ok, Err, codes, refl, ap, ap₂, sym, ◌∙◌}
-use Rattle.std.proofs.Common.{subst, arith}
-use Rattle.std.specs.List.{All, list_any}
-use Rattle.std.specs.Prelude.{◌==◌, bytes_eq, nat_le, option_and_then, unwrap_or}
+use Rattle.std.proofs.Common.{◌≡◌, ◌≢◌, ◌↔◌, inl, inr, ℕ, Bool, true, false, cond, ◌&&◌, List}
+use Rattle.std.proofs.Common.{[], ◌∷◌, map, Option, Some, None, Result, Ok, Err, codes, refl, ap, ap₂, sym, ◌∙◌}
+use Rattle.std.proofs.Common.{subst}
+use Rattle.std.specs.List.{All}
+use Rattle.std.specs.Prelude.{bytes_eq, option_and_then, unwrap_or}
 use Rattle.std.proofs.lemmas.List.Elements.{All-head, All-tail}
 use Rattle.std.proofs.lemmas.Slice.Eq.{bytes_eq-Decides}
-use Rattle.std.proofs.lemmas.Bool.Decides.{nat_tests}
 use Rattle.smt_trees.specs.Sexp.{Sexp, Atom, Reserved, Items, Nil, Cons, Symbol}
 use Rattle.smt_trees.specs.declared.reserved.Word.TheVariants.{As}
 use Rattle.smt_theory.specs.Operators.{op_by}
@@ -15,17 +14,17 @@ use Rattle.smt_theory.specs.declared.op.Op.{Op}
 use Rattle.smt_theory.specs.declared.op.OpFault.{OpFault}
 use Rattle.smt_theory.specs.declared.theories.Theories.{Theories}
 use Rattle.smt_values.specs.Element.{Element, Truth, Abstract}
-use Rattle.smt_values.specs.Literals.{name_element}
-use Rattle.smt_values.specs.Names.{fits}
 use Rattle.smt_values.specs.Operations.{DivisionByZero, is_same}
 use Rattle.smt_forms.specs.ElementNames.{sort_of_element}
 use Rattle.smt_forms.specs.Identifier.{Plain}
+use Rattle.smt_values.specs.Element.{Naming}
 use Rattle.smt_terms.specs.Signature.{Entry, Signature}
-use Rattle.smt_eval.specs.Known.{KnownMeaning, known_after, known_defined, known_in, known_of, known_of_op}
+use Rattle.smt_eval.specs.Known.{KnownMeaning, by_name, known_after, known_defined, known_in, known_of, known_of_op}
 use Rattle.smt_eval.specs.Known.{known_operators, with_known}
 use Rattle.smt_eval.specs.Meaning.{Meaning, meaning_after, meaning_in, meaning_of_op, operators, value_over}
 use Rattle.smt_eval.specs.Meaning.{with_definition}
 use Rattle.smt_eval.specs.NamedElements.{IsNoOther, NamesElement, equation}
+use Rattle.smt_eval.proofs.EvaluatorLemmas.{element_kept}
 use Rattle.smt_eval.proofs.LetLemmas.{by_other_name}
 
 -- ---- names without a meaning of their own
@@ -105,26 +104,26 @@ module _ (z : DivisionByZero) (s : Signature) (r : List (List ℕ × Element)) (
 -- ---- what is known
 
 undefined_known : (m : KnownMeaning) (es : List Entry) (x : List ℕ) (args : List (Option Element))
-    → All (λ (e : Entry). e.name ≢ x) es → known_after m es (Plain x) args ≡ m (Plain x) args
+    → All (λ (e : Entry). e.name ≢ x) es → (known_after m es).gives (Plain x) args ≡ m.gives (Plain x) args
 undefined_known m [] x args none = refl
 undefined_known m (e ∷ es) x args none =
     undefined_known (with_known m e) es x args (All-tail (λ (d : Entry). d.name ≢ x) e es none)
     ∙ by (bytes_eq x e.name) (bytes_eq-Decides x e.name).0
   where
     by : (b : Bool) → (b ≡ true → x ≡ e.name)
-        → cond b (known_defined m e.origin args) (m (Plain x) args) ≡ m (Plain x) args
+        → cond b (known_defined m e.origin args) (m.gives (Plain x) args) ≡ m.gives (Plain x) args
     by true is = absurd (All-head (λ (d : Entry). d.name ≢ x) e es none (sym (is refl)))
     by false is = refl
 
 -- what is known of the name of an element, by its form
 abbrev known_alone : List ℕ → Option Element
-known_alone x = option_and_then (λ sort. name_element x) (sort_of_element x)
+known_alone x = option_and_then (λ sort. by_name x) (sort_of_element x)
 
 no_known_operator : (theories : Theories) (x : List ℕ) → ((op : Op) → op_by theories x [] ≢ Ok op)
-    → known_operators theories (Plain x) [] ≡ known_alone x
+    → (known_operators by_name theories).gives (Plain x) [] ≡ known_alone x
 no_known_operator theories x none = by (op_by theories x []) refl
   where
-    by : (o : Result Op OpFault) → op_by theories x [] ≡ o → known_of_op o (Plain x) [] ≡ known_alone x
+    by : (o : Result Op OpFault) → op_by theories x [] ≡ o → known_of_op by_name o (Plain x) [] ≡ known_alone x
     by (Ok op) is = absurd (none op is)
     by (Err fault) is = refl
 
@@ -134,47 +133,31 @@ module _ (s : Signature) (r : List (List ℕ × Option Element)) where
 
   known_by_name : (x : List ℕ) → IsNoOther s (map (λ v. v.0) r) x → known_here (Atom Symbol x) ≡ known_alone x
   known_by_name x none =
-      ap (λ (o : Option (Option Element)). unwrap_or o (known_in s (Plain x) [])) (no_variable r x none.variable)
-      ∙ undefined_known (known_operators s.theories) s.entries x [] none.definition
+      ap (λ (o : Option (Option Element)). unwrap_or o ((known_in s).gives (Plain x) [])) (no_variable r x none.variable)
+      ∙ undefined_known (known_operators by_name s.theories) s.entries x [] none.definition
       ∙ no_known_operator s.theories x none.operator
 
-  name_kept : (x : List ℕ) (e : Element) (b : Bool) → cond b (Some (Abstract x)) None ≡ Some e → e ≡ Abstract x
-  name_kept x e true h = cc
-  name_kept x e false h = cc
-
   alone_kept : (x : List ℕ) (e : Element) (o : Option (List ℕ))
-      → option_and_then (λ sort. name_element x) o ≡ Some e → e ≡ Abstract x
+      → option_and_then (λ sort. by_name x) o ≡ Some e → e ≡ Abstract x
   alone_kept x e None h = cc
-  alone_kept x e (Some sort) h = name_kept x e (fits x) h
+  alone_kept x e (Some sort) h = cc
+
+  -- behind an `as` every element is known
+  pub qualified_name : (x : List ℕ) (sort : Sexp)
+      → known_here (Items (Cons (Reserved As) (Cons (Atom Symbol x) (Cons sort Nil)))) ≡ Some (Abstract x)
+  qualified_name x sort = ap (λ (f : Naming). f x) (element_kept (known_operators by_name s.theories) s.entries)
 
   pub known_name : (t : Sexp) (x : List ℕ) (e : Element) → NamesElement s (map (λ v. v.0) r) t x
       → known_here t ≡ Some e → e ≡ Abstract x
-  known_name t x e (inl (sort, is)) h = name_kept x e (fits x) (sym (ap known_here is) ∙ h)
+  known_name t x e (inl (sort, is)) h =
+      let same : Some (Abstract x) ≡ Some e = sym (qualified_name x sort) ∙ sym (ap known_here is) ∙ h in cc
   known_name t x e (inr (is, none)) h =
       alone_kept x e (sort_of_element x) (sym (ap known_here is ∙ known_by_name x none) ∙ h)
 
-  -- ---- names that are held
-
-  no_zero : (x : List ℕ) → All (λ b. b ≢ 0) x → list_any (λ b. b == 0) x ≡ false
-  no_zero [] none = refl
-  no_zero (b ∷ bs) none =
-      let first : b ≢ 0 = All-head (λ c. c ≢ 0) b bs none in
-      let is : (b == 0) ≡ false = grind (arith, nat_tests) in
-      ap (λ c. c || list_any (λ b. b == 0) bs) is ∙ no_zero bs (All-tail (λ c. c ≢ 0) b bs none)
-
-  held : (x : List ℕ) → length x ≤ 31 → All (λ b. b ≢ 0) x → name_element x ≡ Some (Abstract x)
-  held x short none =
-      let is : nat_le (length x) 31 ≡ true = grind (arith, nat_tests) in
-      ap₂ (λ a b. cond (a && not b) (Some (Abstract x)) None) is (no_zero x none)
-
-  pub behind_as_held : (x : List ℕ) (sort : Sexp) → length x ≤ 31 → All (λ b. b ≢ 0) x
-      → known_here (Items (Cons (Reserved As) (Cons (Atom Symbol x) (Cons sort Nil)))) ≡ Some (Abstract x)
-  behind_as_held x sort short none = held x short none
-
   pub alone_held : (x sort : List ℕ) → IsNoOther s (map (λ v. v.0) r) x → sort_of_element x ≡ Some sort
-      → length x ≤ 31 → All (λ b. b ≢ 0) x → known_here (Atom Symbol x) ≡ Some (Abstract x)
-  alone_held x sort other form short none = known_by_name x other
-      ∙ ap (λ (o : Option (List ℕ)). option_and_then (λ sort. name_element x) o) form ∙ held x short none
+      → known_here (Atom Symbol x) ≡ Some (Abstract x)
+  alone_held x sort other form = known_by_name x other
+      ∙ ap (λ (o : Option (List ℕ)). option_and_then (λ sort. by_name x) o) form
 
   -- ---- two names of which is known
 
@@ -194,9 +177,9 @@ module _ (s : Signature) (r : List (List ℕ × Option Element)) where
       let f = p ∙ ap Some (known_name t x d left p) in
       let g = q ∙ ap Some (known_name u y e right q) in
       subst (λ (o : Option Element). ((o ≡ Some (Truth true)) ↔ (x ≡ y)) × ((o ≡ Some (Truth false)) ↔ (x ≢ y)))
-      (sym (undefined_known (known_operators s.theories) s.entries (codes "=")
+      (sym (undefined_known (known_operators by_name s.theories) s.entries (codes "=")
       (known_here t ∷ known_here u ∷ []) none
-      ∙ ap₂ (λ (a b : Option Element). known_operators s.theories (Plain (codes "=")) (a ∷ b ∷ [])) f g))
+      ∙ ap₂ (λ (a b : Option Element). (known_operators by_name s.theories).gives (Plain (codes "=")) (a ∷ b ∷ [])) f g))
       (same_known x y (bytes_eq x y) (bytes_eq-Decides x y).0 (bytes_eq-Decides x y).1)
     where
       same_known : (x y : List ℕ) (b : Bool) → (b ≡ true → x ≡ y) → (x ≡ y → b ≡ true)

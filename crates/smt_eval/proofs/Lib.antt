@@ -9,11 +9,11 @@ pub mod PlaceLemmas
 pub mod ScopeLemmas
 pub mod DefinitionLemmas
 pub mod GivenBodyLemmas
-pub mod ClosedLemmas
 pub mod FoundLemmas
 pub mod ReadLemmas
 pub mod RelatedValueLemmas
 pub mod RenamingLemmas
+pub mod NumberingLemmas
 pub mod SetAsideLemmas
 pub mod PlainLemmas
 pub mod ModelFaultLemmas
@@ -25,7 +25,6 @@ pub mod NodeValueLemmas
 pub mod NodeNameLemmas
 pub mod StructureNodeLemmas
 pub mod CostLemmas
-pub mod CountLemmas
 pub mod NodeCostLemmas
 pub mod NodeNameCostLemmas
 pub mod NodeLeastLemmas

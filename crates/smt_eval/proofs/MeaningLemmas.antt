@@ -1,6 +1,6 @@
 -- What is known of a term is true of its value.
 use Rattle.std.proofs.Common.{◌≡◌, ℕ, Bool, true, false, cond, List, [], ◌∷◌, ◌++◌, Option, Some, None}
-use Rattle.std.proofs.Common.{Result, Ok, Err, refl, sym, subst}
+use Rattle.std.proofs.Common.{Result, Ok, Err, refl, ap, sym, subst}
 use Rattle.std.specs.List.{zip}
 use Rattle.std.specs.Prelude.{unwrap_or, bytes_eq, is_some, length, option_and_then, option_map, pos, nat_lt, ◌*◌, ◌^◌}
 use Rattle.std.specs.Str.Parse.{digits_value}
@@ -15,58 +15,56 @@ use Rattle.smt_theory.specs.declared.op.OpFault.{OpFault}
 use Rattle.smt_theory.specs.declared.theories.Theories.{Theories}
 use Rattle.smt_values.specs.Element.{Element, Abstract, Integer, Vector, Agrees, AllAgree}
 use Rattle.smt_values.specs.KnownOperations.{known_step}
-use Rattle.smt_values.specs.Literals.{name_element, numeral_element}
-use Rattle.smt_values.specs.Names.{fits}
+use Rattle.smt_values.specs.Literals.{numeral_element}
 use Rattle.smt_values.specs.Operations.{DivisionByZero, operate}
 use Rattle.smt_forms.specs.ElementNames.{qualified_symbol, sort_of_element}
 use Rattle.smt_forms.specs.Heads.{begins_indexed}
 use Rattle.smt_forms.specs.Identifier.{Identifier, Plain, Indexed, applied, indexed, operator_of}
+use Rattle.smt_values.specs.Element.{Naming}
 use Rattle.smt_terms.specs.Signature.{Entry, Origin, Declared, Defined, Signature}
 use Rattle.smt_faults.specs.declared.term_flaw.TermFlaw.{TermFlaw}
 use Rattle.smt_eval.specs.Agreement.{AgreeBoth, AgreesWith}
-use Rattle.smt_eval.specs.Known.{KnownMeaning, known_by, known_of, knowns_bound, knowns_of, known_of_op}
+use Rattle.smt_eval.specs.Known.{KnownMeaning, by_name, known_by, known_of, knowns_bound, knowns_of, known_of_op}
 use Rattle.smt_eval.specs.Known.{known_operators, known_defined, other_known, with_known, known_after, known_in}
 use Rattle.smt_eval.specs.Meaning.{Meaning, element_by, value_of, values_bound, values_of, meaning_of_op}
 use Rattle.smt_eval.specs.Meaning.{element_of_symbol, operators, other_meaning, defined_value, with_definition}
 use Rattle.smt_eval.specs.Meaning.{meaning_after, meaning_in}
+use Rattle.smt_eval.proofs.EvaluatorLemmas.{element_kept}
 
 -- a variable in front agrees
-by_name : (b : Bool) (k : Option Element) (e : Element) (o : Option (Option Element)) (p : Option Element)
+in_front : (b : Bool) (k : Option Element) (e : Element) (o : Option (Option Element)) (p : Option Element)
     → Agrees k e → AgreeBoth o p → AgreeBoth (cond b (Some k) o) (cond b (Some e) p)
-by_name true k e o p here rest = here
-by_name false k e o p here rest = rest
+in_front true k e o p here rest = here
+in_front false k e o p here rest = rest
 
 -- what identifiers are known to mean is true of what they mean
 abbrev pub Means : KnownMeaning → Meaning → Type 0
 Means k m = (f : Identifier) (ks : List (Option Element)) (es : List Element) → AllAgree ks es
-    → Agrees (k f ks) (m f es)
+    → Agrees (k.gives f ks) (m f es)
 
 -- the law of the operators
 abbrev pub StepsAreTrue : Type 0
 StepsAreTrue = (z : DivisionByZero) (op : Op) (ks : List (Option Element)) (es : List Element)
     → AllAgree ks es → Agrees (known_step op ks) (operate z op es)
 
--- an element whose name is known is that of the name
-name_true : (x : List ℕ) → Agrees (name_element x) (Abstract x)
-name_true x = by (fits x)
-  where
-    by : (b : Bool) → Agrees (cond b (Some (Abstract x)) None) (Abstract x)
-    by true = refl
-    by false = tt
+-- an element is that of its name
+abbrev pub NamesAreTrue : KnownMeaning → Type 0
+NamesAreTrue k = (x : List ℕ) → k.element x ≡ Some (Abstract x)
 
 -- also behind an `as`
-symbol_true : (o : Option (List ℕ)) → Agrees (option_and_then name_element o) (element_of_symbol o)
-symbol_true None = tt
-symbol_true (Some x) = name_true x
+symbol_true : (k : KnownMeaning) → NamesAreTrue k → (o : Option (List ℕ))
+    → Agrees (option_and_then k.element o) (element_of_symbol o)
+symbol_true k named None = tt
+symbol_true k named (Some x) = subst (λ o. Agrees o (Abstract x)) (sym (named x)) refl
 
 -- and that of a symbol, if it has the form of one
-form_true : (x : List ℕ) (o : Option (List ℕ)) → Agrees (option_and_then (λ sort. name_element x) o) (Abstract x)
+form_true : (x : List ℕ) (o : Option (List ℕ)) → Agrees (option_and_then (λ sort. by_name x) o) (Abstract x)
 form_true x None = tt
-form_true x (Some sort) = name_true x
+form_true x (Some sort) = refl
 
 -- and so is what is no operator
 other_true : (f : Identifier) (ks : List (Option Element)) (es : List Element) → AllAgree ks es
-    → Agrees (other_known f ks) (other_meaning f es)
+    → Agrees (other_known by_name f ks) (other_meaning f es)
 other_true (Plain x) [] [] h = form_true x (sort_of_element x)
 other_true (Plain x) [] (e ∷ es) h = absurd h
 other_true (Plain x) (k ∷ ks) es h = tt
@@ -74,10 +72,10 @@ other_true (Indexed x indexes) ks es h = tt
 
 -- what operators are known to mean is true
 Means-operators : StepsAreTrue → (z : DivisionByZero) (theories : Theories)
-    → Means (known_operators theories) (operators z theories)
+    → Means (known_operators by_name theories) (operators z theories)
 Means-operators law z theories f ks es h = by (operator_of theories f)
   where
-    by : (o : Result Op OpFault) → Agrees (known_of_op o f ks) (meaning_of_op z o f es)
+    by : (o : Result Op OpFault) → Agrees (known_of_op by_name o f ks) (meaning_of_op z o f es)
     by (Err fault) = other_true f ks es h
     by (Ok op) = law z op ks es h
 
@@ -91,7 +89,7 @@ is_plain_list _ _ = true
 -- such a list with another head than `_`
 pub known-other : (k : KnownMeaning) (r : List (List ℕ × Option Element)) (head : Sexp) (args : Sexps)
     → is_plain_list head args ≡ true → begins_indexed head ≡ false
-    → known_of k r (Items (Cons head args)) ≡ known_by (applied head args) (λ f. k f (knowns_of k r args))
+    → known_of k r (Items (Cons head args)) ≡ known_by (applied head args) (λ f. k.gives f (knowns_of k r args))
 known-other k r (Reserved Underscore) args p h = cc
 known-other k r (Reserved As) args p h = cc
 known-other k r (Reserved Let) (Cons (Items bindings) (Cons body Nil)) p h = cc
@@ -141,7 +139,7 @@ constant_true base bits digits = by (is_some (width_of (bits * length digits)))
     by false = tt
 
 -- what is known of a term is true of its value
-module _ (k : KnownMeaning) (m : Meaning) (means : Means k m) where
+module _ (k : KnownMeaning) (m : Meaning) (means : Means k m) (named : NamesAreTrue k) where
   list_true : (known : List (List ℕ × Option Element)) (r : List (List ℕ × Element)) (head : Sexp)
       (args : Sexps) → AllAgree (knowns_of k known args) (values_of m r args)
       → is_plain_list head args ≡ true → (b : Bool) → begins_indexed head ≡ b
@@ -149,18 +147,18 @@ module _ (k : KnownMeaning) (m : Meaning) (means : Means k m) where
   list_true known r head args all plain false other =
       subst (λ o. Agrees o (value_of m r (Items (Cons head args))))
       (sym (known-other k known head args plain other))
-      (subst (λ e. Agrees (known_by (applied head args) (λ f. k f (knowns_of k known args))) e)
+      (subst (λ e. Agrees (known_by (applied head args) (λ f. k.gives f (knowns_of k known args))) e)
       (sym (value-other m r head args plain other))
-      (by_true (applied head args) (λ f. k f (knowns_of k known args)) (λ f. m f (values_of m r args))
+      (by_true (applied head args) (λ f. k.gives f (knowns_of k known args)) (λ f. m f (values_of m r args))
       (λ f. means f (knowns_of k known args) (values_of m r args) all)))
   list_true known r (Reserved Underscore) args all plain true is =
-      by_true (indexed args) (λ f. k f []) (λ f. m f []) (λ f. means f [] [] tt)
+      by_true (indexed args) (λ f. k.gives f []) (λ f. m f []) (λ f. means f [] [] tt)
   list_true known r _ args all plain true is = cc
 
   mutual
     pub term_true : (known : List (List ℕ × Option Element)) (r : List (List ℕ × Element))
         → AgreesWith known r → (t : Sexp) → Agrees (known_of k known t) (value_of m r t)
-    term_true known r agrees (Atom Symbol x) = unwrap_or_true (look_up known x) (look_up r x) (k (Plain x) [])
+    term_true known r agrees (Atom Symbol x) = unwrap_or_true (look_up known x) (look_up r x) (k.gives (Plain x) [])
         (m (Plain x) []) (agrees x) (means (Plain x) [] [] tt)
     term_true known r agrees (Atom Numeral x) = numeral_true x
     term_true known r agrees (Atom Decimal x) = tt
@@ -170,7 +168,8 @@ module _ (k : KnownMeaning) (m : Meaning) (means : Means k m) where
     term_true known r agrees (Atom Keyword x) = tt
     term_true known r agrees (Reserved word) = tt
     term_true known r agrees (Items Nil) = tt
-    term_true known r agrees (Items (Cons (Reserved As) parts)) = symbol_true (qualified_symbol parts)
+    term_true known r agrees (Items (Cons (Reserved As) parts)) =
+        symbol_true k named (qualified_symbol parts)
     term_true known r agrees (Items (Cons (Reserved Let) (Cons (Items bindings) (Cons body Nil)))) =
         term_true (knowns_bound k known bindings ++ known) (values_bound m r bindings ++ r)
         (bound_true known r agrees bindings) body
@@ -187,7 +186,7 @@ module _ (k : KnownMeaning) (m : Meaning) (means : Means k m) where
     bound_true : (known : List (List ℕ × Option Element)) (r : List (List ℕ × Element)) → AgreesWith known r
         → (ts : Sexps) → AgreesWith (knowns_bound k known ts ++ known) (values_bound m r ts ++ r)
     bound_true known r agrees (Cons (Items (Cons (Atom Symbol y) (Cons t Nil))) rest) x =
-        by_name (bytes_eq x y) (known_of k known t) (value_of m r t)
+        in_front (bytes_eq x y) (known_of k known t) (value_of m r t)
         (look_up (knowns_bound k known rest ++ known) x) (look_up (values_bound m r rest ++ r) x)
         (term_true known r agrees t) (bound_true known r agrees rest x)
     bound_true known r agrees _ x = agrees x
@@ -199,28 +198,28 @@ AgreesWith-zip [] ks es h x = tt
 AgreesWith-zip (p ∷ ps) [] [] h x = tt
 AgreesWith-zip (p ∷ ps) [] (e ∷ es) h x = absurd h
 AgreesWith-zip (p ∷ ps) (k ∷ ks) [] h x = absurd h
-AgreesWith-zip (p ∷ ps) (k ∷ ks) (e ∷ es) h x = by_name (bytes_eq x p) k e (look_up (zip ps ks) x)
+AgreesWith-zip (p ∷ ps) (k ∷ ks) (e ∷ es) h x = in_front (bytes_eq x p) k e (look_up (zip ps ks) x)
     (look_up (zip ps es) x) h.0 (AgreesWith-zip ps ks es h.1 x)
 
 -- one more definition keeps that
-Means-with : (k : KnownMeaning) (m : Meaning) (e : Entry) → Means k m
+Means-with : (k : KnownMeaning) (m : Meaning) (e : Entry) → Means k m → NamesAreTrue k
     → Means (with_known k e) (with_definition m e)
-Means-with k m e means (Indexed f indexes) ks es h = means (Indexed f indexes) ks es h
-Means-with k m e means (Plain f) ks es h = by (bytes_eq f e.name) e.origin
+Means-with k m e means named (Indexed f indexes) ks es h = means (Indexed f indexes) ks es h
+Means-with k m e means named (Plain f) ks es h = by (bytes_eq f e.name) e.origin
   where
     by : (b : Bool) (s : Origin)
-        → Agrees (cond b (known_defined k s ks) (k (Plain f) ks))
+        → Agrees (cond b (known_defined k s ks) (k.gives (Plain f) ks))
         (cond b (defined_value m s es) (m (Plain f) es))
     by true (Declared command) = tt
-    by true (Defined ps body) = term_true k m means (zip ps ks) (zip ps es) (AgreesWith-zip ps ks es h) body
+    by true (Defined ps body) = term_true k m means named (zip ps ks) (zip ps es) (AgreesWith-zip ps ks es h) body
     by false s = means (Plain f) ks es h
 
 -- and so do any
-Means-after : (k : KnownMeaning) (m : Meaning) (ds : List Entry) → Means k m
+Means-after : (k : KnownMeaning) (m : Meaning) (ds : List Entry) → Means k m → NamesAreTrue k
     → Means (known_after k ds) (meaning_after m ds)
-Means-after k m [] means = means
-Means-after k m (d ∷ ds) means =
-    Means-after (with_known k d) (with_definition m d) ds (Means-with k m d means)
+Means-after k m [] means named = means
+Means-after k m (d ∷ ds) means named =
+    Means-after (with_known k d) (with_definition m d) ds (Means-with k m d means named) named
 
 -- what is known is the value
 pub known_is_true : StepsAreTrue
@@ -230,5 +229,7 @@ pub known_is_true : StepsAreTrue
     (value_of (meaning_in z definitions) r term)
 known_is_true law z definitions known r term agrees =
     term_true (known_in definitions) (meaning_in z definitions)
-    (Means-after (known_operators definitions.theories) (operators z definitions.theories) definitions.entries
-    (Means-operators law z definitions.theories)) known r agrees term
+    (Means-after (known_operators by_name definitions.theories) (operators z definitions.theories) definitions.entries
+    (Means-operators law z definitions.theories) (λ x. refl))
+    (λ x. ap (λ (f : Naming). f x) (element_kept (known_operators by_name definitions.theories) definitions.entries))
+    known r agrees term

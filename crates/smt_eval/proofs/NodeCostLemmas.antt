@@ -24,11 +24,12 @@ use Rattle.smt_nodes.specs.Node as node
 use Rattle.smt_nodes.specs.Node.{Node, Row}
 use Rattle.smt_machine.specs.Costs.{first_cost, last_cost, node_cost, part_cost, parts_cost}
 use Rattle.smt_machine.specs.Nodes as machine
+use Rattle.smt_values.specs.Element.{Naming}
 use Rattle.smt_machine.specs.Tables.{call, resolved, shifted}
 use Rattle.smt_terms.specs.Denotes.{AreBound, AreDenoted, Denotes, HasBodyBelow, IsNameOf, IsNode, IsRow}
 use Rattle.smt_terms.specs.Denotes.{Head, Slots, Table, UsesNone, applied_node, element_node, node_alone, node_of}
-use Rattle.smt_terms.specs.Denotes.{slots_bound, symbol_node, unless_labelled}
-use Rattle.smt_terms.specs.Elements.{element_among}
+use Rattle.smt_terms.specs.Denotes.{qualified_node, slots_bound, symbol_node, unless_labelled}
+use Rattle.smt_terms.specs.Elements.{ElementNames, element_among}
 use Rattle.smt_eval.proofs.CostLemmas.{among_names, cost_closed, names_from, names_in}
 use Rattle.smt_eval.specs.Cost.{BodyCosts, cost_of, costs_bound, costs_of, head_cost}
 
@@ -66,15 +67,15 @@ abbrev pub inner_cost : ℕ → (ℕ → ℕ) → machine.Node → ℕ
 inner_cost i c n = first_cost i c (Some n) + last_cost i c (Some n)
 
 -- at each row of the table, behind so many others, stands the cost of its node
-abbrev pub HasRowCosts : (ℕ → ℕ) → ℕ → List ℕ → Table → Type 0
-HasRowCosts c off declared t = (k : ℕ) (row : Row) → slice_get t.rows k ≡ Some row
-    → c (off + k) ≡ node_cost (off + k) c row.around (Some (resolved off t.bodies declared row.node))
+abbrev pub HasRowCosts : (ℕ → ℕ) → Naming → ℕ → List ℕ → Table → Type 0
+HasRowCosts c held off declared t = (k : ℕ) (row : Row) → slice_get t.rows k ≡ Some row
+    → c (off + k) ≡ node_cost (off + k) c row.around (Some (resolved held off t.bodies declared row.node))
 
 -- the node of an identifier with arguments, up to this number, costs these and the body that it names
-abbrev pub CostsItsNodes : (ℕ → ℕ) → ℕ → List ℕ → Table → BodyCosts → ℕ → Type 0
-CostsItsNodes c off declared t b last = (i : ℕ) (f : Identifier) (js : List ℕ) (n : Node)
+abbrev pub CostsItsNodes : (ℕ → ℕ) → Naming → ℕ → List ℕ → Table → BodyCosts → ℕ → Type 0
+CostsItsNodes c held off declared t b last = (i : ℕ) (f : Identifier) (js : List ℕ) (n : Node)
     → i ≤ last → node_of t f js ≡ Some n → HasBodyBelow t.bodies i (Some n)
-    → inner_cost (off + i) c (resolved off t.bodies declared n)
+    → inner_cost (off + i) c (resolved held off t.bodies declared n)
     ≡ head_cost b (Ok f) + parts_cost (off + i) c (shifted off js)
 
 -- a symbol that is no operator and not in force, but an element, names no body
@@ -82,15 +83,15 @@ abbrev pub FreesElements : Table → BodyCosts → Type 0
 FreesElements t b = (x : List ℕ) (sort : Sort) → look_up t.heads x ≡ None
     → element_among t.elements x ≡ Some sort → b x ≡ 0
 
-module _ (c : ℕ → ℕ) (off : ℕ) (declared : List ℕ) (t : Table) (b : BodyCosts) (last : ℕ)
-    (rows : HasRowCosts c off declared t) (means : CostsItsNodes c off declared t b last)
+module _ (c : ℕ → ℕ) (held : Naming) (off : ℕ) (declared : List ℕ) (t : Table) (b : BodyCosts) (last : ℕ)
+    (rows : HasRowCosts c held off declared t) (means : CostsItsNodes c held off declared t b last)
     (elements : FreesElements t b) where
   node_costs : (i around : ℕ) (n : Node) → IsRow (slice_get t.rows i) around (Some n)
-      → c (off + i) ≡ around + (1 + inner_cost (off + i) c (resolved off t.bodies declared n))
+      → c (off + i) ≡ around + (1 + inner_cost (off + i) c (resolved held off t.bodies declared n))
   node_costs i around n h =
       let r = row_of (slice_get t.rows i) around n h in
       let at = rows i r.0 r.1
-      ∙ ap (λ k. node_cost (off + i) c r.0.around (Some (resolved off t.bodies declared k))) r.2 in
+      ∙ ap (λ k. node_cost (off + i) c r.0.around (Some (resolved held off t.bodies declared k))) r.2 in
       omega (arith, at, r.3)
 
   -- an identifier with arguments
@@ -135,10 +136,11 @@ module _ (c : ℕ → ℕ) (off : ℕ) (declared : List ℕ) (t : Table) (b : Bo
       by (Err fault) is None at d = element_costs i around x (element_among t.elements x) at refl d
 
   -- the element behind an `as`
-  qualified_costs : (i around : ℕ) (o : Option (List ℕ)) → IsNode t around i (option_map node.Element o)
-      → c (off + i) ≡ around + 1
-  qualified_costs i around None d = absurd (no_row (slice_get t.rows i) around d.0)
-  qualified_costs i around (Some x) d =
+  qualified_costs : (i around : ℕ) (names : Option ElementNames) (o : Option (List ℕ))
+      → IsNode t around i (qualified_node names o) → c (off + i) ≡ around + 1
+  qualified_costs i around None o d = absurd (no_row (slice_get t.rows i) around d.0)
+  qualified_costs i around (Some names) None d = absurd (no_row (slice_get t.rows i) around d.0)
+  qualified_costs i around (Some names) (Some x) d =
       let here = node_costs i around (node.Element x) d.0 in omega (arith, here)
 
   -- a variable, or a name without arguments
@@ -197,7 +199,7 @@ module _ (c : ℕ → ℕ) (off : ℕ) (declared : List ℕ) (t : Table) (b : Bo
     term_costs slots next around i (Items (Cons (Reserved Underscore) trees)) d h variables named =
         let here = list_costs i around (indexed trees) d.0 [] 0 h d.1 d.2 refl in omega (arith, here)
     term_costs slots next around i (Items (Cons (Reserved As) trees)) d h variables named =
-        qualified_costs i around (qualified_symbol trees) d
+        qualified_costs i around t.elements (qualified_symbol trees) d
     term_costs slots next around i
         (Items (Cons (Reserved Let) (Cons (Items bindings) (Cons body Nil)))) d h variables named =
         let names = map (λ binding. binding.0) (named_trees bindings) in

@@ -1,6 +1,6 @@
 -- The evaluation of a node takes at least as many steps as that of the term that it stands for.
 use Rattle.std.proofs.Common.{◌≡◌, ◌≤◌, ◌<◌, ℕ, ◌+◌, Bool, true, false, cond, List, [], ◌∷◌, ◌++◌, length}
-use Rattle.std.proofs.Common.{slice_get, Option, Some, None, option_map, refl, ap, sym, ◌∙◌, subst, arith}
+use Rattle.std.proofs.Common.{slice_get, Option, Some, None, refl, ap, sym, ◌∙◌, subst, arith}
 use Rattle.std.proofs.Common.{nat_lt}
 use Rattle.std.proofs.Common.{Result, Ok, Err}
 use Rattle.std.proofs.lemmas.Bool.{lt-ltb}
@@ -23,11 +23,12 @@ use Rattle.smt_nodes.specs.Node.{Node, Row}
 use Rattle.smt_machine.specs.Costs.{part_cost, parts_cost}
 use Rattle.smt_machine.specs.Least as machine
 use Rattle.smt_machine.specs.Least.{arguments_least, inner_least, node_least, part_least, parts_least}
+use Rattle.smt_values.specs.Element.{Naming}
 use Rattle.smt_machine.specs.Tables.{call, resolved, shifted}
 use Rattle.smt_terms.specs.Denotes.{AreBound, AreDenoted, Denotes, HasBodyBelow, Head, IsNameOf, IsNode, IsRow}
 use Rattle.smt_terms.specs.Denotes.{Slots, Table, UsesNone, applied_node, element_node, named_node, node_alone, node_at}
-use Rattle.smt_terms.specs.Denotes.{node_of, slots_bound, symbol_node, unless_labelled}
-use Rattle.smt_terms.specs.Elements.{element_among}
+use Rattle.smt_terms.specs.Denotes.{node_of, qualified_node, slots_bound, symbol_node, unless_labelled}
+use Rattle.smt_terms.specs.Elements.{ElementNames, element_among}
 use Rattle.smt_terms.specs.declared.library.Found.{Found}
 use Rattle.smt_terms.specs.declared.library.Found.TheVariants as place
 use Rattle.smt_eval.proofs.NodeCostLemmas.{CostsItsNodes, inner_cost, no_row, row_of}
@@ -37,9 +38,9 @@ use Rattle.smt_eval.specs.Least.{chooses, first_least, head_chooses, least_of, l
 use Rattle.smt_eval.specs.Least.{unless_kept}
 
 -- at each row of the table, behind so many others, stands what its node takes at least
-abbrev pub HasRowLeasts : (ℕ → ℕ) → ℕ → List ℕ → Table → Type 0
-HasRowLeasts k off declared t = (i : ℕ) (row : Row) → slice_get t.rows i ≡ Some row
-    → k (off + i) ≡ node_least (off + i) k row.around (Some (resolved off t.bodies declared row.node))
+abbrev pub HasRowLeasts : (ℕ → ℕ) → Naming → ℕ → List ℕ → Table → Type 0
+HasRowLeasts k held off declared t = (i : ℕ) (row : Row) → slice_get t.rows i ≡ Some row
+    → k (off + i) ≡ node_least (off + i) k row.around (Some (resolved held off t.bodies declared row.node))
 
 -- a part with a lower number
 least_below : (off i j : ℕ) (k : ℕ → ℕ) → j < i → part_least (off + i) k (off + j) ≡ k (off + j)
@@ -66,55 +67,55 @@ chosen_less : (b : Bool) (x y z w : ℕ) → x ≤ y → z ≤ w → cond b x z 
 chosen_less true x y z w h g = h
 chosen_less false x y z w h g = g
 
-module _ (c k : ℕ → ℕ) (off : ℕ) (declared : List ℕ) (t : Table) (b : BodyCosts) (last : ℕ)
-    (some : (j : ℕ) → 1 ≤ c j) (rows : HasRowLeasts k off declared t)
-    (means : CostsItsNodes c off declared t b last) where
+module _ (c k : ℕ → ℕ) (held : Naming) (off : ℕ) (declared : List ℕ) (t : Table) (b : BodyCosts) (last : ℕ)
+    (some : (j : ℕ) → 1 ≤ c j) (rows : HasRowLeasts k held off declared t)
+    (means : CostsItsNodes c held off declared t b last) where
   node_counts : (i around : ℕ) (n : Node) → IsRow (slice_get t.rows i) around (Some n)
-      → k (off + i) ≡ around + (1 + inner_least (off + i) k (Some (resolved off t.bodies declared n)))
+      → k (off + i) ≡ around + (1 + inner_least (off + i) k (Some (resolved held off t.bodies declared n)))
   node_counts i around n h =
       let r = row_of (slice_get t.rows i) around n h in
       let at = rows i r.0 r.1
-      ∙ ap (λ m. node_least (off + i) k r.0.around (Some (resolved off t.bodies declared m))) r.2 in
+      ∙ ap (λ m. node_least (off + i) k r.0.around (Some (resolved held off t.bodies declared m))) r.2 in
       omega (arith, at, r.3)
 
   -- the node of a name with arguments
   name_counts : (i : ℕ) (f : Identifier) (js : List ℕ) (head : Head) (m : Node) → i ≤ last
       → node_of t f js ≡ Some m → named_node (Some head) js ≡ Some m → HasBodyBelow t.bodies i (Some m)
       → parts_least (off + i) k (shifted off js)
-      ≤ inner_least (off + i) k (Some (resolved off t.bodies declared m))
+      ≤ inner_least (off + i) k (Some (resolved held off t.bodies declared m))
   name_counts i f js head m h at made body =
       by head.place (node_of_head head js m made).is
     where
       by : (place : Found) → m ≡ node_at place js
           → parts_least (off + i) k (shifted off js)
-          ≤ inner_least (off + i) k (Some (resolved off t.bodies declared m))
+          ≤ inner_least (off + i) k (Some (resolved held off t.bodies declared m))
       by (place.Declared p) is =
-          let inner = ap (λ a. inner_cost (off + i) c (resolved off t.bodies declared a)) (sym is)
+          let inner = ap (λ a. inner_cost (off + i) c (resolved held off t.bodies declared a)) (sym is)
           ∙ means i f js m h at body in
           let here = call_least c k some (off + i) (head_cost b (Ok f)) (slice_get declared p) (shifted off js)
           inner in
-          let same = ap (λ a. inner_least (off + i) k (Some (resolved off t.bodies declared a))) is in
+          let same = ap (λ a. inner_least (off + i) k (Some (resolved held off t.bodies declared a))) is in
           omega (arith, here, same)
       by (place.Defined p) is =
-          let inner = ap (λ a. inner_cost (off + i) c (resolved off t.bodies declared a)) (sym is)
+          let inner = ap (λ a. inner_cost (off + i) c (resolved held off t.bodies declared a)) (sym is)
           ∙ means i f js m h at body in
           let here = call_least c k some (off + i) (head_cost b (Ok f)) _ (shifted off js) inner in
-          let same = ap (λ a. inner_least (off + i) k (Some (resolved off t.bodies declared a))) is in
+          let same = ap (λ a. inner_least (off + i) k (Some (resolved held off t.bodies declared a))) is in
           omega (arith, here, same)
 
   -- the node of an identifier with arguments
   identifier_counts : (i : ℕ) (f : Identifier) (js : List ℕ) (m : Node) → i ≤ last
       → node_of t f js ≡ Some m → HasBodyBelow t.bodies i (Some m)
       → arguments_least (off + i) k (chooses (operator_of t.theories f)) (shifted off js)
-      ≤ inner_least (off + i) k (Some (resolved off t.bodies declared m))
+      ≤ inner_least (off + i) k (Some (resolved held off t.bodies declared m))
   identifier_counts i (Plain x) js m h at body = by (op_by t.theories x []) (look_up t.heads x) at
     where
       by : (o : Result Op OpFault) → (head : Option Head) → applied_node o head js ≡ Some m
           → arguments_least (off + i) k (chooses o) (shifted off js)
-          ≤ inner_least (off + i) k (Some (resolved off t.bodies declared m))
+          ≤ inner_least (off + i) k (Some (resolved held off t.bodies declared m))
       by (Ok op) head made =
           let is : node.Apply op js ≡ m = cc in
-          let same = ap (λ a. inner_least (off + i) k (Some (resolved off t.bodies declared a))) is in
+          let same = ap (λ a. inner_least (off + i) k (Some (resolved held off t.bodies declared a))) is in
           omega (arith, same)
       by (Err fault) None made = cc
       by (Err fault) (Some head) made = name_counts i (Plain x) js head m h at made body
@@ -122,10 +123,10 @@ module _ (c k : ℕ → ℕ) (off : ℕ) (declared : List ℕ) (t : Table) (b : 
     where
       by : (o : Result Op OpFault) → applied_node o None js ≡ Some m
           → arguments_least (off + i) k (chooses o) (shifted off js)
-          ≤ inner_least (off + i) k (Some (resolved off t.bodies declared m))
+          ≤ inner_least (off + i) k (Some (resolved held off t.bodies declared m))
       by (Ok op) made =
           let is : node.Apply op js ≡ m = cc in
-          let same = ap (λ a. inner_least (off + i) k (Some (resolved off t.bodies declared a))) is in
+          let same = ap (λ a. inner_least (off + i) k (Some (resolved held off t.bodies declared a))) is in
           omega (arith, same)
       by (Err fault) made = cc
 
@@ -168,10 +169,11 @@ module _ (c k : ℕ → ℕ) (off : ℕ) (declared : List ℕ) (t : Table) (b : 
       by (Err fault) is None at d = element_counts i around x (element_among t.elements x) d
 
   -- the element behind an `as`
-  qualified_counts : (i around : ℕ) (o : Option (List ℕ)) → IsNode t around i (option_map node.Element o)
-      → around + 1 ≤ k (off + i)
-  qualified_counts i around None d = absurd (no_row (slice_get t.rows i) around d.0)
-  qualified_counts i around (Some x) d = element_counts i around x (Some Boolean) d
+  qualified_counts : (i around : ℕ) (names : Option ElementNames) (o : Option (List ℕ))
+      → IsNode t around i (qualified_node names o) → around + 1 ≤ k (off + i)
+  qualified_counts i around None o d = absurd (no_row (slice_get t.rows i) around d.0)
+  qualified_counts i around (Some names) None d = absurd (no_row (slice_get t.rows i) around d.0)
+  qualified_counts i around (Some names) (Some x) d = element_counts i around x (Some Boolean) d
 
   -- a variable, or a name without arguments
   symbol_counts : (i around : ℕ) (x : List ℕ) (o : Option ℕ) → i ≤ last
@@ -214,7 +216,7 @@ module _ (c k : ℕ → ℕ) (off : ℕ) (declared : List ℕ) (t : Table) (b : 
     term_counts slots next around i (Items (Cons (Reserved Underscore) trees)) d h =
         let here = applied_counts i around d.0 [] h d.2 in omega (arith, here)
     term_counts slots next around i (Items (Cons (Reserved As) trees)) d h =
-        qualified_counts i around (qualified_symbol trees) d
+        qualified_counts i around t.elements (qualified_symbol trees) d
     term_counts slots next around i (Items (Cons (Reserved Let) (Cons (Items bindings) (Cons body Nil)))) d h =
         let here = node_counts i around (node.Let d.0 d.1) d.2.0 in
         let below = least_below off i d.1 k d.4 in

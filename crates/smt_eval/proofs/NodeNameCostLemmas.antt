@@ -13,6 +13,7 @@ use Rattle.smt_nodes.specs.Node as node
 use Rattle.smt_nodes.specs.Node.{Node}
 use Rattle.smt_machine.specs.Costs.{parts_cost}
 use Rattle.smt_machine.specs.Nodes.{Giving}
+use Rattle.smt_values.specs.Element.{Naming}
 use Rattle.smt_machine.specs.Tables.{call, resolved, shifted}
 use Rattle.smt_terms.specs.Denotes.{Denotes, HasBodyBelow, Head, Table, applied_node, named_node, node_at}
 use Rattle.smt_terms.specs.Denotes.{slots_from}
@@ -36,9 +37,9 @@ abbrev pub IsCostAt : (ℕ → ℕ) → (off : ℕ) → List ℕ → Signature �
 IsCostAt c off declared d seen k e = (j : ℕ) × (slice_get declared k ≡ Some j) × (j < off)
     × ((n : ℕ) → c j ≡ costs_in (first (seen n) d) e.name)
 
-module _ (g : Giving) (off : ℕ) (declared : List ℕ) (t : Table) (es : List Entry) (d : Signature)
-    (seen : ℕ → ℕ) (names : HasNames g off declared t es d seen) (c : ℕ → ℕ)
-    (rows : HasRowCosts c off declared t)
+module _ (naming held : Naming) (g : Giving) (off : ℕ) (declared : List ℕ) (t : Table) (es : List Entry)
+    (d : Signature) (seen : ℕ → ℕ) (names : HasNames naming held g off declared t es d seen) (c : ℕ → ℕ)
+    (rows : HasRowCosts c held off declared t)
     (given : (k : ℕ) (e : Entry) → slice_get (declared_among es) k ≡ Some e
     → IsCostAt c off declared d seen k e) where
   -- what bodies cost where the first n names are in force
@@ -73,12 +74,12 @@ module _ (g : Giving) (off : ℕ) (declared : List ℕ) (t : Table) (es : List E
   module _ (last : ℕ) (calls : CallsCost last) (n i : ℕ) (x : List ℕ) (js : List ℕ)
       (head : Head) (below : i ≤ last) (at : look_up (take n t.heads) x ≡ Some head) where
     abbrev costs_that : Node → Type 0
-    costs_that m = inner_cost (off + i) c (resolved off t.bodies declared m)
+    costs_that m = inner_cost (off + i) c (resolved held off t.bodies declared m)
         ≡ costing n x + parts_cost (off + i) c (shifted off js)
 
     declared_costs : (p : ℕ) → head.place ≡ place.Declared p → costs_that (node.Declared p js)
     declared_costs p is =
-        let f = named_at g off declared t es d seen names n x head at in
+        let f = named_at naming held g off declared t es d seen names n x head at in
         let h : IsHeadAt t (declared_among es) 0 0 0 t.bodies f.place f.entry (place.Declared p) =
         subst (IsHeadAt t (declared_among es) 0 0 0 t.bodies f.place f.entry) is f.stands in
         let one = given h.0 f.entry h.2 in
@@ -116,21 +117,21 @@ module _ (g : Giving) (off : ℕ) (declared : List ℕ) (t : Table) (es : List E
   module _ (last : ℕ) (calls : CallsCost last) (n : ℕ) where
     operator_costs : (i : ℕ) (f : Identifier) (js : List ℕ) (op : Op) (m : Node)
         → operator_of t.theories f ≡ Ok op → Some (node.Apply op js) ≡ Some m
-        → inner_cost (off + i) c (resolved off t.bodies declared m)
+        → inner_cost (off + i) c (resolved held off t.bodies declared m)
         ≡ head_cost (costing n) (Ok f) + parts_cost (off + i) c (shifted off js)
     operator_costs i f js op m is made =
         let same : node.Apply op js ≡ m = cc in
-        let inner = ap (λ a. inner_cost (off + i) c (resolved off t.bodies declared a)) (sym same) in
+        let inner = ap (λ a. inner_cost (off + i) c (resolved held off t.bodies declared a)) (sym same) in
         let none = operator_free n f op is in
         omega (arith, inner, none)
 
-    pub costs_its_nodes : CostsItsNodes c off declared (first_heads n t) (costing n) last
+    pub costs_its_nodes : CostsItsNodes c held off declared (first_heads n t) (costing n) last
     costs_its_nodes i (Plain x) js m below made body =
         by (op_by t.theories x []) refl (look_up (take n t.heads) x) refl made
       where
         by : (o : Result Op OpFault) → op_by t.theories x [] ≡ o → (h : Option Head)
             → look_up (take n t.heads) x ≡ h → applied_node o h js ≡ Some m
-            → inner_cost (off + i) c (resolved off t.bodies declared m)
+            → inner_cost (off + i) c (resolved held off t.bodies declared m)
             ≡ costing n x + parts_cost (off + i) c (shifted off js)
         by (Ok op) is h at here = operator_costs i (Plain x) js op m is here
         by (Err fault) is None at here = cc
@@ -140,7 +141,7 @@ module _ (g : Giving) (off : ℕ) (declared : List ℕ) (t : Table) (es : List E
         by (op_by t.theories x indexes) refl made
       where
         by : (o : Result Op OpFault) → op_by t.theories x indexes ≡ o → applied_node o None js ≡ Some m
-            → inner_cost (off + i) c (resolved off t.bodies declared m)
+            → inner_cost (off + i) c (resolved held off t.bodies declared m)
             ≡ 0 + parts_cost (off + i) c (shifted off js)
         by (Ok op) is here = operator_costs i (Indexed x indexes) js op m is here
         by (Err fault) is here = cc
@@ -152,7 +153,7 @@ module _ (g : Giving) (off : ℕ) (declared : List ℕ) (t : Table) (es : List E
       → q ≤ length es → IsBody t q (length e.parameters) ps body j → j ≤ last
       → c (off + j) ≡ cost_of (costing q) ps body
   body_costs last calls q j e ps body seen_first is below =
-      let here = term_costs c off declared (first_heads q t) (costing q) last rows (costs_its_nodes last calls q)
+      let here = term_costs c held off declared (first_heads q t) (costing q) last rows (costs_its_nodes last calls q)
       (frees_elements q seen_first)
       (slots_from 0 ps) (length ps) 0 j body is.denotes below ps (sym (names_from 0 ps)) in
       omega (arith, here)
@@ -172,7 +173,7 @@ module _ (g : Giving) (off : ℕ) (declared : List ℕ) (t : Table) (es : List E
   pub calls_cost : (last : ℕ) → CallsCost last
   calls_cost zero n x head p j at is body below = absurd (omega (arith, below))
   calls_cost (suc last) n x head p j at is body below =
-      let f = named_at g off declared t es d seen names n x head at in
+      let f = named_at naming held g off declared t es d seen names n x head at in
       let h : IsHeadAt t (declared_among es) 0 0 0 t.bodies f.place f.entry (place.Defined p) =
       subst (IsHeadAt t (declared_among es) 0 0 0 t.bodies f.place f.entry) is f.stands in
       let same : h.0 ≡ p = omega (arith, h.1) in
@@ -185,5 +186,5 @@ module _ (g : Giving) (off : ℕ) (declared : List ℕ) (t : Table) (es : List E
   pub closed_costs : (n around i : ℕ) (term : Sexp) → n ≤ length es
       → Denotes (first_heads n t) [] 0 around i term → c (off + i) ≡ around + cost_of (costing n) [] term
   closed_costs n around i term within denotes =
-      term_costs c off declared (first_heads n t) (costing n) i rows (costs_its_nodes i (calls_cost i) n)
+      term_costs c held off declared (first_heads n t) (costing n) i rows (costs_its_nodes i (calls_cost i) n)
       (frees_elements n within) [] 0 around i term denotes (omega arith) [] refl

@@ -18,7 +18,6 @@ use Rattle.smt_theory.specs.Sort.{Sort}
 use Rattle.smt_theory.specs.Sort.{Boolean}
 use Rattle.smt_faults.specs.declared.term_flaw.TermFlaw.{TermFlaw}
 use Rattle.smt_values.specs.Element.{Element}
-use Rattle.smt_values.specs.Literals.{name_element}
 use Rattle.smt_forms.specs.ElementNames.{qualified_symbol}
 use Rattle.smt_forms.specs.Bindings.{named_trees}
 use Rattle.smt_forms.specs.Identifier.{Identifier, Plain, applied, indexed}
@@ -27,11 +26,12 @@ use Rattle.smt_theory.specs.declared.literal.LiteralKind.TheVariants as literal
 use Rattle.smt_nodes.specs.Node as node
 use Rattle.smt_nodes.specs.Node.{Node, Row}
 use Rattle.smt_machine.specs.Nodes.{Frame, Giving, at_place, node_value, part, parts}
+use Rattle.smt_values.specs.Element.{Naming}
 use Rattle.smt_machine.specs.Tables.{call, resolved, shifted}
 use Rattle.smt_terms.specs.Denotes.{AreBound, AreDenoted, Denotes, HasBodyBelow, IsNameOf, IsNode, IsRow}
 use Rattle.smt_terms.specs.Denotes.{Head, Slots, Table, UsesNone, applied_node, element_node, node_alone, node_of}
-use Rattle.smt_terms.specs.Denotes.{slots_bound, symbol_node, unless_labelled}
-use Rattle.smt_terms.specs.Elements.{element_among}
+use Rattle.smt_terms.specs.Denotes.{qualified_node, slots_bound, symbol_node, unless_labelled}
+use Rattle.smt_terms.specs.Elements.{ElementNames, element_among}
 use Rattle.smt_eval.proofs.FrameLemmas.{StandIn, stands_behind, stands_both, stands_found, stands_hidden}
 use Rattle.smt_eval.proofs.FrameLemmas.{stands_more}
 use Rattle.smt_eval.proofs.UnusedVariableLemmas.{Knowns, known_same}
@@ -92,57 +92,61 @@ bound_counted frame values next js counted same =
 -- ---- what rows give
 
 -- at each row of the table, behind so many others, stands the value of its node
-abbrev pub HasRows : Giving → ℕ → List ℕ → Table → Type 0
-HasRows g off declared t = (k : ℕ) (row : Row) → slice_get t.rows k ≡ Some row → (frame : Frame)
-    → g (off + k) frame ≡ node_value (off + k) g frame (Some (resolved off t.bodies declared row.node))
+abbrev pub HasRows : Giving → Naming → ℕ → List ℕ → Table → Type 0
+HasRows g held off declared t = (k : ℕ) (row : Row) → slice_get t.rows k ≡ Some row → (frame : Frame)
+    → g (off + k) frame ≡ node_value (off + k) g frame (Some (resolved held off t.bodies declared row.node))
 
 -- the node of an identifier with arguments, up to this number, gives what the identifier means
-abbrev pub MeansItsNodes : Giving → ℕ → List ℕ → Table → KnownMeaning → ℕ → Type 0
-MeansItsNodes g off declared t m last = (i : ℕ) (frame : Frame) (f : Identifier) (js : List ℕ) (n : Node)
+abbrev pub MeansItsNodes : Giving → Naming → ℕ → List ℕ → Table → KnownMeaning → ℕ → Type 0
+MeansItsNodes g held off declared t m last = (i : ℕ) (frame : Frame) (f : Identifier) (js : List ℕ) (n : Node)
     → i ≤ last → node_of t f js ≡ Some n → HasBodyBelow t.bodies i (Some n)
-    → node_value (off + i) g frame (Some (resolved off t.bodies declared n))
-    ≡ m f (parts (off + i) g frame (shifted off js))
+    → node_value (off + i) g frame (Some (resolved held off t.bodies declared n))
+    ≡ m.gives f (parts (off + i) g frame (shifted off js))
 
 -- a symbol that is no operator and not in force, but an element, means this element
-abbrev pub MeansElements : Table → KnownMeaning → Type 0
-MeansElements t m = (x : List ℕ) (sort : Sort) (fault : OpFault) → op_by t.theories x [] ≡ Err fault
-    → look_up t.heads x ≡ None → element_among t.elements x ≡ Some sort → m (Plain x) [] ≡ name_element x
+abbrev pub MeansElements : Naming → Table → KnownMeaning → Type 0
+MeansElements held t m = (x : List ℕ) (sort : Sort) (fault : OpFault) → op_by t.theories x [] ≡ Err fault
+    → look_up t.heads x ≡ None → element_among t.elements x ≡ Some sort → m.gives (Plain x) [] ≡ held x
 
-module _ (g : Giving) (off : ℕ) (declared : List ℕ) (t : Table) (m : KnownMeaning) (last : ℕ)
-    (rows : HasRows g off declared t) (means : MeansItsNodes g off declared t m last)
-    (elements : MeansElements t m) where
+-- where terms may name elements, their names mean what rows hold of them
+abbrev pub NamesElements : Naming → Table → KnownMeaning → Type 0
+NamesElements held t m = (elements : ElementNames) → t.elements ≡ Some elements → (x : List ℕ) → held x ≡ m.element x
+
+module _ (g : Giving) (held : Naming) (off : ℕ) (declared : List ℕ) (t : Table) (m : KnownMeaning) (last : ℕ)
+    (rows : HasRows g held off declared t) (means : MeansItsNodes g held off declared t m last)
+    (elements : MeansElements held t m) (named : NamesElements held t m) where
   node_given : (i around : ℕ) (n : Node) (frame : Frame) → IsRow (slice_get t.rows i) around (Some n)
-      → g (off + i) frame ≡ node_value (off + i) g frame (Some (resolved off t.bodies declared n))
+      → g (off + i) frame ≡ node_value (off + i) g frame (Some (resolved held off t.bodies declared n))
   node_given i around n frame h =
       let r = row_of (slice_get t.rows i) around n h in
       rows i r.0 r.1 frame
-      ∙ ap (λ k. node_value (off + i) g frame (Some (resolved off t.bodies declared k))) r.2
+      ∙ ap (λ k. node_value (off + i) g frame (Some (resolved held off t.bodies declared k))) r.2
 
   -- an identifier with arguments
   applied_given : (i around : ℕ) (frame : Frame) (f : Identifier) (js : List ℕ) → i ≤ last
-      → IsNode t around i (node_of t f js) → g (off + i) frame ≡ m f (parts (off + i) g frame (shifted off js))
+      → IsNode t around i (node_of t f js) → g (off + i) frame ≡ m.gives f (parts (off + i) g frame (shifted off js))
   applied_given i around frame f js h is = by (node_of t f js) refl is
     where
       by : (o : Option Node) → node_of t f js ≡ o → IsNode t around i o
-          → g (off + i) frame ≡ m f (parts (off + i) g frame (shifted off js))
+          → g (off + i) frame ≡ m.gives f (parts (off + i) g frame (shifted off js))
       by None at d = absurd (no_row (slice_get t.rows i) around d.0)
       by (Some n) at d = node_given i around n frame d.0 ∙ means i frame f js n h at d.1
 
   -- a symbol alone that is no variable
   element_given : (i around : ℕ) (frame : Frame) (x : List ℕ) (fault : OpFault) (o : Option Sort)
       → op_by t.theories x [] ≡ Err fault → look_up t.heads x ≡ None → element_among t.elements x ≡ o
-      → IsNode t around i (element_node x o) → g (off + i) frame ≡ m (Plain x) []
+      → IsNode t around i (element_node x o) → g (off + i) frame ≡ m.gives (Plain x) []
   element_given i around frame x fault None is at among d = absurd (no_row (slice_get t.rows i) around d.0)
   element_given i around frame x fault (Some sort) is at among d =
       node_given i around (node.Element x) frame d.0 ∙ sym (elements x sort fault is at among)
 
   alone_given : (i around : ℕ) (frame : Frame) (x : List ℕ) → i ≤ last
-      → IsNode t around i (symbol_node t x None) → g (off + i) frame ≡ m (Plain x) []
+      → IsNode t around i (symbol_node t x None) → g (off + i) frame ≡ m.gives (Plain x) []
   alone_given i around frame x h d = by (op_by t.theories x []) refl (look_up t.heads x) refl d
     where
       by : (o : Result Op OpFault) → op_by t.theories x [] ≡ o → (head : Option Head)
           → look_up t.heads x ≡ head → IsNode t around i (node_alone t x o head)
-          → g (off + i) frame ≡ m (Plain x) []
+          → g (off + i) frame ≡ m.gives (Plain x) []
       by (Ok op) is head at d = applied_given i around frame (Plain x) [] h
           (subst (λ o. IsNode t around i (applied_node o (look_up t.heads x) [])) (sym is) d)
       by (Err fault) is (Some head) at d = applied_given i around frame (Plain x) [] h
@@ -152,24 +156,26 @@ module _ (g : Giving) (off : ℕ) (declared : List ℕ) (t : Table) (m : KnownMe
           element_given i around frame x fault (element_among t.elements x) is at refl d
 
   -- the element behind an `as`
-  qualified_given : (i around : ℕ) (frame : Frame) (o : Option (List ℕ))
-      → IsNode t around i (option_map node.Element o) → g (off + i) frame ≡ option_and_then name_element o
-  qualified_given i around frame None d = absurd (no_row (slice_get t.rows i) around d.0)
-  qualified_given i around frame (Some x) d = node_given i around (node.Element x) frame d.0
+  qualified_given : (i around : ℕ) (frame : Frame) (names : Option ElementNames) (o : Option (List ℕ))
+      → t.elements ≡ names → IsNode t around i (qualified_node names o) → g (off + i) frame ≡ option_and_then m.element o
+  qualified_given i around frame None o is d = absurd (no_row (slice_get t.rows i) around d.0)
+  qualified_given i around frame (Some names) None is d = absurd (no_row (slice_get t.rows i) around d.0)
+  qualified_given i around frame (Some names) (Some x) is d =
+      node_given i around (node.Element x) frame d.0 ∙ named names is x
 
   -- a variable, or a name without arguments
   symbol_given : (i around : ℕ) (frame : Frame) (x : List ℕ) (o : Option ℕ) → i ≤ last
       → IsNode t around i (symbol_node t x o)
-      → g (off + i) frame ≡ unwrap_or (option_map (at_place frame) o) (m (Plain x) [])
+      → g (off + i) frame ≡ unwrap_or (option_map (at_place frame) o) (m.gives (Plain x) [])
   symbol_given i around frame x (Some slot) h d = node_given i around (node.Slot slot) frame d.0
   symbol_given i around frame x None h d = alone_given i around frame x h d
 
   -- an identifier that a tree is, with arguments of which this is known
   list_given : (i around : ℕ) (frame : Frame) (o : Result Identifier TermFlaw) (f : Identifier) (js : List ℕ)
       (vs : List (Option Element)) → i ≤ last → o ≡ Ok f → IsNode t around i (node_of t f js)
-      → parts (off + i) g frame (shifted off js) ≡ vs → g (off + i) frame ≡ known_by o (λ k. m k vs)
+      → parts (off + i) g frame (shifted off js) ≡ vs → g (off + i) frame ≡ known_by o (λ k. m.gives k vs)
   list_given i around frame o f js vs h is d args =
-      applied_given i around frame f js h d ∙ ap (m f) args ∙ sym (ap (λ q. known_by q (λ k. m k vs)) is)
+      applied_given i around frame f js h d ∙ ap (m.gives f) args ∙ sym (ap (λ q. known_by q (λ k. m.gives k vs)) is)
 
   -- the name that a label gives to a term, which uses no variable
   label_given : (slots : Slots) (label : List ℕ) (i around : ℕ) (frame : Frame) (r : Knowns) (term : Sexp)
@@ -200,7 +206,7 @@ module _ (g : Giving) (off : ℕ) (declared : List ℕ) (t : Table) (m : KnownMe
         → g (off + i) frame ≡ known_of m r term
     term_given slots next around i (Atom Symbol x) d h frame r counted stand =
         symbol_given i around frame x (look_up slots x) h d
-        ∙ ap (λ o. unwrap_or o (m (Plain x) [])) (sym (stands_found frame slots r x stand))
+        ∙ ap (λ o. unwrap_or o (m.gives (Plain x) [])) (sym (stands_found frame slots r x stand))
     term_given slots next around i (Atom Numeral digits) d h frame r counted stand =
         node_given i around (node.Literal literal.Numeral digits) frame d.0
     term_given slots next around i (Atom Hexadecimal digits) d h frame r counted stand =
@@ -210,7 +216,7 @@ module _ (g : Giving) (off : ℕ) (declared : List ℕ) (t : Table) (m : KnownMe
     term_given slots next around i (Items (Cons (Reserved Underscore) trees)) d h frame r counted stand =
         list_given i around frame (indexed trees) d.0 [] [] h d.1 d.2 refl
     term_given slots next around i (Items (Cons (Reserved As) trees)) d h frame r counted stand =
-        qualified_given i around frame (qualified_symbol trees) d
+        qualified_given i around frame t.elements (qualified_symbol trees) refl d
     term_given slots next around i
         (Items (Cons (Reserved Let) (Cons (Items bindings) (Cons body Nil)))) d h frame r counted stand =
         let values = parts (off + i) g frame (shifted off d.0) in

@@ -1,5 +1,5 @@
 -- What names are known to mean over definitions that are kept as their trees.
-use Rattle.std.proofs.Common.{◌≡◌, ◌≤◌, ℕ, suc, ◌+◌, Bool, true, false, cond, List, [], ◌∷◌}
+use Rattle.std.proofs.Common.{◌≡◌, ◌≤◌, ℕ, suc, ◌+◌, true, false, cond, List, [], ◌∷◌}
 use Rattle.std.proofs.Common.{◌++◌, length, slice_index_or, take, Option, Some, None, Result, Ok, Err, refl, ap}
 use Rattle.std.proofs.Common.{sym, ◌∙◌, arith}
 use Rattle.std.proofs.Math.Seq.{take-suc}
@@ -16,8 +16,8 @@ use Rattle.smt_theory.specs.declared.op.OpFault.{OpFault}
 use Rattle.smt_theory.specs.declared.theories.Theories.{Theories}
 use Rattle.smt_forms.specs.Identifier.{Identifier, Plain, Indexed, all_indexes, indexed, operator_of}
 use Rattle.smt_faults.specs.declared.term_flaw.TermFlaw.TheVariants.{Form}
+use Rattle.smt_values.specs.Element.{Naming}
 use Rattle.smt_terms.specs.Signature.{Entry}
-use Rattle.smt_eval.specs.Cost.{BodyCosts, body_cost, costs_after, no_costs, with_cost}
 use Rattle.smt_eval.specs.Internal.PlainEvaluation.{bodies_weight}
 use Rattle.smt_eval.proofs.EvaluatorLemmas.{known_with_indexes}
 use Rattle.smt_eval.specs.Known.{KnownMeaning, known_after, known_defined, known_of_op, known_operators}
@@ -39,46 +39,29 @@ known_after-last m (c ∷ es) e = known_after-last (with_known m c) es e
 
 known_last : (m : KnownMeaning) (before all : List Definition) (d : Definition) (x : List ℕ)
     (args : List (Option Element)) → all ≡ before ++ d ∷ []
-    → known_after m (entries_of all) (Plain x) args
+    → (known_after m (entries_of all)).gives (Plain x) args
     ≡ cond (bytes_eq x d.name.now) (known_defined (known_after m (entries_of before)) (origin_of d) args)
-    (known_after m (entries_of before) (Plain x) args)
+    ((known_after m (entries_of before)).gives (Plain x) args)
 known_last m before all d x args is =
-    ap (λ es. known_after m es (Plain x) args) (ap entries_of is ∙ map-append entry_of before (d ∷ []))
-    ∙ ap (λ (k : KnownMeaning). k (Plain x) args) (known_after-last m (entries_of before) (entry_of d))
+    ap (λ es. (known_after m es).gives (Plain x) args) (ap entries_of is ∙ map-append entry_of before (d ∷ []))
+    ∙ ap (λ (k : KnownMeaning). k.gives (Plain x) args) (known_after-last m (entries_of before) (entry_of d))
 
 -- the last definition is meant where it has the name
 pub last_is_meant : (m : KnownMeaning) (before all : List Definition) (d : Definition) (x : List ℕ)
     (args : List (Option Element)) → all ≡ before ++ d ∷ [] → bytes_eq x d.name.now ≡ true
-    → known_after m (entries_of all) (Plain x) args
+    → (known_after m (entries_of all)).gives (Plain x) args
     ≡ known_defined (known_after m (entries_of before)) (origin_of d) args
 last_is_meant m before all d x args is named = known_last m before all d x args is ∙ ap
     (λ b. cond b (known_defined (known_after m (entries_of before)) (origin_of d) args)
-    (known_after m (entries_of before) (Plain x) args)) named
+    ((known_after m (entries_of before)).gives (Plain x) args)) named
 
 -- and what was meant before it where it hasn't
 pub last_is_not_meant : (m : KnownMeaning) (before all : List Definition) (d : Definition) (x : List ℕ)
     (args : List (Option Element)) → all ≡ before ++ d ∷ [] → bytes_eq x d.name.now ≡ false
-    → known_after m (entries_of all) (Plain x) args ≡ known_after m (entries_of before) (Plain x) args
+    → (known_after m (entries_of all)).gives (Plain x) args ≡ (known_after m (entries_of before)).gives (Plain x) args
 last_is_not_meant m before all d x args is named = known_last m before all d x args is ∙ ap
     (λ b. cond b (known_defined (known_after m (entries_of before)) (origin_of d) args)
-    (known_after m (entries_of before) (Plain x) args)) named
-
--- one more definition costs its body, and hides what the earlier ones cost
-costs_after-last : (b : BodyCosts) (es : List Entry) (e : Entry)
-    → costs_after b (es ++ e ∷ []) ≡ with_cost (costs_after b es) e
-costs_after-last b [] e = refl
-costs_after-last b (c ∷ es) e = costs_after-last (with_cost b c) es e
-
-pub last_costs : (before all : List Definition) (d : Definition) (x : List ℕ) (named : Bool)
-    → all ≡ before ++ d ∷ [] → bytes_eq x d.name.now ≡ named
-    → costs_after no_costs (entries_of all) x
-    ≡ cond named (body_cost (costs_after no_costs (entries_of before)) (origin_of d))
-    (costs_after no_costs (entries_of before) x)
-last_costs before all d x named is here =
-    ap (λ es. costs_after no_costs es x) (ap entries_of is ∙ map-append entry_of before (d ∷ []))
-    ∙ ap (λ (b : BodyCosts). b x) (costs_after-last no_costs (entries_of before) (entry_of d))
-    ∙ ap (λ k. cond k (body_cost (costs_after no_costs (entries_of before)) (origin_of d))
-    (costs_after no_costs (entries_of before) x)) here
+    ((known_after m (entries_of before)).gives (Plain x) args)) named
 
 -- the last body and those before it
 pub weight-last : (before all : List Definition) (d : Definition) → all ≡ before ++ d ∷ []
@@ -91,21 +74,21 @@ weight-last before all d is = ap bodies_weight is ∙ by before
     by (c ∷ ds) = let w = by ds in omega (arith, w)
 
 -- nothing is known of what is no operator, applied to arguments
-pub element_takes_none : (op : Result Op OpFault) (fault : OpFault) (x : List ℕ) (args : List (Option Value))
-    → op ≡ Err fault → false ≡ (length args == 0) → None ≡ known_of_op op (Plain x) (known_elements args)
-element_takes_none op fault x [] is some = cc
-element_takes_none op fault x (v ∷ vs) is some =
-    sym (ap (λ o. known_of_op o (Plain x) (known_elements (v ∷ vs))) is)
+pub element_takes_none : (element : Naming) (op : Result Op OpFault) (fault : OpFault) (x : List ℕ) (args : List (Option Value))
+    → op ≡ Err fault → false ≡ (length args == 0) → None ≡ known_of_op element op (Plain x) (known_elements args)
+element_takes_none element op fault x [] is some = cc
+element_takes_none element op fault x (v ∷ vs) is some =
+    sym (ap (λ o. known_of_op element o (Plain x) (known_elements (v ∷ vs))) is)
 
 -- what has indexes is an operator
-pub indexed_is_operator : (theories : Theories) (es : List Entry) (f : Identifier) (parts : Sexps)
+pub indexed_is_operator : (element : Naming) (theories : Theories) (es : List Entry) (f : Identifier) (parts : Sexps)
     (v : Option Value) (op : Result Op OpFault) → indexed parts ≡ Ok f → op ≡ operator_of theories f
-    → ((x : List ℕ) (indexes : List IndexView) → known_element v ≡ known_of_op op (Indexed x indexes) [])
-    → known_element v ≡ known_after (known_operators theories) es f []
-indexed_is_operator theories es (Indexed x indexes) parts v op is found given =
-    given x indexes ∙ ap (λ o. known_of_op o (Indexed x indexes) []) found
-    ∙ sym (known_with_indexes (known_operators theories) es x indexes [])
-indexed_is_operator theories es (Plain x) parts v op is found given = absurd (never parts is)
+    → ((x : List ℕ) (indexes : List IndexView) → known_element v ≡ known_of_op element op (Indexed x indexes) [])
+    → known_element v ≡ (known_after (known_operators element theories) es).gives f []
+indexed_is_operator element theories es (Indexed x indexes) parts v op is found given =
+    given x indexes ∙ ap (λ o. known_of_op element o (Indexed x indexes) []) found
+    ∙ sym (known_with_indexes (known_operators element theories) es x indexes [])
+indexed_is_operator element theories es (Plain x) parts v op is found given = absurd (never parts is)
   where
     by : (y : List ℕ) (o : Option (List IndexView))
         → ok_or (option_map (λ is. Indexed y is) o) Form ≡ Ok (Plain x) → ⊥

@@ -96,7 +96,7 @@ module _ (g : Renaming) (injective : IsInjective g) where
   any_stay [] = refl
   any_stay (e ∷ es) = ap₂ (λ a b. a || b) (truth_stays e) (any_stay es)
 
-  chain_stays : (es : List Element) → are_chained is_same (all_renamed es) ≡ are_chained is_same es
+  pub chain_stays : (es : List Element) → are_chained is_same (all_renamed es) ≡ are_chained is_same es
   chain_stays [] = refl
   chain_stays (d ∷ []) = refl
   chain_stays (d ∷ e ∷ es) = ap₂ (λ a b. a && b) (sameness_stays d e) (chain_stays (e ∷ es))
@@ -106,7 +106,7 @@ module _ (g : Renaming) (injective : IsInjective g) where
   any_same_stays d [] = refl
   any_same_stays d (e ∷ es) = ap₂ (λ a b. a || b) (sameness_stays d e) (any_same_stays d es)
 
-  difference_stays : (es : List Element) → are_distinct is_same (all_renamed es) ≡ are_distinct is_same es
+  pub difference_stays : (es : List Element) → are_distinct is_same (all_renamed es) ≡ are_distinct is_same es
   difference_stays [] = refl
   difference_stays (e ∷ es) = ap₂ (λ a b. not a && b) (any_same_stays e es) (difference_stays es)
 

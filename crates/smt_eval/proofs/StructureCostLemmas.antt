@@ -11,7 +11,8 @@ use Rattle.smt_machine.specs.Given.{given}
 use Rattle.smt_machine.specs.Least.{least, node_least}
 use Rattle.smt_machine.specs.Nodes as machine
 use Rattle.smt_machine.specs.Nodes.{Frame, node_value}
-use Rattle.smt_machine.specs.Tables.{resolved}
+use Rattle.smt_values.specs.Element.{Naming}
+use Rattle.smt_machine.specs.Tables.{resolved, unnamed}
 use Rattle.smt_terms.specs.Denotes.{Denotes, Table}
 use Rattle.smt_terms.specs.Library.{declared_among}
 use Rattle.smt_terms.specs.Signature.{AreDistinct, Entry, Signature}
@@ -34,13 +35,13 @@ module _ (has : (nodes : List machine.Node) (i : ℕ) (frame : Frame)
     → given nodes i frame ≡ node_value i (given nodes) frame (slice_get nodes i))
     (costs : (nodes : List machine.Node) (arounds : List ℕ) (i : ℕ)
     → cost nodes arounds i ≡ node_cost i (cost nodes arounds) (around_at arounds i) (slice_get nodes i))
-    (model script : Table) (declared : List ℕ) (names definitions : Signature)
+    (naming : Naming) (model script : Table) (declared : List ℕ) (names definitions : Signature)
     (terms : AreTermsOf script names) (bodies : AreTermsOf model definitions)
     (all : AllDefined definitions.entries) (theories : definitions.theories ≡ names.theories)
     (elements : names.elements ≡ None) (distinct : AreDistinct (structure_of names definitions).entries)
     (gives : GivesBodies declared names definitions model.bodies) where
   abbrev nodes : List machine.Node
-  nodes = nodes_over model script declared
+  nodes = nodes_over naming model script declared
 
   abbrev arounds : List ℕ
   arounds = arounds_over model script
@@ -55,24 +56,24 @@ module _ (has : (nodes : List machine.Node) (i : ℕ) (frame : Frame)
   whole = structure_of names definitions
 
   abbrev of_model : Row → machine.Node
-  of_model row = resolved 0 model.bodies [] row.node
+  of_model row = resolved naming 0 model.bodies [] row.node
 
   abbrev of_script : Row → machine.Node
-  of_script row = resolved count script.bodies declared row.node
+  of_script row = resolved unnamed count script.bodies declared row.node
 
   abbrev around_of : Row → ℕ
   around_of row = row.around
 
-  abbrev names_of_model : HasNames (given nodes) 0 [] model definitions.entries whole (λ n. n)
+  abbrev names_of_model : HasNames naming naming (given nodes) 0 [] model definitions.entries whole (λ n. n)
   names_of_model =
-      model_names has model script declared names definitions terms bodies all theories elements distinct gives
+      model_names has naming model script declared names definitions terms bodies all theories elements distinct gives
 
   abbrev seen_of : ℕ → ℕ
-  seen_of = seen has model script declared names definitions terms bodies all theories elements distinct gives
+  seen_of = seen has naming model script declared names definitions terms bodies all theories elements distinct gives
 
-  abbrev names_of_script : HasNames (given nodes) count declared script names.entries whole seen_of
+  abbrev names_of_script : HasNames naming unnamed (given nodes) count declared script names.entries whole seen_of
   names_of_script =
-      script_names has model script declared names definitions terms bodies all theories elements distinct gives
+      script_names has naming model script declared names definitions terms bodies all theories elements distinct gives
 
   -- the node of a row of the script, and the annotations round it
   script_at : (k : ℕ) (row : Row) → slice_get script.rows k ≡ Some row
@@ -95,7 +96,7 @@ module _ (has : (nodes : List machine.Node) (i : ℕ) (frame : Frame)
       ∙ ap (λ o. node_cost i c (unwrap_or o 0) (slice_get nodes i)) around
       ∙ ap (node_cost i c row.around) at
 
-  model_rows : HasRowCosts c 0 [] model
+  model_rows : HasRowCosts c naming 0 [] model
   model_rows = λ k row at.
       let here : slice_get model.rows (0 + k) ≡ Some row = ap (slice_get model.rows) (omega arith) ∙ at in
       row_costs (0 + k) row (of_model row)
@@ -104,7 +105,7 @@ module _ (has : (nodes : List machine.Node) (i : ℕ) (frame : Frame)
       (at_left (map around_of model.rows) (map around_of script.rows) (0 + k) row.around
       (at_map around_of model.rows (0 + k) row here))
 
-  script_rows : HasRowCosts c count declared script
+  script_rows : HasRowCosts c unnamed count declared script
   script_rows = λ k row at.
       let here = script_at k row at in row_costs (count + k) row (of_script row) here.0 here.1
 
@@ -126,9 +127,9 @@ module _ (has : (nodes : List machine.Node) (i : ℕ) (frame : Frame)
         m.listed,
         denotes_within (first_heads m.place model) _ _ _ m.body b.1 b.3.denotes,
         λ n. ap c (omega arith)
-            ∙ called_costs (given nodes) 0 [] model definitions.entries whole (λ q. q) names_of_model c
+            ∙ called_costs naming naming (given nodes) 0 [] model definitions.entries whole (λ q. q) names_of_model c
             model_rows none_given m.body
-            (calls_cost (given nodes) 0 [] model definitions.entries whole (λ q. q) names_of_model c
+            (calls_cost naming naming (given nodes) 0 [] model definitions.entries whole (λ q. q) names_of_model c
             model_rows none_given m.body) (seen_of n)
             m.place m.body m.definition e.name m.defined (omega (arith, place)) m.name b (omega arith),
       )
@@ -138,17 +139,17 @@ module _ (has : (nodes : List machine.Node) (i : ℕ) (frame : Frame)
 
   counted_names : all_names ≡ length names.entries
   counted_names =
-      names_counted has model script declared names definitions terms bodies all theories elements distinct gives
+      names_counted has naming model script declared names definitions terms bodies all theories elements distinct gives
 
   pub node_has_cost : (around i : ℕ) (term : Sexp) → Denotes script [] 0 around i term
       → c (count + i) ≡ around + cost_over whole term
   node_has_cost around i term denotes =
-      closed_costs (given nodes) count declared script names.entries whole seen_of names_of_script c
+      closed_costs naming unnamed (given nodes) count declared script names.entries whole seen_of names_of_script c
       script_rows given_costs all_names around i term (omega (arith, counted_names))
       (subst (λ hs. Denotes (record script { heads = hs }) [] 0 around i term) (sym (take-length script.heads))
       denotes)
       ∙ ap (λ d. around + cost_of (costs_in d) [] term)
-      (all_seen has model script declared names definitions terms bodies all theories elements distinct gives)
+      (all_seen has naming model script declared names definitions terms bodies all theories elements distinct gives)
 
   -- ---- what the node takes at least
 
@@ -157,7 +158,7 @@ module _ (has : (nodes : List machine.Node) (i : ℕ) (frame : Frame)
     abbrev least_at : ℕ → ℕ
     least_at = least nodes arounds
 
-    least_rows : HasRowLeasts least_at count declared script
+    least_rows : HasRowLeasts least_at unnamed count declared script
     least_rows = λ k row at.
         let here = script_at k row at in
         leasts nodes arounds (count + k)
@@ -167,12 +168,12 @@ module _ (has : (nodes : List machine.Node) (i : ℕ) (frame : Frame)
     pub node_has_least : (around i : ℕ) (term : Sexp) → Denotes script [] 0 around i term
         → around + least_of names.theories term ≤ least_at (count + i)
     node_has_least around i term denotes =
-        let calls = calls_cost (given nodes) count declared script names.entries whole seen_of names_of_script c
+        let calls = calls_cost naming unnamed (given nodes) count declared script names.entries whole seen_of names_of_script c
         script_rows given_costs i in
-        let means = costs_its_nodes (given nodes) count declared script names.entries whole seen_of
+        let means = costs_its_nodes naming unnamed (given nodes) count declared script names.entries whole seen_of
         names_of_script c script_rows given_costs i calls all_names in
         subst (λ ts. around + least_of ts term ≤ least_at (count + i)) terms.theories
-        (term_counts c least_at count declared (first_heads all_names script) _ i
+        (term_counts c least_at unnamed count declared (first_heads all_names script) _ i
         (λ j. let here = costs nodes arounds j in omega (arith, here)) least_rows means [] 0 around i term
         (subst (λ hs. Denotes (record script { heads = hs }) [] 0 around i term) (sym (take-length script.heads))
         denotes) (omega arith))

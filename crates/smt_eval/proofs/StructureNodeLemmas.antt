@@ -18,7 +18,8 @@ use Rattle.smt_nodes.specs.Node.{Node, Row}
 use Rattle.smt_machine.specs.Given.{given}
 use Rattle.smt_machine.specs.Nodes as machine
 use Rattle.smt_machine.specs.Nodes.{Frame, node_value}
-use Rattle.smt_machine.specs.Tables.{resolved}
+use Rattle.smt_values.specs.Element.{Naming}
+use Rattle.smt_machine.specs.Tables.{resolved, unnamed}
 use Rattle.smt_terms.specs.Elements.{ElementNames}
 use Rattle.smt_terms.specs.Denotes.{Denotes, Head, IsNameOf, IsRow, Slots, Table, UsesNone, unless_labelled}
 use Rattle.smt_terms.specs.Elements.{element_among}
@@ -33,7 +34,7 @@ use Rattle.smt_eval.proofs.NodeNameLemmas.{HasNames, IsGivenAt, calls_are_given,
 use Rattle.smt_eval.proofs.NodeNameLemmas.{called}
 use Rattle.smt_eval.proofs.PlaceLemmas.{at_left, at_right, none_among, none_in_both, within}
 use Rattle.smt_eval.specs.Internal.DefinitionValues.{AllDefined, IsDefined, first}
-use Rattle.smt_eval.specs.Known.{known_in, known_of, known_over}
+use Rattle.smt_eval.specs.Known.{known_in_by, known_of, known_over_by}
 use Rattle.smt_eval.specs.NodeValues.{GivesBodies, nodes_over}
 use Rattle.smt_eval.specs.Structure.{structure_of}
 
@@ -179,13 +180,13 @@ denotes_within t slots next around i _ d = absurd d
 
 module _ (has : (nodes : List machine.Node) (i : ℕ) (frame : Frame)
     → given nodes i frame ≡ node_value i (given nodes) frame (slice_get nodes i))
-    (model script : Table) (declared : List ℕ) (names definitions : Signature)
+    (naming : Naming) (model script : Table) (declared : List ℕ) (names definitions : Signature)
     (terms : AreTermsOf script names) (bodies : AreTermsOf model definitions)
     (all : AllDefined definitions.entries) (theories : definitions.theories ≡ names.theories)
     (elements : names.elements ≡ None) (distinct : AreDistinct (structure_of names definitions).entries)
     (gives : GivesBodies declared names definitions model.bodies) where
   abbrev pub g : machine.Giving
-  g = given (nodes_over model script declared)
+  g = given (nodes_over naming model script declared)
 
   abbrev pub count : ℕ
   count = length model.rows
@@ -194,10 +195,10 @@ module _ (has : (nodes : List machine.Node) (i : ℕ) (frame : Frame)
   whole = structure_of names definitions
 
   abbrev of_model : Row → machine.Node
-  of_model row = resolved 0 model.bodies [] row.node
+  of_model row = resolved naming 0 model.bodies [] row.node
 
   abbrev of_script : Row → machine.Node
-  of_script row = resolved count script.bodies declared row.node
+  of_script row = resolved unnamed count script.bodies declared row.node
 
   free_of_operators : (x : List ℕ) → is_plain_operator definitions.theories x ≡ true
       → entry_named whole.entries x ≡ None
@@ -207,12 +208,13 @@ module _ (has : (nodes : List machine.Node) (i : ℕ) (frame : Frame)
       (none_among names.entries x (not_named names.theories names.entries x terms.free
       (ap (λ ts. is_plain_operator ts x) (sym theories) ∙ plain)))
 
-  pub model_names : HasNames g 0 [] model definitions.entries whole (λ n. n)
+  pub model_names : HasNames naming naming g 0 [] model definitions.entries whole (λ n. n)
   model_names = record {
-    rows = λ k row at frame. has (nodes_over model script declared) (0 + k) frame
+    rows = λ k row at frame. has (nodes_over naming model script declared) (0 + k) frame
         ∙ ap (node_value (0 + k) g frame)
         (at_left (map of_model model.rows) (map of_script script.rows) (0 + k) (of_model row)
         (at_map of_model model.rows (0 + k) row (ap (slice_get model.rows) (omega arith) ∙ at)));
+    named = λ e is x. refl;
     theories = bodies.theories;
     heads = bodies.heads;
     bodies = bodies.bodies;
@@ -231,7 +233,7 @@ module _ (has : (nodes : List machine.Node) (i : ℕ) (frame : Frame)
 
   -- the body of the definition that the model gives to a declared name gives what the name means
   declared_given : (k : ℕ) (e : Entry) → slice_get (declared_among names.entries) k ≡ Some e
-      → IsGivenAt g count declared whole seen k e
+      → IsGivenAt naming g count declared whole seen k e
   declared_given k e at =
       let m = gives k e at in
       let b : IsBodyOf model m.place m.definition m.body =
@@ -243,19 +245,20 @@ module _ (has : (nodes : List machine.Node) (i : ℕ) (frame : Frame)
         m.listed,
         denotes_within (first_heads m.place model) _ _ _ m.body b.1 b.3.denotes,
         λ n vs counted. ap (λ j. g j vs) (omega arith)
-            ∙ called g 0 [] model definitions.entries whole (λ q. q) model_names m.body
-            (calls_are_given g 0 [] model definitions.entries whole (λ q. q) model_names m.body) (seen n)
+            ∙ called naming naming g 0 [] model definitions.entries whole (λ q. q) model_names m.body
+            (calls_are_given naming naming g 0 [] model definitions.entries whole (λ q. q) model_names m.body) (seen n)
             m.place m.body m.definition e.name vs m.defined (omega (arith, place)) m.name b (omega arith)
             (counted ∙ sym m.counted),
       )
 
-  pub script_names : HasNames g count declared script names.entries whole seen
+  pub script_names : HasNames naming unnamed g count declared script names.entries whole seen
   script_names = record {
-    rows = λ k row at frame. has (nodes_over model script declared) (count + k) frame
+    rows = λ k row at frame. has (nodes_over naming model script declared) (count + k) frame
         ∙ ap (node_value (count + k) g frame) (at_right (map of_model model.rows) (map of_script script.rows)
         (count + k) k (of_script row)
         (let l = length-map model.rows of_model in omega (arith, l))
         (at_map of_script script.rows k row at));
+    named = λ e is x. let none : Some e ≡ None = sym is ∙ terms.elements ∙ elements in cc;
     theories = terms.theories ∙ sym theories;
     heads = terms.heads;
     bodies = terms.bodies;
@@ -282,10 +285,10 @@ module _ (has : (nodes : List machine.Node) (i : ℕ) (frame : Frame)
       ∙ sym (length-append definitions.entries (defined_among names.entries)))
 
   pub node_gives_value : (around i : ℕ) (term : Sexp) → Denotes script [] 0 around i term
-      → g (count + i) [] ≡ known_over whole term
+      → g (count + i) [] ≡ known_over_by naming whole term
   node_gives_value around i term denotes =
-      closed_given g count declared script names.entries whole seen script_names all_names around i term
+      closed_given naming unnamed g count declared script names.entries whole seen script_names all_names around i term
       (omega (arith, names_counted))
       (subst (λ hs. Denotes (record script { heads = hs }) [] 0 around i term) (sym (take-length script.heads))
       denotes)
-      ∙ ap (λ d. known_of (known_in d) [] term) all_seen
+      ∙ ap (λ d. known_of (known_in_by naming d) [] term) all_seen

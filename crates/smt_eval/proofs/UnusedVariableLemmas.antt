@@ -42,7 +42,7 @@ module _ (m : KnownMeaning) where
         → SayTheSame inner outer r s → (t : Sexp) → uses_outer inner outer t ≡ false
         → known_of m r t ≡ known_of m s t
     known_same inner outer r s same (Atom Symbol x) unused =
-        ap (λ o. unwrap_or o (m (Plain x) [])) (same x unused)
+        ap (λ o. unwrap_or o (m.gives (Plain x) [])) (same x unused)
     known_same inner outer r s same (Atom Numeral x) unused = refl
     known_same inner outer r s same (Atom Hexadecimal x) unused = refl
     known_same inner outer r s same (Atom Binary x) unused = refl
@@ -62,7 +62,7 @@ module _ (m : KnownMeaning) where
     known_same inner outer r s same (Items (Cons (Reserved Bang) (Cons term attributes))) unused =
         known_same inner outer r s same term unused
     known_same inner outer r s same (Items (Cons head args)) unused =
-        ap (λ vs. known_by (applied head args) (λ f. m f vs)) (all_same inner outer r s same args unused)
+        ap (λ vs. known_by (applied head args) (λ f. m.gives f vs)) (all_same inner outer r s same args unused)
 
     all_same : (inner : List (List ℕ)) (outer : List (List ℕ × Sort)) (r s : Knowns)
         → SayTheSame inner outer r s → (ts : Sexps) → any_uses_outer inner outer ts ≡ false

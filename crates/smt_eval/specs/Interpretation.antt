@@ -1,10 +1,12 @@
 -- What a contract sees of an interpretation: the definitions that it was read from.
 use Rattle.std.specs.Prelude.{◌≡◌, ◌≤◌, ◌⊎◌, ℕ, [], None}
 use Rattle.smt_trees.specs.Sexp.{Sexp}
+use Rattle.smt_values.specs.ElementNumbers.{numbered_in}
 use Rattle.smt_machine.specs.Costs.{AreCosts}
 use Rattle.smt_machine.specs.Memory.{Remembers}
+use Rattle.smt_values.specs.Element.{Naming}
 use Rattle.smt_machine.specs.declared.machine.Machine.{Machine}
-use Rattle.smt_terms.specs.Library.{IsTerm, StandsFor, held_terms_of, terms_of}
+use Rattle.smt_terms.specs.Library.{IsTerm, StandsFor, element_names_of, held_terms_of, terms_of}
 use Rattle.smt_terms.specs.Signature.{AreDistinct, Signature}
 use Rattle.smt_terms.specs.declared.library.Library.{Library}
 use Rattle.smt_eval.specs.Cost.{cost_over}
@@ -36,15 +38,21 @@ pub record Fits (interpretation : Interpretation) (library : Library) : Type 0 w
   pub names : StandsFor library script
   pub holds : IsInterpretation interpretation script definitions
 
+-- the elements of declared sorts that the model's items name, each by the number of its name there
+abbrev pub numbers_of : Interpretation → Naming
+numbers_of interpretation = numbered_in (element_names_of interpretation.definitions)
+
 -- the values that the machine keeps are those of this interpretation, over the script's library
 abbrev pub Serves : Machine → Interpretation → Library → Type 0
 Serves machine interpretation library = Remembers machine
-    (nodes_over (held_terms_of interpretation.definitions) (terms_of library) interpretation.declared.items)
+    (nodes_over (numbers_of interpretation) (held_terms_of interpretation.definitions) (terms_of library)
+    interpretation.declared.items)
 
 -- the costs that the interpretation keeps are those of its nodes and of the library's as they are now
 abbrev pub KnowsCosts : Interpretation → Library → Type 0
 KnowsCosts interpretation library = AreCosts
-    (nodes_over (held_terms_of interpretation.definitions) (terms_of library) interpretation.declared.items)
+    (nodes_over (numbers_of interpretation) (held_terms_of interpretation.definitions) (terms_of library)
+    interpretation.declared.items)
     (arounds_over (held_terms_of interpretation.definitions) (terms_of library)) interpretation.costs.items
 
 -- it keeps none, or those

@@ -11,9 +11,9 @@ pub mod CompleteModel
 pub mod Structure
 pub mod Substitution
 pub mod Renaming
+pub mod Numbering
 pub mod NamedElements
 pub mod Interpretation
-pub mod ClosedTerm
 pub mod PlainTerm
 pub mod Parts
 pub mod Internal

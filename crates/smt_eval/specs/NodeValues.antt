@@ -2,15 +2,17 @@
 -- term that it stands for.
 use Rattle.std.specs.Prelude.{◌≡◌, ℕ, List, [], ◌++◌, Some, length, map, slice_get}
 use Rattle.smt_machine.specs.Nodes.{Node}
-use Rattle.smt_machine.specs.Tables.{resolved}
+use Rattle.smt_values.specs.Element.{Naming}
+use Rattle.smt_machine.specs.Tables.{resolved, unnamed}
 use Rattle.smt_terms.specs.Denotes.{Table}
 use Rattle.smt_terms.specs.Signature.{Entry, Signature, declared_among}
 
--- the nodes of a model, and behind them those of a script, whose declared names lead to these nodes
-abbrev pub nodes_over : (model script : Table) → (declared : List ℕ) → List Node
-nodes_over model script declared =
-    map (λ row. resolved 0 model.bodies [] row.node) model.rows
-    ++ map (λ row. resolved (length model.rows) script.bodies declared row.node) script.rows
+-- the nodes of a model, and behind them those of a script, whose declared names lead to these nodes, where this is
+-- known of the elements of declared sorts; a term of a script names none
+abbrev pub nodes_over : (elements : Naming) → (model script : Table) → (declared : List ℕ) → List Node
+nodes_over elements model script declared =
+    map (λ row. resolved elements 0 model.bodies [] row.node) model.rows
+    ++ map (λ row. resolved unnamed (length model.rows) script.bodies declared row.node) script.rows
 
 -- how many annotations stand round each of these nodes
 abbrev pub arounds_over : (model script : Table) → List ℕ

@@ -1,19 +1,15 @@
 -- What a contract sees of the parts of terms: the nodes of a model and of a script together.
-use Rattle.std.specs.Prelude.{◌≡◌, ℕ, ◌+◌, List, ◌++◌, Option, None, Some, length, map, option_map, slice_get}
+use Rattle.std.specs.Prelude.{◌≡◌, ℕ, ◌+◌, List, Option, None, Some, length, option_map, slice_get}
 use Rattle.smt_machine.specs.Costs.{capped}
 use Rattle.smt_machine.specs.Nodes.{Node}
-use Rattle.smt_nodes.specs.Node as written
 use Rattle.smt_terms.specs.Denotes.{Table}
 use Rattle.smt_terms.specs.Library.{IsFound, held_terms_of, terms_of}
 use Rattle.smt_terms.specs.Signature.{Entry, entry_named}
 use Rattle.smt_terms.specs.declared.library.Found.{Found}
 use Rattle.smt_terms.specs.declared.library.Found.TheVariants as place
+use Rattle.smt_eval.specs.Interpretation.{numbers_of}
 use Rattle.smt_eval.specs.NodeValues.{arounds_over, nodes_over}
 use Rattle.smt_eval.specs.declared.parts.Parts.{Parts}
-
--- the nodes of a model, and behind them those of a script, as they are written
-abbrev pub written_over : (model script : Table) → List written.Node
-written_over model script = map (λ row. row.node) model.rows ++ map (λ row. row.node) script.rows
 
 abbrev pub model_of : Parts → Table
 model_of parts = held_terms_of parts.interpretation.now.definitions
@@ -22,10 +18,8 @@ abbrev pub script_of : Parts → Table
 script_of parts = terms_of parts.library.now
 
 abbrev pub nodes_in : Parts → List Node
-nodes_in parts = nodes_over (model_of parts) (script_of parts) parts.interpretation.now.declared.items
-
-abbrev pub written_in : Parts → List written.Node
-written_in parts = written_over (model_of parts) (script_of parts)
+nodes_in parts = nodes_over (numbers_of parts.interpretation.now) (model_of parts) (script_of parts)
+    parts.interpretation.now.declared.items
 
 abbrev pub arounds_in : Parts → List ℕ
 arounds_in parts = arounds_over (model_of parts) (script_of parts)

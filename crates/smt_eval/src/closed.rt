@@ -5,46 +5,29 @@ ghost use Rattle.smt_trees.specs.Sexp.{Sexp};
 ghost use Rattle.smt_values.specs.Element.{known_element};
 ghost use Rattle.smt_machine.specs.Costs.{capped, within};
 ghost use Rattle.smt_machine.specs.Tables.{arounds_of, model_count, nodes_of};
-ghost use Rattle.smt_terms.specs.Library.{IsTerm, StandsFor, held_terms_of, terms_of};
+ghost use Rattle.smt_terms.specs.Library.{IsTerm, StandsFor, element_names_of, held_terms_of, terms_of};
 ghost use Rattle.smt_terms.specs.Signature.{Signature};
 ghost use Rattle.smt_terms.specs.TermsOf.{AreTermsOf};
 ghost use Rattle.smt_eval.specs.Cost.{cost_over};
 ghost use Rattle.smt_eval.specs.Interpretation.{CostsAtMost, Fits, IsInterpretation, KeepsCosts, KnowsCosts};
-ghost use Rattle.smt_eval.specs.Interpretation.{Serves};
+ghost use Rattle.smt_eval.specs.Interpretation.{Serves, numbers_of};
 ghost use Rattle.smt_eval.specs.Known.{known_over};
 ghost use Rattle.smt_eval.specs.Least.{least_over};
 ghost use Rattle.smt_eval.specs.NodeValues.{arounds_over, nodes_over};
+ghost use Rattle.smt_eval.specs.Numbering.{in_numbers};
 ghost use Rattle.smt_eval.specs.Structure.{structure_of};
 
-use crate::checked::Checked;
 use crate::interpretation::Interpretation;
 use crate::laws::{
     nodes_give_the_values_of_their_terms, nodes_have_the_costs_of_their_terms,
-    nodes_take_the_least_of_their_terms,
+    nodes_take_the_least_of_their_terms, numbers_stand_for_names,
 };
 use crate::tables::tables;
 use smt_faults::Memory;
 use smt_machine::{Machine, Tables, cost_of_term};
+use smt_nodes::laws::elements_have_numbers;
 use smt_terms::{Library, TermId};
 use smt_values::Value;
-
-/// A term over the definitions of an interpretation, followed by those of the script.
-#[derive(Clone, Copy)]
-pub struct Closed<'a> {
-    pub library: &'a Library<'a>,
-    pub interpretation: &'a Interpretation<'a>,
-    pub term: TermId,
-}
-
-impl Checked for Closed<'_> {
-    ghost use Rattle.smt_eval.specs.ClosedTerm.{IsClosed};
-
-    ghost IsTerm = { IsClosed };
-
-    fn known(&self, left: &mut u64) -> Result<Option<Value>, Memory> {
-        eval(self.library, self.interpretation, self.term, left)
-    }
-}
 
 /// The cost of evaluating a term of the library over the structure that an interpretation gives to its names;
 /// 2^64 - 1 where it is that or more.
@@ -95,7 +78,8 @@ pub fn cost_within(
 }
 
 /// What is known of a term of the library over the structure that an interpretation gives to its names;
-/// `None` where the value is open.
+/// `None` where the value is open. An element of a declared sort is known under the number that its name has among
+/// those of the model's definitions.
 ///
 /// The term is closed, and a term of this library. The interpretation is one of a model of the names that the
 /// library has now. The call subtracts one from `left` for each term that it evaluates, parts and the bodies
@@ -118,7 +102,9 @@ pub fn eval(
         → OnOk result (left.old ≤ left.new + cost_over (structure_of script definitions) t) }
     ensures known { (script definitions : Signature) (t : Sexp) → StandsFor library.now script
         → IsInterpretation interpretation.now script definitions → IsTerm library.now term t
-        → IfOk result (λ v. known_element v ≡ known_over (structure_of script definitions) t) }
+        → IfOk result (λ v. known_element v
+        ≡ in_numbers (element_names_of interpretation.now.definitions)
+        (known_over (structure_of script definitions) t)) }
 {
     eval_by(
         &mut Machine::new(library.alloc()),
@@ -154,9 +140,13 @@ pub fn eval_by(
         → OnOk result (left.old ≤ left.new + cost_over (structure_of script definitions) t) }
     ensures known { (script definitions : Signature) (t : Sexp) → StandsFor library.now script
         → IsInterpretation interpretation.now script definitions → IsTerm library.now term t
-        → IfOk result (λ v. known_element v ≡ known_over (structure_of script definitions) t) }
+        → IfOk result (λ v. known_element v
+        ≡ in_numbers (element_names_of interpretation.now.definitions)
+        (known_over (structure_of script definitions) t)) }
 {
     nodes_give_the_values_of_their_terms();
+    numbers_stand_for_names();
+    elements_have_numbers();
     nodes_have_the_costs_of_their_terms();
     nodes_take_the_least_of_their_terms();
     machine.eval(tables_of(library, interpretation), term, left)
@@ -164,8 +154,8 @@ pub fn eval_by(
 
 // The tables of the model and of the script.
 fn tables_of<'a>(library: &'a Library<'a>, interpretation: &'a Interpretation<'a>) -> Tables<'a>
-    ensures nodes { nodes_of result ≡ nodes_over (held_terms_of interpretation.now.definitions)
-        (terms_of library.now) interpretation.now.declared.items }
+    ensures nodes { nodes_of result ≡ nodes_over (numbers_of interpretation.now)
+        (held_terms_of interpretation.now.definitions) (terms_of library.now) interpretation.now.declared.items }
     ensures arounds { arounds_of result ≡ arounds_over (held_terms_of interpretation.now.definitions)
         (terms_of library.now) }
     ensures count { model_count result ≡ length (held_terms_of interpretation.now.definitions).rows }

@@ -4,17 +4,23 @@ pub mod elements;
 pub mod terms;
 
 ghost use Rattle.std.specs.Prelude.{◌≡◌, ◌≤◌, ◌↔◌, ℕ, ◌+◌, ◌*◌, ◌^◌, List, [], ◌∷◌, Ok, Err, Option, None, length};
-ghost use Rattle.std.specs.Prelude.{All, map, true};
+ghost use Rattle.std.specs.Prelude.{All, Some, map, slice_get, true};
 ghost use Rattle.smt_trees.specs.Sexp.{Cons, Sexp, Sexps, append};
 ghost use Rattle.smt_trees.specs.View.{sexp_of};
 ghost use Rattle.smt_theory.specs.Sort.{Sort};
 ghost use Rattle.smt_theory.specs.declared.theories.Theories.{Theories};
 ghost use Rattle.smt_values.specs.Element.{Abstract, Agrees, Element, IsOfSort};
+ghost use Rattle.smt_values.specs.ElementNumbers.{numbered_in};
 ghost use Rattle.smt_values.specs.Operations.{DivisionByZero};
 ghost use Rattle.smt_forms.specs.Variables.{is_among};
 ghost use Rattle.smt_machine.specs.Costs.{cost};
 ghost use Rattle.smt_machine.specs.Given.{given};
 ghost use Rattle.smt_machine.specs.Least.{least};
+ghost use Rattle.smt_machine.specs.Nodes.{Frame};
+ghost use Rattle.smt_values.specs.Element.{Naming};
+ghost use Rattle.smt_names.specs.Places.{place_of};
+ghost use Rattle.smt_nodes.specs.Node as node;
+ghost use Rattle.smt_nodes.specs.Node.{Row};
 ghost use Rattle.smt_terms.specs.Checking.{sort_in};
 ghost use Rattle.smt_terms.specs.Denotes.{Denotes, Table};
 ghost use Rattle.smt_terms.specs.Items.{items_before};
@@ -31,24 +37,20 @@ ghost use Rattle.smt_eval.specs.CostExamples.{annotated_twice, doubling_name, do
 ghost use Rattle.smt_eval.specs.Internal.DefinitionValues.{AllDefined};
 ghost use Rattle.smt_eval.specs.Interpretation.{IsInterpretation};
 ghost use Rattle.smt_eval.specs.Least.{least_of};
-ghost use Rattle.smt_eval.specs.Known.{known_in, known_of, known_over};
+ghost use Rattle.smt_eval.specs.Known.{by_name, known_in, known_of, known_over_by};
 ghost use Rattle.smt_eval.specs.Meaning.{value_over};
 ghost use Rattle.smt_eval.specs.Model.{AreDefined, AreItems, HasFirstFlaw, IsFirstLacking, items_of};
 ghost use Rattle.smt_eval.specs.Model.{model_in};
 ghost use Rattle.smt_eval.specs.NodeValues.{GivesBodies, arounds_over, nodes_over};
+ghost use Rattle.smt_eval.specs.Numbering.{in_numbers};
 ghost use Rattle.smt_eval.specs.NamedElements.{DefinitionsNameOnly, IsAmong, IsOfName, KeepsName, NamesOnly};
 ghost use Rattle.smt_eval.specs.Renaming.{DefinitionsNameNone, IsInjective, NamesNone, Renaming, parameters_in};
 ghost use Rattle.smt_eval.specs.Renaming.{renamed, renamed_variables};
 ghost use Rattle.smt_eval.specs.Structure.{IsStructure, structure_of};
-ghost use Rattle.smt_eval.specs.PlainTerm.{entries_of};
-ghost use Rattle.smt_eval.specs.declared.closed.Closed.{Closed};
-ghost use Rattle.smt_eval.specs.declared.plain.Closed as plain;
 ghost use Rattle.smt_eval.specs.declared.model_fault.ModelFlaw.TheVariants.{Item, Lacks};
 
-use crate::checked::Checked;
-use crate::closed::Closed;
-use crate::plain;
 use smt_machine::laws::{nodes_have_their_costs, nodes_have_their_least, nodes_have_their_values};
+use smt_names::laws::places_are_of_one_name;
 use smt_terms::laws::elements::items_that_tell_of_elements_are_set_aside;
 use smt_terms::laws::{items_are_well_sorted, repeated_items_are_set_aside, sorts_are_kept};
 use smt_theory::laws::{ranks_are_the_table, sorts_are_compared};
@@ -145,25 +147,6 @@ pub fn models_give_structures()
     items_are_well_sorted();
 }
 
-/// A term of a library is a checked term exactly where its interpretation is one of a model of the library's
-/// names. It stands for what its number stands for in the library, over the structure that library and model
-/// give.
-pub fn closed_terms_stand_for_their_trees()
-    ensures { (closed : Closed) (structure : Signature) (term : Sexp)
-        → ⟦<Closed<'static> as Checked>⟧.IsTerm closed structure term ↔ ((script definitions : Signature)
-        × StandsFor closed.library.now script × IsInterpretation closed.interpretation.now script definitions
-        × (structure ≡ structure_of script definitions) × IsTerm closed.library.now closed.term term) }
-{}
-
-/// A tree over definitions that are kept as trees is a checked term and stands for itself, over the structure
-/// of its theories and its definitions, in order.
-pub fn plain_trees_stand_for_themselves()
-    ensures { (closed : plain.Closed) (structure : Signature) (term : Sexp)
-        → ⟦<plain::Closed<'static> as Checked>⟧.IsTerm closed structure term
-        ↔ ((structure.theories ≡ closed.theories) × (structure.entries ≡ entries_of closed.definitions.now)
-        × (term ≡ sexp_of closed.tree)) }
-{}
-
 /// A model of the script's names is its items (SMT-LIB 2.6, section 4.2.6). Those that are not set aside are
 /// definitions in order, each over the earlier ones, and define every declared name.
 pub fn models_are_their_items()
@@ -203,30 +186,43 @@ pub fn the_first_fault_of_a_model_is_told()
 
 /// A node of a script has the value that is known of its term, over the structure that a model gives to the
 /// script. The nodes are those of the model and of the script, and each declared name leads to the body that
-/// the model gives to it. No term of a script names an element; those of the model may.
+/// the model gives to it. No term of a script names an element; those of the model may. This holds whatever is known of
+/// the elements.
 pub fn nodes_give_the_values_of_their_terms()
-    ensures { (model script : Table) (declared : List ℕ) (names definitions : Signature) (around i : ℕ)
-        (term : Sexp) → AreTermsOf script names → AreTermsOf model definitions
+    ensures { (elements : Naming) (model script : Table) (declared : List ℕ) (names definitions : Signature)
+        (around i : ℕ) (term : Sexp) → AreTermsOf script names → AreTermsOf model definitions
         → AllDefined definitions.entries → definitions.theories ≡ names.theories → names.elements ≡ None
         → AreDistinct (structure_of names definitions).entries
         → GivesBodies declared names definitions model.bodies
         → Denotes script [] 0 around i term
-        → given (nodes_over model script declared) (length model.rows + i) []
-        ≡ known_over (structure_of names definitions) term }
+        → given (nodes_over elements model script declared) (length model.rows + i) []
+        ≡ known_over_by elements (structure_of names definitions) term }
 {
     nodes_have_their_values();
+}
+
+/// Where elements are known by the numbers of their names, a node has the value that it has where they are known by
+/// their names, under its number. The value of each variable is known so too, and each element's name has a number.
+pub fn numbers_stand_for_names()
+    ensures { (model script : Table) (declared : List ℕ) (names : List (List ℕ)) (i : ℕ) (frame : Frame)
+        → ((k : ℕ) (row : Row) (x : List ℕ) → slice_get model.rows k ≡ Some row → row.node ≡ node.Element x
+        → (place : ℕ) × (place_of names x ≡ Some place))
+        → given (nodes_over (numbered_in names) model script declared) i (map (in_numbers names) frame)
+        ≡ in_numbers names (given (nodes_over by_name model script declared) i frame) }
+{
+    places_are_of_one_name();
 }
 
 /// A node of a script costs what its term costs, and one for each annotation without a label round it. The
 /// structure is the one that a model gives to the script, as for values.
 pub fn nodes_have_the_costs_of_their_terms()
-    ensures { (model script : Table) (declared : List ℕ) (names definitions : Signature) (around i : ℕ)
-        (term : Sexp) → AreTermsOf script names → AreTermsOf model definitions
+    ensures { (elements : Naming) (model script : Table) (declared : List ℕ) (names definitions : Signature)
+        (around i : ℕ) (term : Sexp) → AreTermsOf script names → AreTermsOf model definitions
         → AllDefined definitions.entries → definitions.theories ≡ names.theories → names.elements ≡ None
         → AreDistinct (structure_of names definitions).entries
         → GivesBodies declared names definitions model.bodies
         → Denotes script [] 0 around i term
-        → cost (nodes_over model script declared) (arounds_over model script) (length model.rows + i)
+        → cost (nodes_over elements model script declared) (arounds_over model script) (length model.rows + i)
         ≡ around + cost_over (structure_of names definitions) term }
 {
     nodes_have_their_values();
@@ -236,14 +232,14 @@ pub fn nodes_have_the_costs_of_their_terms()
 /// The evaluation of a node of a script takes at least as many steps as its term, and one for each annotation
 /// without a label round it. The structure is the one that a model gives to the script, as for values.
 pub fn nodes_take_the_least_of_their_terms()
-    ensures { (model script : Table) (declared : List ℕ) (names definitions : Signature) (around i : ℕ)
-        (term : Sexp) → AreTermsOf script names → AreTermsOf model definitions
+    ensures { (elements : Naming) (model script : Table) (declared : List ℕ) (names definitions : Signature)
+        (around i : ℕ) (term : Sexp) → AreTermsOf script names → AreTermsOf model definitions
         → AllDefined definitions.entries → definitions.theories ≡ names.theories → names.elements ≡ None
         → AreDistinct (structure_of names definitions).entries
         → GivesBodies declared names definitions model.bodies
         → Denotes script [] 0 around i term
         → around + least_of names.theories term
-        ≤ least (nodes_over model script declared) (arounds_over model script) (length model.rows + i) }
+        ≤ least (nodes_over elements model script declared) (arounds_over model script) (length model.rows + i) }
 {
     nodes_have_their_values();
     nodes_have_their_costs();

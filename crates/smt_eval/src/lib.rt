@@ -9,7 +9,6 @@
 #![tactic(auto)]
 
 mod blames;
-mod checked;
 mod closed;
 mod interpretation;
 pub mod laws;
@@ -19,8 +18,7 @@ pub mod plain;
 mod tables;
 
 pub use blames::blame_of_items;
-pub use checked::Checked;
-pub use closed::{Closed, cost, cost_within, eval, eval_by};
+pub use closed::{cost, cost_within, eval, eval_by};
 pub use interpretation::Interpretation;
 pub use model_fault::{ModelFault, ModelFlaw};
 pub use parts::Parts;

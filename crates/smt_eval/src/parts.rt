@@ -6,10 +6,11 @@ ghost use Rattle.smt_eval.specs.Interpretation.{KnowsCosts};
 ghost use Rattle.std.specs.Prelude.{◌≡◌, slice_get};
 
 use crate::interpretation::{Interpretation, item_at};
-use crate::laws::nodes_give_the_values_of_their_terms;
+use crate::laws::{nodes_give_the_values_of_their_terms, numbers_stand_for_names};
 use crate::tables::tables;
 use smt_faults::Memory;
 use smt_machine::{Look, Machine, Tables, cost_of_node};
+use smt_nodes::laws::elements_have_numbers;
 use smt_terms::{Found, Library, TermId};
 use smt_values::Value;
 
@@ -23,21 +24,22 @@ pub struct Parts<'a> {
 }
 
 impl<'a> Parts<'a> {
-    ghost use Rattle.std.specs.Prelude.{◌≤◌, ◌<◌, ◌+◌, [], None, IfOk, OnOk, length};
+    ghost use Rattle.std.specs.Prelude.{◌≤◌, ◌<◌, ◌+◌, [], None, IfOk, OnOk, length, option_map};
     ghost use Rattle.smt_trees.specs.Sexp.{Sexp};
     ghost use Rattle.smt_values.specs.Element.{known_element, known_elements};
     ghost use Rattle.smt_machine.specs.Costs.{capped, cost};
     ghost use Rattle.smt_machine.specs.Given.{given};
     ghost use Rattle.smt_machine.specs.Least.{least};
-    ghost use Rattle.smt_machine.specs.Looks.{Shows, leads_to_element};
-    ghost use Rattle.smt_machine.specs.Tables.{arounds_of, model_count, nodes_of, written_of};
-    ghost use Rattle.smt_terms.specs.Library.{IsTerm, StandsFor};
+    ghost use Rattle.smt_machine.specs.Looks.{Shows};
+    ghost use Rattle.smt_machine.specs.Tables.{arounds_of, model_count, nodes_of};
+    ghost use Rattle.smt_terms.specs.Library.{IsTerm, StandsFor, element_names_of};
     ghost use Rattle.smt_terms.specs.Signature.{Signature, entry_named};
     ghost use Rattle.smt_terms.specs.TermsOf.{AreTermsOf};
     ghost use Rattle.smt_eval.specs.Interpretation.{IsInterpretation, Serves};
     ghost use Rattle.smt_eval.specs.Known.{known_over};
+    ghost use Rattle.smt_eval.specs.Numbering.{in_numbers};
     ghost use Rattle.smt_eval.specs.Parts.{IsBodyAt, arounds_in, model_body, model_of, nodes_in, script_body};
-    ghost use Rattle.smt_eval.specs.Parts.{script_of, written_in};
+    ghost use Rattle.smt_eval.specs.Parts.{script_of};
     ghost use Rattle.smt_eval.specs.Structure.{structure_of};
 
     /// The nodes of a library, as it is now, and of an interpretation that was counted over it.
@@ -59,9 +61,13 @@ impl<'a> Parts<'a> {
         ensures known { (script definitions : Signature) (t : Sexp) → StandsFor self.now.library.now script
             → IsInterpretation self.now.interpretation.now script definitions
             → IsTerm self.now.library.now term t
-            → given (nodes_in self.now) result [] ≡ known_over (structure_of script definitions) t }
+            → given (nodes_in self.now) result []
+            ≡ in_numbers (element_names_of self.now.interpretation.now.definitions)
+            (known_over (structure_of script definitions) t) }
     {
         nodes_give_the_values_of_their_terms();
+        numbers_stand_for_names();
+        elements_have_numbers();
         let count = self.interpretation.costs.len();
         let root = self.tables().root(term);
         // (the number of a term is lower)
@@ -70,16 +76,9 @@ impl<'a> Parts<'a> {
 
     /// What a walk sees of a node.
     pub fn look(&self, node: usize) -> Look<'a>
-        ensures { Shows node (slice_get (nodes_in self.now) node) (slice_get (written_in self.now) node) result }
+        ensures { Shows node (slice_get (nodes_in self.now) node) result }
     {
         self.tables().look(node)
-    }
-
-    /// Whether a node is an element of a declared sort, or a name or a `let` that leads to one by its body.
-    pub fn is_element(&self, node: usize) -> bool
-        ensures { result ≡ leads_to_element (nodes_in self.now) (written_in self.now) node }
-    {
-        self.tables().leads_to_element(node)
     }
 
     /// The node that is the body of a name: of a declared name the body that the model gives to it, of a defined name
@@ -131,6 +130,14 @@ impl<'a> Parts<'a> {
         cost_of_node(self.interpretation.costs.as_slice(), self.tables(), node)
     }
 
+    /// The name of the elements of a declared sort with this number; `None` where no element of the model has it.
+    pub fn element_name(&self, number: u32) -> Option<&'a [u8]>
+        ensures { option_map (λ name. name.now) result
+            ≡ slice_get (element_names_of self.now.interpretation.now.definitions) number }
+    {
+        self.interpretation.definitions.nodes().element_name(number)
+    }
+
     /// What is known of the value of a node over a frame, the values of variables by their places, of which some may be
     /// open; `None` where the value is open.
     ///
@@ -161,7 +168,6 @@ impl<'a> Parts<'a> {
     // The tables of the model and of the script.
     fn tables(&self) -> Tables<'a>
         ensures nodes { nodes_of result ≡ nodes_in self.now }
-        ensures written { written_of result ≡ written_in self.now }
         ensures arounds { arounds_of result ≡ arounds_in self.now }
         ensures count { model_count result ≡ length (model_of self.now).rows }
         ensures named { (s : Signature) → StandsFor self.now.library.now s → AreTermsOf (script_of self.now) s }

@@ -5,24 +5,23 @@
 //!
 //! ```text
 //! let x = Definition { name: b"x", params: &[], result: Sort::Int, body: &three };
-//! let closed = Closed { alloc, theories, definitions: &[x], tree: &product };
+//! let closed = Closed { alloc, theories, definitions: &[x], names: &names, tree: &product };
 //! closed.value()?                                                           // Some(Value::Int(..)), of 9
 //! ```
 
 ghost use Rattle.std.specs.Prelude.{◌≡◌, IfOk};
 ghost use Rattle.smt_values.specs.Element.{known_element};
-ghost use Rattle.smt_eval.specs.Known.{known_over};
+ghost use Rattle.smt_values.specs.ElementNumbers.{numbered_in};
+ghost use Rattle.smt_eval.specs.Known.{known_over_by};
 
-mod counting;
 mod evaluator;
 mod names;
 mod scope;
 
-use crate::checked::Checked;
-use crate::plain::counting::count_term;
 use crate::plain::evaluator::known_value;
 use crate::plain::names::Definitions;
 use smt_faults::Memory;
+use smt_names::Names;
 use smt_theory::{Sort, Theories};
 use smt_trees::Tree;
 use smt_values::Value;
@@ -47,6 +46,9 @@ pub struct Closed<'a> {
     pub alloc: Global,
     pub theories: Theories,
     pub definitions: &'a [Definition<'a>],
+    /// The names of elements of declared sorts: the place of a name, from 0, is the number of its element. An element
+    /// with none of these names is open.
+    pub names: &'a Names,
     pub tree: Tree<'a>,
 }
 
@@ -59,7 +61,7 @@ impl Closed<'_> {
     /// is want of memory.
     pub fn value(&self) -> Result<Option<Value>, Memory>
         ensures { IfOk result (λ v. (structure : Signature) (term : Sexp) → IsPlain self.now structure term
-            → known_element v ≡ known_over structure term) }
+            → known_element v ≡ known_over_by (numbered_in self.now.names.now) structure term) }
     {
         known_value(self.over(), &[], self.tree)
     }
@@ -68,24 +70,13 @@ impl Closed<'_> {
     fn over(&self) -> Definitions<'_>
         ensures theories { result.theories ≡ self.now.theories }
         ensures seen { result.seen.now ≡ self.now.definitions.now }
+        ensures names { result.names.now ≡ self.now.names.now }
     {
         Definitions {
             alloc: self.alloc,
             theories: self.theories,
             seen: self.definitions,
+            names: self.names,
         }
-    }
-}
-
-impl Checked for Closed<'_> {
-    ghost use Rattle.smt_eval.specs.PlainTerm.{IsPlain};
-
-    ghost IsTerm = { IsPlain };
-
-    fn known(&self, left: &mut u64) -> Result<Option<Value>, Memory> {
-        // The recursion evaluates every part, both branches of a choice too, and each body at each use. So it
-        // takes what the term costs.
-        count_term(self.over(), &[], self.tree, left)?;
-        self.value()
     }
 }

@@ -2,12 +2,12 @@
 //! nothing.
 
 ghost use Rattle.std.specs.Prelude.{◌≡◌, length};
-ghost use Rattle.smt_machine.specs.Tables.{arounds_of, model_count, nodes_of, written_of};
-ghost use Rattle.smt_terms.specs.Library.{StandsFor, held_terms_of, terms_of};
+ghost use Rattle.smt_values.specs.ElementNumbers.{numbered_in};
+ghost use Rattle.smt_machine.specs.Tables.{arounds_of, model_count, nodes_of};
+ghost use Rattle.smt_terms.specs.Library.{StandsFor, element_names_of, held_terms_of, terms_of};
 ghost use Rattle.smt_terms.specs.Signature.{Signature};
 ghost use Rattle.smt_terms.specs.TermsOf.{AreTermsOf};
 ghost use Rattle.smt_eval.specs.NodeValues.{arounds_over, nodes_over};
-ghost use Rattle.smt_eval.specs.Parts.{written_over};
 
 use smt_machine::Tables;
 use smt_nodes::TermId;
@@ -21,9 +21,9 @@ pub(crate) fn tables<'a>(
     declared: &'a [TermId],
 ) -> Tables<'a>
     ensures nodes { nodes_of result
-        ≡ nodes_over (held_terms_of definitions.now) (terms_of script.now) declared.now }
+        ≡ nodes_over (numbered_in (element_names_of definitions.now)) (held_terms_of definitions.now)
+        (terms_of script.now) declared.now }
     ensures arounds { arounds_of result ≡ arounds_over (held_terms_of definitions.now) (terms_of script.now) }
-    ensures written { written_of result ≡ written_over (held_terms_of definitions.now) (terms_of script.now) }
     ensures count { model_count result ≡ length (held_terms_of definitions.now).rows }
     ensures named { (s : Signature) → StandsFor script.now s → AreTermsOf (terms_of script.now) s }
 {

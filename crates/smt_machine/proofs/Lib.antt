@@ -8,4 +8,3 @@ pub mod PartLemmas
 pub mod SumLemmas
 pub mod WalkLemmas
 pub mod ScriptLemmas
-pub mod LookLemmas

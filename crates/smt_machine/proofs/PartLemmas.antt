@@ -6,7 +6,7 @@ use Rattle.smt_nodes.specs.Node as node
 use Rattle.smt_nodes.specs.Node.{Row}
 use Rattle.smt_nodes.specs.NodeParts.{NodeParts, Args, Declared, Defined, Let, parts_of}
 use Rattle.smt_nodes.specs.Nodes.{rows_of}
-use Rattle.smt_machine.specs.Internal.Parts.{found, found_parts}
+use Rattle.smt_machine.specs.Internal.Parts.{elements_at, found, found_parts}
 use Rattle.smt_machine.specs.Nodes as machine
 use Rattle.smt_machine.specs.Tables.{call, resolved, shifted}
 use Rattle.smt_machine.specs.declared.tables.Place.{Place}
@@ -15,8 +15,8 @@ use Rattle.smt_machine.specs.declared.tables.Place.{Place}
 node_at : (at : Place) (row : Option Row) (parts : NodeParts) (P : Option machine.Node → Type 0)
     → option_map (λ (r : Row). parts_of r.node) row ≡ Some parts
     → ((n : node.Node) → parts_of n ≡ parts
-    → P (Some (resolved at.shift at.bodies.now at.declared.now n)))
-    → P (option_map (λ (r : Row). resolved at.shift at.bodies.now at.declared.now r.node) row)
+    → P (Some (resolved (elements_at at) at.shift at.bodies.now at.declared.now n)))
+    → P (option_map (λ (r : Row). resolved (elements_at at) at.shift at.bodies.now at.declared.now r.node) row)
 node_at at None parts P h by = cc
 node_at at (Some r) parts P h by = by r.node cc
 
@@ -24,7 +24,7 @@ pub none_at : (at : Place) → None ≡ found_parts at → None ≡ found at
 none_at at h = by (slice_get (rows_of at.nodes.now) at.number) h
   where
     by : (row : Option Row) → None ≡ option_map (λ (r : Row). parts_of r.node) row
-        → None ≡ option_map (λ (r : Row). resolved at.shift at.bodies.now at.declared.now r.node) row
+        → None ≡ option_map (λ (r : Row). resolved (elements_at at) at.shift at.bodies.now at.declared.now r.node) row
     by None e = refl
     by (Some r) e = cc
 
@@ -43,7 +43,7 @@ operator_at at args h some =
 
     by : (n : node.Node) → parts_of n ≡ Args args
         → (op : Op)
-        × (Some (resolved at.shift at.bodies.now at.declared.now n) ≡ Some (machine.Apply op (shifted at.shift args)))
+        × (Some (resolved (elements_at at) at.shift at.bodies.now at.declared.now n) ≡ Some (machine.Apply op (shifted at.shift args)))
     by (node.Literal kind digits) e = leaf cc
     by (node.Element name) e = leaf cc
     by (node.Slot place) e = leaf cc
@@ -60,7 +60,7 @@ declared_at at place args h =
     (λ m. m ≡ Some (call (slice_get at.declared.now place) (shifted at.shift args))) h by
   where
     by : (n : node.Node) → parts_of n ≡ Declared place args
-        → Some (resolved at.shift at.bodies.now at.declared.now n)
+        → Some (resolved (elements_at at) at.shift at.bodies.now at.declared.now n)
         ≡ Some (call (slice_get at.declared.now place) (shifted at.shift args))
     by (node.Declared p js) e =
         let here : p ≡ place = cc in
@@ -77,7 +77,7 @@ defined_at at place args h =
     h by
   where
     by : (n : node.Node) → parts_of n ≡ Defined place args
-        → Some (resolved at.shift at.bodies.now at.declared.now n)
+        → Some (resolved (elements_at at) at.shift at.bodies.now at.declared.now n)
         ≡ Some (call (option_map (λ j. at.shift + j) (slice_get at.bodies.now place)) (shifted at.shift args))
     by (node.Defined p js) e =
         let here : p ≡ place = cc in
@@ -93,7 +93,7 @@ let_at at values body h =
     (λ m. m ≡ Some (machine.Let (shifted at.shift values) (at.shift + body))) h by
   where
     by : (n : node.Node) → parts_of n ≡ Let values body
-        → Some (resolved at.shift at.bodies.now at.declared.now n)
+        → Some (resolved (elements_at at) at.shift at.bodies.now at.declared.now n)
         ≡ Some (machine.Let (shifted at.shift values) (at.shift + body))
     by (node.Let vs b) e =
         let same : vs ≡ values = cc in

@@ -12,9 +12,11 @@ use Rattle.smt_nodes.specs.Nodes.{rows_of}
 use Rattle.smt_machine.proofs.GivenLemmas.{cost_law}
 use Rattle.smt_machine.specs.Costs.{AreCosts, around_at, capped, cost, first_cost, last_cost, node_cost}
 use Rattle.smt_machine.specs.Costs.{part_cost, parts_cost}
+use Rattle.smt_machine.specs.Internal.Parts.{elements_at}
 use Rattle.smt_machine.specs.Internal.Sums.{AreKept, made_cost}
 use Rattle.smt_machine.specs.Nodes.{Node}
-use Rattle.smt_machine.specs.Tables.{arounds_of, model_count, nodes_of, resolved, script_rows}
+use Rattle.smt_machine.specs.Tables.{arounds_of, elements_of, model_count, nodes_of, resolved, script_rows}
+use Rattle.smt_machine.specs.Tables.{unnamed}
 use Rattle.smt_machine.specs.declared.tables.Place.{Place}
 use Rattle.smt_machine.specs.declared.tables.Tables.{Tables}
 
@@ -45,8 +47,8 @@ sum_next n c f ids k id before part after within at so_far here both =
 -- what a node costs is what its parts cost, and the body that it names
 parts_counted : (i : ℕ) (c : ℕ → ℕ) (at : Place) (n : node.Node)
     → made_cost i c at (parts_of n)
-    ≡ first_cost i c (Some (resolved at.shift at.bodies.now at.declared.now n))
-    + last_cost i c (Some (resolved at.shift at.bodies.now at.declared.now n))
+    ≡ first_cost i c (Some (resolved (elements_at at) at.shift at.bodies.now at.declared.now n))
+    + last_cost i c (Some (resolved (elements_at at) at.shift at.bodies.now at.declared.now n))
 parts_counted i c at (node.Literal kind digits) = refl
 parts_counted i c at (node.Element name) = refl
 parts_counted i c at (node.Slot place) = refl
@@ -61,13 +63,13 @@ pub node_counted : (i : ℕ) (c : ℕ → ℕ) (at : Place) (row : Option Row) (
     → first ≡ min (1 + around) (2 ^ 64 - 1) → both ≡ capped (made_cost i c at parts)
     → sum ≡ min (first + both) (2 ^ 64 - 1)
     → sum ≡ capped (node_cost i c around
-    (option_map (λ (r : Row). resolved at.shift at.bodies.now at.declared.now r.node) row))
+    (option_map (λ (r : Row). resolved (elements_at at) at.shift at.bodies.now at.declared.now r.node) row))
 node_counted i c at None parts around first both sum is one last all = cc
 node_counted i c at (Some row) parts around first both sum is one last all =
     let here : parts ≡ parts_of row.node = cc in
     let made : made_cost i c at parts
-    ≡ first_cost i c (Some (resolved at.shift at.bodies.now at.declared.now row.node))
-    + last_cost i c (Some (resolved at.shift at.bodies.now at.declared.now row.node)) =
+    ≡ first_cost i c (Some (resolved (elements_at at) at.shift at.bodies.now at.declared.now row.node))
+    + last_cost i c (Some (resolved (elements_at at) at.shift at.bodies.now at.declared.now row.node)) =
     ap (made_cost i c at) here ∙ parts_counted i c at row.node in
     omega (arith, one, last, all, made)
 
@@ -116,8 +118,8 @@ arounds_counted tables =
     let a : ℕ = length (map (λ (row : Row). row.around) model) in
     let left = length-append (map (λ (row : Row). row.around) model) (map (λ (row : Row). row.around) script) in
     let right = length-append
-    (map (λ (row : Row). resolved 0 tables.model_bodies.now [] row.node) model)
-    (map (λ (row : Row). resolved (model_count tables) tables.script_bodies.now tables.declared.now row.node)
+    (map (λ (row : Row). resolved (elements_of tables) 0 tables.model_bodies.now [] row.node) model)
+    (map (λ (row : Row). resolved unnamed (model_count tables) tables.script_bodies.now tables.declared.now row.node)
     script) in
     omega (
       arith,
@@ -125,7 +127,7 @@ arounds_counted tables =
       right,
       length-map model (λ (row : Row). row.around),
       length-map script (λ (row : Row). row.around),
-      length-map model (λ (row : Row). resolved 0 tables.model_bodies.now [] row.node),
+      length-map model (λ (row : Row). resolved (elements_of tables) 0 tables.model_bodies.now [] row.node),
       length-map script
-          (λ (row : Row). resolved (model_count tables) tables.script_bodies.now tables.declared.now row.node),
+          (λ (row : Row). resolved unnamed (model_count tables) tables.script_bodies.now tables.declared.now row.node),
     )

@@ -1,10 +1,7 @@
 -- A node as a walk beside its tree sees it: its parts, the body that it leads to, and its operator.
-use Rattle.std.specs.Prelude.{◌≡◌, ℕ, List, [], Bool, true, false, Option, Some, None, length, nat_lt}
-use Rattle.std.specs.Prelude.{option_and_then, slice_get}
+use Rattle.std.specs.Prelude.{◌≡◌, ℕ, List, [], Option, Some, None, nat_lt, option_and_then}
 use Rattle.std.specs.Prelude.{if◌then◌else◌}
 use Rattle.smt_theory.specs.declared.op.Op.{Op}
-use Rattle.smt_nodes.specs.Node as written
-use Rattle.smt_machine.specs.Given.{fill}
 use Rattle.smt_machine.specs.Nodes.{Node, Known, Slot, Apply, Call, Let}
 use Rattle.smt_machine.specs.Tables.{shifted}
 use Rattle.smt_machine.specs.declared.look.Look.{Look}
@@ -42,24 +39,6 @@ op_of (Some (Let values body)) = None
 abbrev pub below : ℕ → ℕ → Option ℕ
 below i j = if nat_lt j i then Some j else None
 
--- whether what is written is an element of a declared sort
-abbrev pub is_element : Option written.Node → Bool
-is_element (Some (written.Element name)) = true
-is_element _ = false
-
--- what leads to a body is an element where that is; else what is written tells
-abbrev pub element_by : (ℕ → Bool) → Option ℕ → Option written.Node → Bool
-element_by is_element_at (Some j) source = is_element_at j
-element_by is_element_at None source = is_element source
-
--- whether the node of each number is an element, or a name or a `let` that leads to one by its body
-unfoldable pub leads_to_element : List Node → List written.Node → ℕ → Bool
-leads_to_element nodes sources =
-    fill (λ i. is_element (slice_get sources i))
-    (λ is_element_at i. element_by is_element_at (option_and_then (below i) (body_of (slice_get nodes i)))
-    (slice_get sources i))
-    (length nodes)
-
 -- ---- what a look shows
 
 abbrev pub number_seen : Look → ℕ
@@ -71,13 +50,9 @@ parts_seen look = shifted look.shift look.ids.now
 abbrev pub op_seen : Look → Option Op
 op_seen look = look.op
 
-abbrev pub element_seen : Look → Bool
-element_seen look = look.element
-
--- it shows the node of this number, which is written so
-pub record Shows (i : ℕ) (node : Option Node) (source : Option written.Node) (look : Look) : Type 0 where
+-- it shows the node of this number
+pub record Shows (i : ℕ) (node : Option Node) (look : Look) : Type 0 where
   pub number : number_seen look ≡ i
   pub parts : parts_seen look ≡ parts_of node
   pub body : look.body ≡ option_and_then (below i) (body_of node)
   pub op : op_seen look ≡ op_of node
-  pub element : element_seen look ≡ is_element source

@@ -29,7 +29,7 @@ use crate::task::{Task, task_of};
 use smt_faults::Memory;
 use smt_nodes::{Node, NodeParts, TermId};
 use smt_theory::Op;
-use smt_values::{Value, element, literal_of};
+use smt_values::{Value, literal_of};
 
 impl Machine {
     /// What is known of the value of a closed term of the script; `None` where the value is open.
@@ -245,7 +245,7 @@ impl Machine {
     {
         match node {
             Node::Literal(kind, digits) => self.leave(literal_of(*kind, from.literal(), *digits)),
-            Node::Element(name) => self.leave(element(*name)),
+            Node::Element(_) => self.leave(from.element()),
             Node::Slot(place) => {
                 let value = self.value_at(*place);
                 self.leave(value)

@@ -1,17 +1,20 @@
 //! The nodes of a model and of a script as one table, and what names lead to. This file evaluates nothing.
 
-ghost use Rattle.std.specs.Prelude.{◌≡◌, ◌+◌, ◌<◌, ◌≤◌, option_map, slice_get, unwrap_or};
+ghost use Rattle.std.specs.Prelude.{◌≡◌, ◌+◌, ◌<◌, ◌≤◌, ℕ, List, Some, false, option_map, slice_get, unwrap_or};
 ghost use Rattle.smt_machine.specs.Costs.{around_at, capped};
 ghost use Rattle.smt_nodes.specs.Literals.{literal_number};
+ghost use Rattle.smt_nodes.specs.Node.{Element};
 ghost use Rattle.smt_nodes.specs.NodeView.{node_view};
 ghost use Rattle.smt_nodes.specs.PartsView.{parts_view};
-ghost use Rattle.smt_machine.specs.Internal.Parts.{found, found_around, found_node, found_parts, meaning, number_of};
-ghost use Rattle.smt_machine.specs.Internal.Parts.{numbers_of};
-ghost use Rattle.smt_machine.specs.Tables.{arounds_of, model_count, nodes_of, shifted, written_of};
+ghost use Rattle.smt_machine.specs.Internal.Parts.{elements_at, found, found_around, found_node, found_parts};
+ghost use Rattle.smt_machine.specs.Internal.Parts.{meaning, number_of, numbers_of};
+ghost use Rattle.smt_values.specs.Element.{known_element};
+ghost use Rattle.smt_machine.specs.Tables.{arounds_of, model_count, nodes_of, shifted};
 
 use crate::items::item_at;
 use crate::parts::{Part, Parts};
 use smt_nodes::{Node, NodeParts, Nodes, TermId};
+use smt_values::{Value, element};
 
 /// The nodes of a model and of a script, and the bodies of their definitions.
 ///
@@ -39,6 +42,8 @@ pub struct Tables<'a> {
 pub(crate) struct Place<'a> {
     pub(crate) nodes: &'a Nodes,
     pub(crate) number: usize,
+    /// Whether the elements of this table are known, by their numbers: those of the model are.
+    pub(crate) named: bool,
     /// How many nodes of both tables come before those of this one.
     pub(crate) shift: usize,
     pub(crate) bodies: &'a [TermId],
@@ -66,7 +71,6 @@ impl<'a> Tables<'a> {
     pub(crate) fn place(&self, number: usize) -> Place<'a>
         ensures node { found result ≡ slice_get (nodes_of self.now) number }
         ensures around { found_around result ≡ around_at (arounds_of self.now) number }
-        ensures written { found_node result ≡ slice_get (written_of self.now) number }
     {
         let shift = self.shift();
         if number < shift {
@@ -82,11 +86,11 @@ impl<'a> Tables<'a> {
         requires { number < model_count self.now }
         ensures node { found result ≡ slice_get (nodes_of self.now) number }
         ensures around { found_around result ≡ around_at (arounds_of self.now) number }
-        ensures written { found_node result ≡ slice_get (written_of self.now) number }
     {
         Place {
             nodes: self.model,
             number,
+            named: true,
             shift: 0,
             bodies: self.model_bodies,
             declared: &[],
@@ -100,7 +104,6 @@ impl<'a> Tables<'a> {
         requires behind { shift ≤ number }
         ensures node { found result ≡ slice_get (nodes_of self.now) number }
         ensures around { found_around result ≡ around_at (arounds_of self.now) number }
-        ensures written { found_node result ≡ slice_get (written_of self.now) number }
     {
         let own = number - shift;
         let count = self.script.len();
@@ -116,6 +119,7 @@ impl<'a> Tables<'a> {
     fn place_among(&self, shift: usize, nodes: &'a Nodes, number: usize) -> Place<'a>
         ensures nodes { result.nodes.now ≡ nodes.now }
         ensures number { result.number ≡ number }
+        ensures named { result.named ≡ false }
         ensures shift { result.shift ≡ shift }
         ensures bodies { result.bodies.now ≡ self.now.script_bodies.now }
         ensures declared { result.declared.now ≡ self.now.declared.now }
@@ -123,6 +127,7 @@ impl<'a> Tables<'a> {
         Place {
             nodes,
             number,
+            named: false,
             shift,
             bodies: self.script_bodies,
             declared: self.declared,
@@ -165,6 +170,21 @@ impl<'a> Place<'a> {
         match self.nodes.around(self.number) {
             Some(around) => around,
             None => 0,
+        }
+    }
+
+    /// What is known of the element that the node is.
+    #[inline(always)]
+    pub(crate) fn element(&self) -> Option<Value>
+        ensures { (name : List ℕ) → found_node self.now ≡ Some (Element name)
+            → known_element result ≡ elements_at self.now name }
+    {
+        if !self.named {
+            return None;
+        }
+        match self.nodes.element(self.number) {
+            Some(number) => Some(element(number)),
+            None => None,
         }
     }
 

@@ -8,3 +8,9 @@ pub fn places_are_where_names_stand()
     ensures { (names : List (List ℕ)) (name : List ℕ) (place : ℕ) → AreDistinct names
         → (place_of names name ≡ Some place) ↔ (slice_get names place ≡ Some name) }
 {}
+
+/// A place is that of one name alone, whether names repeat or not.
+pub fn places_are_of_one_name()
+    ensures { (names : List (List ℕ)) (name other : List ℕ) (place : ℕ) → place_of names name ≡ Some place
+        → place_of names other ≡ Some place → name ≡ other }
+{}

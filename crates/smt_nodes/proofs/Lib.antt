@@ -4,4 +4,5 @@ pub mod RowLemmas
 pub mod SoundLemmas
 pub mod TableLemmas
 pub mod NumberLemmas
+pub mod ElementLemmas
 pub mod PushLemmas

@@ -25,7 +25,7 @@ node_kept t u ends (Literal kind n number) held within more =
     ap (λ ds. spec.Literal kind ds) (before_kept n ends.digits t.digits u.digits within.digits more.digits)
 node_kept t u ends (Large kind n place) held within more =
     ap (λ ds. spec.Literal kind ds) (before_kept n ends.digits t.digits u.digits within.digits more.digits)
-node_kept t u ends (Element n) held within more =
+node_kept t u ends (Element n number) held within more =
     ap (λ ds. spec.Element ds) (before_kept n ends.digits t.digits u.digits within.digits more.digits)
 node_kept t u ends (Slot place) held within more = refl
 node_kept t u ends (Plain op n) held within more =

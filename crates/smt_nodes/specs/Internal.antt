@@ -1,4 +1,5 @@
 pub mod Lists
 pub mod Annotations
 pub mod Numbers
+pub mod Elements
 pub mod Rows

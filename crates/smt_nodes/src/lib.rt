@@ -1,5 +1,6 @@
-//! Checked terms, as numbered nodes in one flat table. This crate knows no names, no trees and no values, and
-//! requires nothing of a node: the layer above gives numbers and places their meanings.
+//! Checked terms, as numbered nodes in one flat table. This crate knows no trees and no values,
+//! of names those of elements alone, and requires nothing of a node: the layer above gives numbers and places their
+//! meanings.
 //!
 //! `Nodes::push` adds a node and returns its number, `Nodes::get` returns the node of a number, and
 //! `Nodes::cut` keeps the first nodes. So `(+ x 1)`, where `x` is the first variable in scope:
@@ -14,6 +15,7 @@
 
 mod annotated;
 mod large;
+pub mod laws;
 mod node;
 mod op;
 mod rows;

@@ -26,8 +26,9 @@ pub(crate) enum Stored {
     /// A literal whose number has no room here: the count of its digits, and the place of the number among
     /// the large ones.
     Large(LiteralKind, u32, u32),
-    /// An element of a declared sort: the count of the bytes of its name, which are among the digits.
-    Element(u32),
+    /// An element of a declared sort: the count of the bytes of its name, which are among the digits, and the place
+    /// of its name among the names of elements.
+    Element(u32, u32),
     Slot(u32),
     /// An operator that holds no number, and the count of its arguments.
     Plain(PlainOp, u32),

@@ -5,6 +5,7 @@ ghost use Rattle.std.specs.Prelude.{◌≡◌, IfOk};
 ghost use Rattle.smt_nodes.specs.Internal.Annotations.{annotated_of, around_of};
 ghost use Rattle.smt_nodes.specs.Internal.Lists.{lists_of};
 ghost use Rattle.smt_nodes.specs.Internal.Numbers.{large_of};
+ghost use Rattle.smt_nodes.specs.Internal.Elements.{AreNamed};
 ghost use Rattle.smt_nodes.specs.Internal.Rows.{AreNumbered, IsSound, last_ends};
 
 use crate::node::{Node, NodeParts};
@@ -12,6 +13,7 @@ use crate::rows::{Ends, Stored, StoredRow};
 use crate::tables::{Tables, narrow};
 use crate::term_id::TermId;
 use smt_faults::Memory;
+use smt_names::Names;
 use smt_theory::PlainOp;
 use std::alloc::Global;
 
@@ -23,34 +25,41 @@ use std::alloc::Global;
 pub struct Nodes {
     rows: Vec<StoredRow>,
     tables: Tables,
+    /// The names of elements, each once. They stay where rows are cut, so that a number keeps its name.
+    names: Names,
     ghost sound: { IsSound rows.items (lists_of tables) (annotated_of tables) } by { Prim.hlevel props },
     ghost numbered: { AreNumbered rows.items (lists_of tables) (large_of tables)
         (annotated_of tables) } by { Prim.hlevel props },
+    ghost named: { AreNamed rows.items (lists_of tables) names (annotated_of tables) } by { Prim.hlevel props },
 }
 
 impl Nodes {
-    ghost use Rattle.std.specs.Prelude.{ℕ, ◌≡◌, ◌<◌, ◌≤◌, ◌∷◌, ◌++◌, ◌+◌, [], length, take, slice_get};
+    ghost use Rattle.std.specs.Prelude.{ℕ, List, ◌≡◌, ◌<◌, ◌≤◌, ◌∷◌, ◌++◌, ◌+◌, [], length, take, slice_get};
     ghost use Rattle.std.specs.Prelude.{None, Some, option_map, IfOk, OnOk, OnErr};
     ghost use Rattle.smt_nodes.specs.Node.{Apply};
     ghost use Rattle.smt_theory.specs.PlainOp.{op_of_plain};
     ghost use Rattle.smt_nodes.specs.NodeView.{node_view};
     ghost use Rattle.smt_nodes.specs.NodeParts.{parts_of};
     ghost use Rattle.smt_nodes.specs.PartsView.{parts_view};
-    ghost use Rattle.smt_nodes.specs.Nodes.{rows_of};
+    ghost use Rattle.smt_nodes.specs.Nodes.{names_of, rows_of};
     ghost use Rattle.smt_nodes.specs.Internal.Annotations.{IsOwn, annotated_in, inner};
     ghost use Rattle.smt_nodes.specs.Internal.Lists.{IsHeld, lengths};
     ghost use Rattle.smt_nodes.specs.Internal.Numbers.{IsNumberHeld};
     ghost use Rattle.smt_nodes.specs.Internal.Rows.{row_view};
     ghost use Rattle.smt_nodes.specs.Internal.Lists.{node_of};
+    ghost use Rattle.smt_nodes.specs.Elements.{element_in, element_number, names_with};
+    ghost use Rattle.smt_nodes.specs.Internal.Elements.{element_if, held_element};
     ghost use Rattle.smt_nodes.specs.Literals.{literal_number, spelled};
 
     /// A table without nodes.
     pub fn new(alloc: Global) -> Nodes
-        ensures { rows_of result ≡ [] }
+        ensures rows { rows_of result ≡ [] }
+        ensures names { names_of result ≡ [] }
     {
         Nodes {
             rows: Vec::new(alloc),
             tables: Tables::new(alloc),
+            names: Names::new(alloc),
         }
     }
 
@@ -110,6 +119,35 @@ impl Nodes {
         }
     }
 
+    /// The number of an element of a declared sort, by the number of its node: elements of one name have one number,
+    /// and those of two names two. The call looks at no name.
+    ///
+    /// `None` where the node is no element or there is none.
+    #[inline(always)]
+    pub fn element(&self, number: usize) -> Option<u32>
+        ensures { result
+            ≡ element_in (names_of self.now) (option_map (λ row. row.node) (slice_get (rows_of self.now) number)) }
+    {
+        match self.row(number) {
+            Some(row) => {
+                let stored = self.tables.inner(row.stored);
+                self.tables.element(stored)
+            }
+            None => None,
+        }
+    }
+
+    /// The name of the elements of a number; `None` where no element has it.
+    pub fn element_name(&self, element: u32) -> Option<&[u8]>
+        ensures { option_map (λ name. name.now) result ≡ slice_get (names_of self.now) element }
+    {
+        if (element as usize) < self.names.len() {
+            Some(self.names.name(element as usize))
+        } else {
+            None
+        }
+    }
+
     /// How many annotations without a label are directly round the node of a number; `None` from the length
     /// on.
     pub fn around(&self, number: usize) -> Option<usize>
@@ -129,9 +167,11 @@ impl Nodes {
             ≡ rows_of self.old ++ (record { node = node_view node.now; around = around }) ∷ []) }
         ensures number { IfOk result (λ id. id ≡ length (rows_of self.old)) }
         ensures unchanged { OnErr result (rows_of self.new ≡ rows_of self.old) }
+        ensures names { OnOk result (names_of self.new ≡ names_with (names_of self.old) (node_view node.now)) }
+        ensures longer { (more : List (List ℕ)) × (names_of self.new ≡ names_of self.old ++ more) }
     {
-        let stored = self.tables.store(node, self.rows.len())?;
-        self.push_stored(stored, around)
+        let element = self.name_element(node)?;
+        self.push_named(node, element, around)
     }
 
     /// Adds the node of an operator that holds no number, with its arguments, as `push` does. It takes less
@@ -147,18 +187,50 @@ impl Nodes {
             ++ (record { node = Apply (op_of_plain op) args.now; around = around }) ∷ []) }
         ensures number { IfOk result (λ id. id ≡ length (rows_of self.old)) }
         ensures unchanged { OnErr result (rows_of self.new ≡ rows_of self.old) }
+        ensures names { names_of self.new ≡ names_of self.old }
     {
         let stored = self.tables.store_plain(op, args)?;
         self.push_stored(stored, around)
     }
 
-    /// Keeps the first `count` nodes. The cost is that of the nodes that it removes.
+    /// Keeps the first `count` nodes, and the names of all elements. The cost is that of the nodes that it removes.
     pub fn cut(&mut self, count: usize)
-        ensures { rows_of self.new ≡ take count (rows_of self.old) }
+        ensures rows { rows_of self.new ≡ take count (rows_of self.old) }
+        ensures names { names_of self.new ≡ names_of self.old }
     {
         self.rows.truncate(count);
         let ends = last_ends(self.rows.as_slice());
         self.tables.truncate(ends, count);
+    }
+
+    // The number of the element that a node is, whose name is now among those of elements; 0 of another node.
+    #[inline(always)]
+    fn name_element(&mut self, node: &Node<'_>) -> Result<u32, Memory>
+        ensures rows { rows_of self.new ≡ rows_of self.old }
+        ensures names { OnOk result (self.new.names ≡ names_with self.old.names (node_view node.now)) }
+        ensures unchanged { OnErr result (self.new.names ≡ self.old.names) }
+        ensures number { IfOk result (λ k. element_number self.new.names (node_view node.now)
+            ≡ element_if (node_view node.now) k) }
+    {
+        match *node {
+            Node::Element(name) => self.names.place(name),
+            Node::Literal(_, _) | Node::Slot(_) | Node::Apply { .. } => Ok(0),
+            Node::Declared { .. } | Node::Defined { .. } | Node::Let { .. } => Ok(0),
+        }
+    }
+
+    // Adds a node, as `push` does, where the number of its element is known, if it is one.
+    #[inline(always)]
+    fn push_named(&mut self, node: &Node<'_>, element: u32, around: u32) -> Result<TermId, Memory>
+        requires { element_number self.old.names (node_view node.now) ≡ element_if (node_view node.now) element }
+        ensures pushed { OnOk result (rows_of self.new
+            ≡ rows_of self.old ++ (record { node = node_view node.now; around = around }) ∷ []) }
+        ensures number { IfOk result (λ id. id ≡ length (rows_of self.old)) }
+        ensures unchanged { OnErr result (rows_of self.new ≡ rows_of self.old) }
+        ensures names { self.new.names ≡ self.old.names }
+    {
+        let stored = self.tables.store(node, self.rows.len(), element)?;
+        self.push_stored(stored, around)
     }
 
     // Adds the node of which this is stored at the ends of the lists, with this many annotations round it, and
@@ -169,12 +241,15 @@ impl Nodes {
         requires bare { annotated_in stored ≡ None }
         requires number { IsNumberHeld (large_of self.old.tables) (length self.old.rows.items) stored
             (spelled (node_of (lists_of self.old.tables) (lengths (lists_of self.old.tables)) stored)) }
+        requires element { held_element stored ≡ element_number self.old.names
+            (node_of (lists_of self.old.tables) (lengths (lists_of self.old.tables)) stored) }
         ensures pushed { OnOk result (rows_of self.new ≡ rows_of self.old ++ (record {
           node = node_of (lists_of self.old.tables) (lengths (lists_of self.old.tables)) stored;
           around = around;
         }) ∷ []) }
         ensures number { IfOk result (λ id. id ≡ length (rows_of self.old)) }
         ensures unchanged { OnErr result (rows_of self.new ≡ rows_of self.old) }
+        ensures names { self.new.names ≡ self.old.names }
     {
         let stored = self.tables.annotate(stored, around, self.rows.len())?;
         self.push_row(stored)
@@ -189,11 +264,15 @@ impl Nodes {
             (inner (annotated_of self.old.tables) stored)
             (spelled (node_of (lists_of self.old.tables) (lengths (lists_of self.old.tables))
             (inner (annotated_of self.old.tables) stored))) }
+        requires element { held_element (inner (annotated_of self.old.tables) stored) ≡ element_number self.old.names
+            (node_of (lists_of self.old.tables) (lengths (lists_of self.old.tables))
+            (inner (annotated_of self.old.tables) stored)) }
         ensures pushed { OnOk result (self.new.rows.items ≡ self.old.rows.items
             ++ (record { stored = stored; ends = lengths (lists_of self.old.tables) }) ∷ []) }
         ensures number { IfOk result (λ id. id ≡ length self.old.rows.items) }
         ensures unchanged { OnErr result (self.new.rows.items ≡ self.old.rows.items) }
         ensures tables { self.new.tables ≡ self.old.tables }
+        ensures names { self.new.names ≡ self.old.names }
     {
         let number = narrow(self.rows.len())?;
         let ends = self.tables.ends()?;

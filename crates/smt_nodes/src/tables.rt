@@ -15,6 +15,7 @@ ghost use Rattle.smt_nodes.specs.PartsView.{parts_view};
 ghost use Rattle.smt_nodes.specs.Internal.Annotations.{IsAnnotated, annotated_in, annotated_of, inner, stored_in};
 ghost use Rattle.smt_nodes.specs.Internal.Lists.{Grows, IsHeld, IsStored, IsUpTo, before, first_of, lengths};
 ghost use Rattle.smt_nodes.specs.Internal.Lists.{IsPrefix, lists_of, node_of, no_lists};
+ghost use Rattle.smt_nodes.specs.Internal.Elements.{element_if, held_element};
 ghost use Rattle.smt_nodes.specs.Internal.Numbers.{IsNumberHeld, held_number, large_of};
 ghost use Rattle.smt_nodes.specs.Internal.Numbers.{number_in};
 ghost use Rattle.smt_nodes.specs.Literals.{spelled};
@@ -106,7 +107,7 @@ impl Tables {
         match stored {
             Stored::Literal(kind, count, _) => Node::Literal(kind, self.digits(count, ends.digits)),
             Stored::Large(kind, count, _) => Node::Literal(kind, self.digits(count, ends.digits)),
-            Stored::Element(count) => Node::Element(self.digits(count, ends.digits)),
+            Stored::Element(count, _) => Node::Element(self.digits(count, ends.digits)),
             Stored::Slot(place) => Node::Slot(place as usize),
             Stored::Plain(op, count) => Node::Apply {
                 op: op.op(),
@@ -141,7 +142,8 @@ impl Tables {
     {
         match stored {
             Stored::Literal(_, _, _) | Stored::Large(_, _, _) => NodeParts::Args(&[]),
-            Stored::Element(_) | Stored::Slot(_) | Stored::Annotated(_, _) => NodeParts::Args(&[]),
+            Stored::Element(_, _) | Stored::Slot(_) => NodeParts::Args(&[]),
+            Stored::Annotated(_, _) => NodeParts::Args(&[]),
             Stored::Plain(_, count) | Stored::Numbered(_, count) => {
                 NodeParts::Args(self.parts(count, ends.parts))
             }
@@ -228,6 +230,17 @@ impl Tables {
         }
     }
 
+    /// The place of the name of an element among those of elements, from what is stored for it.
+    #[inline(always)]
+    pub(crate) fn element(&self, stored: Stored) -> Option<u32>
+        ensures { result ≡ held_element stored }
+    {
+        match stored {
+            Stored::Element(_, place) => Some(place),
+            _ => None,
+        }
+    }
+
     // The large number at a place.
     fn large_number(&self, place: usize) -> Option<u128>
         ensures { result ≡ number_in (slice_get (large_of self.now) place) }
@@ -239,21 +252,27 @@ impl Tables {
     }
 
     /// Adds the digits, arguments or operator of a node at the ends of the lists. The node will be the row of
-    /// this number.
+    /// this number. `element` is the place of its name, if it is an element of a declared sort.
     ///
     /// Where memory is refused, what was added before stays until the next cut, and belongs to no row.
     #[inline(always)]
-    pub(crate) fn store(&mut self, node: &Node<'_>, row: usize) -> Result<Stored, Memory>
+    pub(crate) fn store(
+        &mut self,
+        node: &Node<'_>,
+        row: usize,
+        element: u32,
+    ) -> Result<Stored, Memory>
         ensures grown { Grows (lists_of self.old) (lists_of self.new) }
         ensures stored { IfOk result (λ s. IsStored (lists_of self.new) s (node_view node.now)) }
         ensures longer { IsPrefix (large_of self.old) (large_of self.new) }
         ensures annotated { annotated_of self.new ≡ annotated_of self.old }
         ensures number { IfOk result (λ s.
             IsNumberHeld (large_of self.new) row s (spelled (node_view node.now))) }
+        ensures element { IfOk result (λ s. held_element s ≡ element_if (node_view node.now) element) }
     {
         match *node {
             Node::Literal(kind, digits) => self.store_literal(kind, digits, row),
-            Node::Element(name) => Ok(Stored::Element(self.push_digits(name)?)),
+            Node::Element(name) => Ok(Stored::Element(self.push_digits(name)?, element)),
             Node::Slot(place) => Ok(Stored::Slot(narrow(place)?)),
             Node::Apply { op, args } => self.store_apply(&op, args),
             Node::Declared { place, args } => {
@@ -281,6 +300,7 @@ impl Tables {
         ensures annotated { annotated_of self.new ≡ annotated_of self.old }
         ensures number { IfOk result (λ s.
             IsNumberHeld (large_of self.new) row s (spelled (spec.Literal kind digits.now))) }
+        ensures element { IfOk result (λ s. held_element s ≡ None) }
     {
         let count = self.push_digits(digits)?;
         match number(kind.radix(), digits) {
@@ -314,6 +334,7 @@ impl Tables {
         ensures stored { IfOk result (λ s. IsStored (lists_of self.new) s (spec.Apply op.now args.now)) }
         ensures large { self.new.large ≡ self.old.large }
         ensures annotated { annotated_of self.new ≡ annotated_of self.old }
+        ensures element { IfOk result (λ s. held_element s ≡ None) }
     {
         match PlainOp::from_op(*op) {
             Some(plain) => self.store_plain(plain, args),
@@ -331,6 +352,7 @@ impl Tables {
         ensures annotated { annotated_of self.new ≡ annotated_of self.old }
         ensures number { IfOk result (λ s. (large : List LargeNumber) (row : ℕ)
             → IsNumberHeld large row s None) }
+        ensures element { IfOk result (λ s. held_element s ≡ None) }
     {
         Ok(Stored::Plain(op, self.push_parts(args)?))
     }
@@ -341,6 +363,7 @@ impl Tables {
         ensures stored { IfOk result (λ s. IsStored (lists_of self.new) s (spec.Apply op.now args.now)) }
         ensures large { self.new.large ≡ self.old.large }
         ensures annotated { annotated_of self.new ≡ annotated_of self.old }
+        ensures element { IfOk result (λ s. held_element s ≡ None) }
     {
         let place = narrow(self.ops.len())?;
         self.ops.push(NumberedOp::new(op))?;

@@ -91,3 +91,39 @@ fn a_sum_is_read(rt: HostRuntime) {
     }
     assert!(rt; built);
 }
+
+// The numbers of three elements, two of one name of 40 bytes, where the first row alone stays between; and the length
+// of the second's name.
+fn elements(alloc: Global) -> Result<[Option<u32>; 5], Memory> {
+    let mut nodes = Nodes::new(alloc);
+    let long = [b'@'; 40];
+    let first = nodes.push(&Node::Element(&long), 0)?;
+    let _ = nodes.push(&Node::Element(b"@b"), 0)?;
+    nodes.cut(1);
+    let slot = nodes.push(&Node::Slot(0), 0)?;
+    let same = nodes.push(&Node::Element(&long), 2)?;
+    let third = nodes.push(&Node::Element(b"@c"), 0)?;
+    let length = match nodes.element_name(0) {
+        Some(name) => Some(name.len() as u32),
+        None => None,
+    };
+    Ok([
+        nodes.element(first.number()),
+        nodes.element(slot.number()),
+        nodes.element(same.number()),
+        nodes.element(third.number()),
+        length,
+    ])
+}
+
+#[test]
+fn elements_of_one_name_have_one_number(rt: HostRuntime) {
+    let mut read = false;
+    for _ in 0..2 {
+        if let Ok(numbers) = elements(rt.alloc()) {
+            assert_eq!(rt; numbers, [Some(0), None, Some(0), Some(2), Some(40)]);
+            read = true;
+        }
+    }
+    assert!(rt; read);
+}

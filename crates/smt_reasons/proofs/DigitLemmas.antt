@@ -1,5 +1,5 @@
 -- Digits from the highest on.
-use Rattle.std.proofs.Common.{◌≡◌, ◌<◌, ◌+◌, ◌-◌, ◌*◌, ◌/◌, ◌%◌, ◌^◌, ℕ, zero, suc, ◌∷◌, false, ap, arith}
+use Rattle.std.proofs.Common.{◌≡◌, ◌<◌, ◌-◌, ◌*◌, ◌/◌, ◌%◌, ◌^◌, ℕ, zero, suc, ◌∷◌, false, ap, arith}
 use Rattle.std.specs.Fmt.{digit_glyph}
 use Rattle.smt_reasons.specs.ValueTexts.{digits_below}
 

@@ -1,7 +1,7 @@
 -- The texts of values, sorts and names, as SMT-LIB 2.6 writes them (section 3.1; theories Core, Ints and
 -- FixedSizeBitVectors).
 use Rattle.std.specs.Prelude.{ℕ, zero, suc, ℤ, pos, negsuc, List, [], ◌∷◌, ◌++◌, ◌*◌, ◌/◌, ◌%◌, ◌^◌, ◌==◌, ◌≡◌, ◌⊎◌}
-use Rattle.std.specs.Prelude.{codes, false, true, if◌then◌else◌}
+use Rattle.std.specs.Prelude.{codes, false, true, if◌then◌else◌, option_and_then, slice_get, unwrap_or}
 use Rattle.std.specs.Fmt.{decimal, digit_glyph}
 use Rattle.smt_bits.specs.BitVector.{BitVector}
 use Rattle.smt_theory.specs.Sort.{Sort}
@@ -29,13 +29,17 @@ text_of_bits v =
 abbrev pub IsSymbol : List ℕ → List ℕ → Type 0
 IsSymbol name text = (text ≡ name) ⊎ (text ≡ 124 ∷ (name ++ 124 ∷ []))
 
--- a value
-abbrev pub IsTextOf : Element → List ℕ → Type 0
-IsTextOf (Truth true) text = text ≡ codes "true"
-IsTextOf (Truth false) text = text ≡ codes "false"
-IsTextOf (Integer z) text = text ≡ text_of_integer z
-IsTextOf (Vector v) text = text ≡ text_of_bits v
-IsTextOf (Abstract name) text = IsSymbol name text
+-- the name that stands for a number among these, where the list of the number alone stands for the name
+abbrev pub element_named : List (List ℕ) → List ℕ → List ℕ
+element_named names number = unwrap_or (option_and_then (slice_get names) (slice_get number 0)) []
+
+-- a value; an element of a declared sort is known by its number among these names
+abbrev pub IsTextOf : List (List ℕ) → Element → List ℕ → Type 0
+IsTextOf names (Truth true) text = text ≡ codes "true"
+IsTextOf names (Truth false) text = text ≡ codes "false"
+IsTextOf names (Integer z) text = text ≡ text_of_integer z
+IsTextOf names (Vector v) text = text ≡ text_of_bits v
+IsTextOf names (Abstract number) text = IsSymbol (element_named names number) text
 
 -- a sort, and the name of a declared one
 abbrev pub IsTextOfSort : Sort → (name : List ℕ) → List ℕ → Type 0

@@ -4,29 +4,46 @@
 ghost use Rattle.std.specs.Prelude.{◌≡◌, ◌<◌, ◌≤◌, ◌*◌, ◌++◌, ◌^◌, IfOk, OnOk, false};
 ghost use Rattle.std.specs.Fmt.{digit_glyph};
 ghost use Rattle.smt_values.specs.Element.{element_of};
-ghost use Rattle.smt_reasons.specs.ValueTexts.{IsSymbol, IsTextOf, IsTextOfSort, digits_below, text_of_bits};
-ghost use Rattle.smt_reasons.specs.ValueTexts.{text_of_integer};
+ghost use Rattle.smt_terms.specs.Library.{element_names_of};
+ghost use Rattle.smt_reasons.specs.ValueTexts.{IsSymbol, IsTextOf, IsTextOfSort, digits_below, element_named};
+ghost use Rattle.smt_reasons.specs.ValueTexts.{text_of_bits, text_of_integer};
 
 use smt_bits::Bits;
+use smt_eval::Parts;
 use smt_faults::{Memory, TextFault};
 use smt_text::read_trees;
 use smt_theory::{Sort, SortKind};
-use smt_values::Value;
+use smt_values::{ElementNumber, Value};
 use std::alloc::Global;
 
 /// The most bytes of a name that are looked at.
 const MOST: usize = 4096;
 
-/// The text of a value; a bit vector in hexadecimal where its width allows. Of an element it is the name.
-pub(crate) fn value_text(alloc: Global, value: &Value) -> Result<Vec<u8>, Memory>
-    ensures { IfOk result (λ text. IsTextOf (element_of value.now) text.items) }
+/// The text of a value over these nodes; a bit vector in hexadecimal where its width allows. Of an element it is the
+/// name that its number has among those of the model's elements.
+pub(crate) fn value_text(alloc: Global, parts: Parts<'_>, value: &Value) -> Result<Vec<u8>, Memory>
+    ensures { IfOk result (λ text. IsTextOf (element_names_of parts.entry.interpretation.now.definitions)
+        (element_of value.now) text.items) }
 {
     match value {
         Value::Bool(true) => Ok(Vec::from_slice(alloc, b"true")?),
         Value::Bool(false) => Ok(Vec::from_slice(alloc, b"false")?),
         Value::Bits(bits) => bits_text(alloc, *bits),
         Value::Int(number) => integer_text(alloc, number.get()),
-        Value::Abstract(name) => symbol_text(alloc, name.as_bytes()),
+        Value::Abstract(number) => symbol_text(alloc, element_name(parts, *number)),
+    }
+}
+
+// The name of an element's number.
+fn element_name(parts: Parts<'_>, number: ElementNumber) -> &[u8]
+    ensures { result.now ≡ element_named (element_names_of parts.entry.interpretation.now.definitions) number }
+{
+    match number.get() {
+        Some(number) => match parts.element_name(number) {
+            Some(name) => name,
+            None => &[],
+        },
+        None => &[],
     }
 }
 

@@ -52,9 +52,6 @@ fn reason(walk: &mut Walk<'_, '_>, part: Part<'_>) -> Option<&'static str> {
     if part.value != Known::Open {
         return None;
     }
-    if walk.work.evaluator.parts.is_element(part.node) {
-        return Some("an element whose name has over 31 bytes");
-    }
     let look = walk.look(part.node);
     let Some(op) = look.op() else {
         return Some(TOO_LARGE);
@@ -277,7 +274,7 @@ fn tell_value<'a>(
 
 fn known_text(walk: &Walk<'_, '_>, value: Option<Value>) -> Result<Vec<u8>, Memory> {
     match value {
-        Some(value) => value_text(walk.alloc, &value),
+        Some(value) => value_text(walk.alloc, walk.work.evaluator.parts, &value),
         None => Ok(Vec::from_slice(walk.alloc, b"open")?),
     }
 }

@@ -18,7 +18,7 @@ use Rattle.smt_theory.specs.declared.literal.LiteralKind.TheVariants as literal
 use Rattle.smt_nodes.specs.Node as node
 use Rattle.smt_nodes.specs.Node.{Node, Row}
 use Rattle.smt_terms.specs.Denotes.{AreApart, Denotes, Head, IsLonger, IsNameOf, IsRow, Slots, Table, UsesNone}
-use Rattle.smt_terms.specs.Denotes.{node_of, slots_from, symbol_node, unless_labelled}
+use Rattle.smt_terms.specs.Denotes.{node_of, qualified_node, slots_from, symbol_node, unless_labelled}
 use Rattle.smt_terms.specs.Internal.TableView.{HasBody, IsReady}
 use Rattle.smt_terms.specs.Signature as signature
 use Rattle.smt_terms.specs.Signature.{Entry, Origin, Signature, declared_among, defined_among}
@@ -165,7 +165,7 @@ denotes_within t slots next around i (Atom Binary digits) d =
 denotes_within t slots next around i (Items (Cons (Reserved Underscore) parts)) d =
     row_within t.rows i around (node_of t d.0 []) d.2.0
 denotes_within t slots next around i (Items (Cons (Reserved As) parts)) d =
-    row_within t.rows i around (option_map node.Element (qualified_symbol parts)) d.0
+    row_within t.rows i around (qualified_node t.elements (qualified_symbol parts)) d.0
 denotes_within t slots next around i
     (Items (Cons (Reserved Let) (Cons (Items bindings) (Cons body Nil)))) d =
     row_within t.rows i around (Some (node.Let d.0 d.1)) d.2.0

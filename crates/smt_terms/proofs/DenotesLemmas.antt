@@ -20,7 +20,7 @@ use Rattle.smt_nodes.specs.Node as node
 use Rattle.smt_nodes.specs.Node.{Node, Row}
 use Rattle.smt_terms.specs.Denotes.{AreBound, AreDenoted, Denotes, HasBodyBelow, Head, IsLonger, IsNameOf}
 use Rattle.smt_terms.specs.Denotes.{IsNode, IsRow, Slots, Table, UsesNone, applied_node, element_node}
-use Rattle.smt_terms.specs.Denotes.{named_node, node_alone, node_of}
+use Rattle.smt_terms.specs.Denotes.{named_node, node_alone, node_of, qualified_node}
 use Rattle.smt_terms.specs.Denotes.{slots_bound, symbol_node, unless_labelled}
 
 -- ---- longer lists
@@ -169,7 +169,9 @@ module _ (t u : Table) (longer : IsLonger t u) where
     denotes_kept slots next around i (Items (Cons (Reserved Underscore) parts)) d =
         (d.0, d.1, made_kept i around (node_of t d.0 []) (node_of u d.0 []) (node_kept d.0 []) d.2)
     denotes_kept slots next around i (Items (Cons (Reserved As) parts)) d =
-        is_kept i around (option_map node.Element (qualified_symbol parts)) d
+        made_kept i around (qualified_node t.elements (qualified_symbol parts))
+        (qualified_node u.elements (qualified_symbol parts))
+        (λ k is. ap (λ e. qualified_node e (qualified_symbol parts)) longer.elements ∙ is) d
     denotes_kept slots next around i
         (Items (Cons (Reserved Let) (Cons (Items bindings) (Cons body Nil)))) d = (
           d.0,

@@ -15,7 +15,7 @@ use Rattle.smt_names.specs.Entries.{entries_of}
 use Rattle.smt_nodes.specs.Node as node
 use Rattle.smt_nodes.specs.Node.{Node}
 use Rattle.smt_terms.specs.Checking.{sort_alone, sort_of_operator, sort_of_plain, sort_unless_element}
-use Rattle.smt_terms.specs.Denotes.{Head, Table, applied_node, element_node, node_alone, node_of}
+use Rattle.smt_terms.specs.Denotes.{Head, Table, applied_node, element_node, node_alone, node_of, qualified_node}
 use Rattle.smt_terms.specs.Elements.{ElementNames, element_among, element_in, names_element, qualified_sort}
 use Rattle.smt_terms.specs.Internal.LibraryView.{elements_of_library, names_of_library, rank_of}
 use Rattle.smt_terms.specs.Internal.TableView.{head_of, table_of}
@@ -62,6 +62,13 @@ element_alone names x sort None new free is =
     by (Some op) h = cc
 
 -- ## Nodes
+
+-- where what is behind an `as` has a sort, its symbol is an element's
+pub qualified_found : (elements : Option ElementNames) (ranks : List (List ℕ × Rank)) (parts : Sexps) (sort : Sort)
+    (x : List ℕ) → qualified_sort elements ranks parts ≡ Ok sort → Some x ≡ qualified_symbol parts
+    → qualified_node elements (qualified_symbol parts) ≡ Some (node.Element x)
+qualified_found None ranks parts sort x h at = cc
+qualified_found (Some elements) ranks parts sort x h at = ap (option_map node.Element) (sym at)
 
 -- and its node
 pub element_found : (library : Library) (x : List ℕ) (sort : Sort)

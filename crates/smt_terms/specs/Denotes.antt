@@ -64,6 +64,11 @@ abbrev pub element_node : List ℕ → Option Sort → Option Node
 element_node x None = None
 element_node x (Some sort) = Some (node.Element x)
 
+-- that of the element that is named by the symbol behind an `as`, where terms may name elements
+abbrev pub qualified_node : Option ElementNames → Option (List ℕ) → Option Node
+qualified_node None symbol = None
+qualified_node (Some elements) symbol = option_map node.Element symbol
+
 -- that of a symbol alone that is no variable: of an operator, of a name in force, or else of an element
 abbrev pub node_alone : Table → List ℕ → Result Op OpFault → Option Head → Option Node
 node_alone t x (Ok op) head = Some (node.Apply op [])
@@ -137,7 +142,7 @@ abbrev mutual
   Denotes t slots next around i (Items (Cons (Reserved Underscore) parts)) =
       (f : Identifier) × (indexed parts ≡ Ok f) × IsNode t around i (node_of t f [])
   Denotes t slots next around i (Items (Cons (Reserved As) parts)) =
-      IsNode t around i (option_map node.Element (qualified_symbol parts))
+      IsNode t around i (qualified_node t.elements (qualified_symbol parts))
   Denotes t slots next around i (Items (Cons (Reserved Let) (Cons (Items bindings) (Cons body Nil)))) =
       (js : List ℕ) × (j : ℕ) × IsNode t around i (Some (node.Let js j))
       × AreBound t slots next i js bindings × (j < i)

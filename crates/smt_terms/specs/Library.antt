@@ -3,7 +3,7 @@
 use Rattle.std.specs.Prelude.{◌≡◌, ℕ, ◌+◌, List, [], ◌∷◌, ◌++◌, Some, length}
 use Rattle.std.specs.Prelude.{map, slice_get}
 use Rattle.smt_nodes.specs.Node.{Row}
-use Rattle.smt_nodes.specs.Nodes.{rows_of}
+use Rattle.smt_nodes.specs.Nodes.{names_of, rows_of}
 use Rattle.smt_trees.specs.Sexp.{Sexp}
 use Rattle.smt_terms.specs.Contents.{Contents, Declaration, contents_of, terms_in}
 use Rattle.smt_terms.specs.Denotes.{Denotes, Table}
@@ -35,6 +35,11 @@ held_terms_of library = terms_in (contents_of library)
 abbrev pub terms_of : Library → Table
 terms_of library =
     record (held_terms_of library) { rows = rows_of library.nodes ++ transient_of library }
+
+-- the names of the elements of declared sorts among these terms, each once: an element's number is the place of its
+-- name
+abbrev pub element_names_of : Library → List (List ℕ)
+element_names_of library = names_of library.nodes
 
 abbrev pub IsTerm : Library → ℕ → Sexp → Type 0
 IsTerm library id t = Denotes (terms_of library) [] 0 0 id t

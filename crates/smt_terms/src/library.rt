@@ -119,6 +119,7 @@ impl Library<'_> {
     ghost use Rattle.std.specs.Prelude.{IfErr, false};
     ghost use Rattle.smt_nodes.specs.Node.{Row};
     ghost use Rattle.smt_nodes.specs.NodeView.{node_view};
+    ghost use Rattle.smt_nodes.specs.Nodes as nodes;
     ghost use Rattle.smt_nodes.specs.Nodes.{rows_of};
     ghost use Rattle.smt_theory.specs.Operators.{is_plain_operator};
     ghost use Rattle.smt_trees.specs.Sexp.{Sexp};
@@ -132,7 +133,7 @@ impl Library<'_> {
     ghost use Rattle.smt_terms.specs.Internal.TableView.{head_of, heads_of_library};
     ghost use Rattle.smt_terms.specs.Library.{AreDefinitions, IsFound, IsTerm, IsTermOf, IsUnchanged};
     ghost use Rattle.smt_terms.specs.Library.{StandsFor, declarations_from, terms_of, transient_of};
-    ghost use Rattle.smt_terms.specs.Library.{defined_among, definitions_of, name_count};
+    ghost use Rattle.smt_terms.specs.Library.{defined_among, definitions_of, element_names_of, name_count};
     ghost use Rattle.smt_terms.specs.Signature as signature;
     ghost use Rattle.smt_terms.specs.Declarations.{abbreviated_in, declaration, declared_in, rank_named};
     ghost use Rattle.smt_terms.specs.Declarations.{sort_declared_in};
@@ -324,7 +325,8 @@ impl Library<'_> {
 
     /// The nodes of all terms except the transient ones. The place of a node, from 0, is its number.
     pub fn nodes(&self) -> &Nodes
-        ensures { rows_of result.now ≡ (contents_of self.now).rows }
+        ensures rows { rows_of result.now ≡ (contents_of self.now).rows }
+        ensures names { nodes.names_of result.now ≡ element_names_of self.now }
     {
         &self.nodes
     }

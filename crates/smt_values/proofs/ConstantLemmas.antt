@@ -1,13 +1,11 @@
--- Constants by their widths, and elements by their names.
-use Rattle.std.proofs.Common.{◌≡◌, ℕ, ◌*◌, ◌<◌, ◌≤◌, Bool, true, false, cond, List, length, refl, ap, ◌∙◌}
-use Rattle.std.proofs.Common.{Option, Some, None, arith, le-leb, option_map, is_some, ◌&&◌, nat_le, ◌↔◌}
+-- Constants by their widths.
+use Rattle.std.proofs.Common.{◌≡◌, ℕ, ◌*◌, ◌<◌, ◌≤◌, cond, List, length, ap, ◌∙◌}
+use Rattle.std.proofs.Common.{Option, Some, None, arith, le-leb, option_map, is_some, ◌&&◌, nat_le}
 use Rattle.std.proofs.lemmas.Bool.{lt-leb}
 use Rattle.smt_bits.specs.BitVector.{BitVector}
 use Rattle.smt_bits.specs.Literals.{constant, known_constant}
 use Rattle.smt_theory.specs.Width.{width_of}
-use Rattle.smt_values.specs.Element.{Element, Abstract, Vector}
-use Rattle.smt_values.specs.Literals.{name_element}
-use Rattle.smt_values.specs.Names.{fits}
+use Rattle.smt_values.specs.Element.{Element, Vector}
 
 within : (n : ℕ) → 1 ≤ n → n ≤ 128 → width_of n ≡ Some n
 within n some few =
@@ -34,21 +32,3 @@ constant_known base bits digits v is some few =
 pub constant_open : (base bits : ℕ) (digits : List ℕ) → 128 < bits * length digits
     → option_map Vector (known_constant base bits digits) ≡ None
 constant_open base bits digits many = ap (chosen base bits digits) (beyond (bits * length digits) many)
-
-pub name_known : (name : List ℕ) {P : Type 0} → (fits name ≡ true) ↔ P
-    → (name_element name ≡ Some (Abstract name)) ↔ P
-name_known name law = (
-  λ e. law.0 (held (fits name) e),
-  λ h. ap (λ b. cond b (Some (Abstract name)) None) (law.1 h),
-)
-  where
-    held : (b : Bool) → cond b (Some (Abstract name)) None ≡ Some (Abstract name) → b ≡ true
-    held true e = refl
-    held false e = cc
-
-pub name_own : (name : List ℕ) (e : Element) → name_element name ≡ Some e → e ≡ Abstract name
-name_own name e = by (fits name)
-  where
-    by : (b : Bool) → cond b (Some (Abstract name)) None ≡ Some e → e ≡ Abstract name
-    by true h = cc
-    by false h = cc

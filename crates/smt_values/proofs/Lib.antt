@@ -8,7 +8,6 @@ pub mod BitMeaningLemmas
 pub mod MeaningLemmas
 pub mod SortLemmas
 pub mod ConnectiveLemmas
-pub mod NameLemmas
 pub mod ReadingLemmas
 pub mod RoundingLemmas
 pub mod PairLemmas

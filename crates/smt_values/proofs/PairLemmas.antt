@@ -1,8 +1,8 @@
--- What holds of all pairs, and of all bytes.
-use Rattle.std.proofs.Common.{◌≡◌, ◌≢◌, ◌↔◌, ℕ, zero, suc, ◌≤◌, Bool, true, false, not, ◌&&◌, ◌||◌, ◌==◌}
-use Rattle.std.proofs.Common.{Decides, List, [], ◌∷◌, length, refl, sym, ap, ap₂, arith, nat_le, true≢false}
+-- What holds of all pairs.
+use Rattle.std.proofs.Common.{◌≡◌, ◌≢◌, ◌↔◌, ℕ, zero, suc, Bool, true, false, not, ◌&&◌, ◌||◌}
+use Rattle.std.proofs.Common.{Decides, List, [], ◌∷◌, refl, sym, ap, ap₂, arith, true≢false}
 use Rattle.std.proofs.lemmas.Bool.Decides.{Decides-and, Decides-by_and, Decides-eqb, Decides-int_eq}
-use Rattle.std.proofs.lemmas.Bool.Decides.{Decides-like, Decides-not, nat_tests}
+use Rattle.std.proofs.lemmas.Bool.Decides.{Decides-like, Decides-not}
 use Rattle.std.proofs.lemmas.List.Kept.{AllPairs-cons}
 use Rattle.std.specs.Bool.{beq}
 use Rattle.std.specs.Cmp.Lexicographic.{bytes_decides}
@@ -10,7 +10,6 @@ use Rattle.std.specs.List.{All, AllPairs, list_any}
 use Rattle.smt_bits.specs.BitVector.{BitVector, vector}
 use Rattle.smt_values.specs.Element.{Element, Truth, Integer, Vector, Abstract}
 use Rattle.smt_values.specs.Lists.{are_distinct}
-use Rattle.smt_values.specs.Names.{fits}
 use Rattle.smt_values.specs.Operations.{integer_of, is_same, truth_of, vector_of}
 
 neither : (a b : Bool) → not (a || b) ≡ (not a && not b)
@@ -61,17 +60,3 @@ pub truths_are_distinct : (args : List Element)
     → (Truth (are_distinct is_same args) ≡ Truth true) ↔ AllPairs (λ a b. a ≢ b) args
 truths_are_distinct args =
     let all = distinct_pairs is_same same_decides args in (λ e. all.0 (ap truth_of e), λ h. ap Truth (all.1 h))
-
--- ---- names
-
-pub fits_by_bytes : (name : List ℕ) → (fits name ≡ true) ↔ ((length name ≤ 31) × All (λ b. b ≢ 0) name)
-fits_by_bytes name = Decides-and (nat_le (length name) 31) (not (list_any (λ b. b == 0) name))
-    (short (length name)) none_zero
-  where
-    short : (n : ℕ) → Decides (nat_le n 31) (n ≤ 31)
-    short n = (λ e. grind (arith, nat_tests), λ h. grind (arith, nat_tests))
-
-    none_zero : Decides (not (list_any (λ b. b == 0) name)) (All (λ b. b ≢ 0) name)
-    none_zero = Decides-by_and (λ b. not (b == 0)) (λ b. b ≢ 0) (λ bs. not (list_any (λ b. b == 0) bs))
-        (λ b. Decides-not (b == 0) (Decides-eqb b 0)) refl
-        (λ b bs. neither (b == 0) (list_any (λ b. b == 0) bs)) name

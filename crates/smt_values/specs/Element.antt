@@ -49,6 +49,10 @@ known_element value = option_map element_of value
 abbrev pub known_elements : List (Option Value) → List (Option Element)
 known_elements values = map known_element values
 
+-- what is known of the elements of declared sorts, by their names
+abbrev pub Naming : Type 0
+Naming = List ℕ → Option Element
+
 -- ---- what is known, and what is so
 
 -- what is known of an element, if anything, is true of it

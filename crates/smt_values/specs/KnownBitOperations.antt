@@ -11,8 +11,8 @@ use Rattle.smt_theory.specs.declared.op.BitsOp.{BitsOp}
 use Rattle.smt_theory.specs.declared.op.BitsOp.TheVariants.{Constant, Concat, Extract, Unary, Folded, Binary}
 use Rattle.smt_theory.specs.declared.op.BitsOp.TheVariants.{Comparison, Comp, Repeat, ZeroExtend, SignExtend}
 use Rattle.smt_theory.specs.declared.op.BitsOp.TheVariants.{RotateLeft, RotateRight}
-use Rattle.smt_values.specs.BitOperations.{are_compared, binary_vector, folded_vector, rotated_left}
-use Rattle.smt_values.specs.BitOperations.{rotated_right, unary_vector}
+use Rattle.smt_values.specs.BitOperations.{are_compared, binary_vector, folded_vector, operate_bits}
+use Rattle.smt_values.specs.BitOperations.{rotated_left, rotated_right}
 use Rattle.smt_values.specs.Element.{Element, Truth, Vector}
 use Rattle.smt_values.specs.Lists.{steps_from}
 
@@ -45,7 +45,7 @@ abbrev pub known_bits : BitsOp → List BitVector → Option Element
 known_bits (Constant x n) args = option_map (λ _. Vector (vector n (x % 2 ^ n))) (none_given args)
 known_bits Concat args = option_map Vector (known_from_left concatenation args)
 known_bits (Extract i j) args = option_map Vector (option_and_then (extraction i j) (the_only args))
-known_bits (Unary op) args = option_map (λ s. Vector (unary_vector op s)) (the_only args)
+known_bits (Unary op) args = option_map (λ s. operate_bits (Unary op) (s ∷ [])) (the_only args)
 known_bits (Folded op) args = option_map Vector (known_from_left (known_folded op) args)
 known_bits (Binary op) args = option_map (λ p. Vector (binary_vector op p.0 p.1)) (two_of_one_width args)
 known_bits (Comparison op) args = option_map (λ p. Truth (are_compared op p.0 p.1)) (two_of_one_width args)

@@ -1,6 +1,6 @@
 pub mod Element
 pub mod Lists
-pub mod Names
+pub mod ElementNumbers
 pub mod Literals
 pub mod BitOperations
 pub mod Operations

@@ -1,13 +1,11 @@
--- SMT-LIB 2.6, theories Ints and FixedSizeBitVectors: the values of constants, and what is known of elements by
--- their names.
-use Rattle.std.specs.Prelude.{ℕ, pos, List, Option, Some, None, option_map, if◌then◌else◌}
+-- SMT-LIB 2.6, theories Ints and FixedSizeBitVectors: the values of constants.
+use Rattle.std.specs.Prelude.{ℕ, pos, List, Option, option_map}
 use Rattle.std.specs.Str.Parse.{digits_value}
 use Rattle.smt_bits.specs.Literals.{known_constant}
 use Rattle.smt_theory.specs.declared.literal.LiteralKind.{LiteralKind}
 use Rattle.smt_theory.specs.declared.literal.LiteralKind.TheVariants.{Numeral, Hexadecimal, Binary}
-use Rattle.smt_values.specs.Element.{Element, Abstract, Integer, Vector}
+use Rattle.smt_values.specs.Element.{Element, Integer, Vector}
 use Rattle.smt_values.specs.KnownOperations.{within}
-use Rattle.smt_values.specs.Names.{fits}
 
 -- what is known of the integer that decimal digits spell
 abbrev pub numeral_element : List ℕ → Option Element
@@ -25,7 +23,3 @@ abbrev pub literal_element : LiteralKind → List ℕ → Option Element
 literal_element Numeral digits = numeral_element digits
 literal_element Hexadecimal digits = hex_element digits
 literal_element Binary digits = bin_element digits
-
--- the element of a declared sort that has this name; open where the name is too long to be held
-abbrev pub name_element : List ℕ → Option Element
-name_element name = if fits name then Some (Abstract name) else None

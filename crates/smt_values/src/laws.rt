@@ -5,7 +5,6 @@ pub mod connectives;
 pub mod integers;
 pub mod known;
 pub mod literals;
-pub mod names;
 pub mod numbers;
 pub mod places;
 pub mod reasons;

@@ -1,8 +1,8 @@
 //! Values, and the operators of SMT-LIB 2.6 on them.
 //!
 //! A value is a truth value, an integer that fits 128 bits, a bit vector of at most 128 bits, or an element of a
-//! declared sort, by a name of at most 31 bytes. An element without a value is open: the program does not know it.
-//! Nothing here allocates, or knows a sort by its name.
+//! declared sort, by a number that stands for its name. An element without a value is open: the program does not
+//! know it. Nothing here allocates, or knows a sort by its name.
 //!
 //! **The contract for the layer above**: `apply` gives what is known of an operator's result, `known_step` of
 //! `specs/KnownOperations.antt`; so does `apply_in_place`, which may move the arguments. By
@@ -19,17 +19,17 @@
 //! ```
 #![tactic(auto)]
 
+mod element_number;
 mod integer;
 pub mod laws;
 mod literal_values;
-mod name;
 mod operations;
 mod reasons;
 mod value;
 
+pub use element_number::ElementNumber;
 pub use integer::Integer;
 pub use literal_values::{bin, bin_of, element, hex, hex_of, literal_of, numeral, numeral_of};
-pub use name::{LONGEST, Name};
 pub use operations::{apply, apply_in_place};
 pub use reasons::{OpenReason, Reason, is_connective, why};
 pub use smt_bits::Bits;

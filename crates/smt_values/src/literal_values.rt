@@ -1,15 +1,16 @@
-//! The values of constants, and the elements that have names. This file knows no operator.
+//! The values of constants, and the elements of numbers. This file knows no operator.
 
 ghost use Rattle.std.specs.Prelude.{◌≡◌, List, ℕ};
 ghost use Rattle.std.specs.Str.Parse.{digits_value};
 ghost use Rattle.smt_theory.specs.Literals.{radix};
 ghost use Rattle.smt_theory.specs.Numbers.{below_word};
-ghost use Rattle.smt_values.specs.Element.{known_element};
-ghost use Rattle.smt_values.specs.Literals.{bin_element, hex_element, literal_element, name_element};
+ghost use Rattle.smt_values.specs.Element.{element_of, known_element};
+ghost use Rattle.smt_values.specs.ElementNumbers.{numbered};
+ghost use Rattle.smt_values.specs.Literals.{bin_element, hex_element, literal_element};
 ghost use Rattle.smt_values.specs.Literals.{numeral_element};
 
+use crate::element_number::ElementNumber;
 use crate::integer::Integer;
-use crate::name::Name;
 use crate::value::Value;
 use smt_bits::literals;
 use smt_theory::{LiteralKind, number};
@@ -80,9 +81,10 @@ pub fn literal_of(kind: LiteralKind, number: Option<u128>, digits: &[u8]) -> Opt
     }
 }
 
-/// The element of a declared sort that has this name; `None` where the name has more than 31 bytes or a byte 0.
-pub fn element(name: &[u8]) -> Option<Value>
-    ensures { known_element result ≡ name_element name.now }
+/// The element of a declared sort whose name has this number.
+#[inline(always)]
+pub fn element(number: u32) -> Value
+    ensures { element_of result ≡ numbered number }
 {
-    Name::new(name).map(Value::Abstract)
+    Value::Abstract(ElementNumber::new(number))
 }

@@ -4,8 +4,8 @@ ghost use Rattle.std.specs.Prelude.{◌≡◌, Some};
 ghost use Rattle.smt_values.specs.Element.{element_of};
 ghost use Rattle.smt_values.specs.KnownOperations.{known_integer, known_truth};
 
+use crate::element_number::ElementNumber;
 use crate::integer::Integer;
-use crate::name::Name;
 use smt_bits::Bits;
 use std::mem::size_of;
 
@@ -19,9 +19,9 @@ pub enum Value {
     /// An integer from -2^127 to 2^127 - 1. An integer outside has no value here.
     Int(Integer),
     Bits(Bits),
-    /// An element of a declared sort, by its name: a name is one element, and another name another. An element
-    /// with a name of more than 31 bytes has no value here.
-    Abstract(Name),
+    /// An element of a declared sort, by the number of its name among the names of elements: one name is one element,
+    /// and another name another.
+    Abstract(ElementNumber),
 }
 
 impl Value {

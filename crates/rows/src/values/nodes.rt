@@ -8,7 +8,7 @@ ghost use Rattle.smt_terms.specs.Signature.{Signature};
 
 use crate::trees::{flaw_of, parts};
 use anyhow::{Result, bail};
-use smt_eval::{Checked, Closed, Interpretation, cost};
+use smt_eval::{Interpretation, cost, eval};
 use smt_faults::TermFlaw;
 use smt_forms::{item_form, params_of};
 use smt_terms::laws::held_terms_are_terms;
@@ -136,12 +136,7 @@ fn known_in(
     if steps > *left {
         return Ok(None);
     }
-    let closed = Closed {
-        library: script,
-        interpretation,
-        term,
-    };
-    match closed.known(left) {
+    match eval(script, interpretation, term, left) {
         Ok(known) => Ok(Some(known)),
         Err(_) => bail!("out of memory"),
     }

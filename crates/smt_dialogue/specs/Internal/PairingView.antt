@@ -133,10 +133,21 @@ IsTurned (turns.Ends fault) old new texts pairs later rest =
     (early : Bool) × Fits early (state_behind texts.taken new.dialogue) pairs
     × (turn_of old texts pairs later rest ≡ first_fault.Ends fault)
 
--- the next command was read, and is in turn; or this turn came in its place
+-- the tree is the first of those that are left, and no `exit` came before it; where it is a command, the exchange is
+-- under way
+pub record IsHeld (t : OwnedTree) (x : Pairing) (texts : Texts) (pairs : List Pair) (later rest : Sexps) : Type 0 where
+  pub left : Sexps
+  pub first : later ≡ Cons (sexp_of t) left
+  pub goes_on : has_exited_after pairs ≡ false
+  pub early : Bool
+  pub stands : Fits early (state_behind texts.taken x.dialogue) pairs
+  pub way : (command : Command) → command_of (profile_of x.dialogue.stack) (sexp_of t) ≡ Ok command
+      → IsUnderWay x texts pairs later rest
+
+-- the next tree is in turn; or this turn came in its place
 abbrev pub IsNext : Option Turn → (old new : Pairing) → Texts → List Pair → (later rest : Sexps) → Type 0
 IsNext None old new texts pairs later rest =
-    IsUnderWay new texts pairs later rest × (is_some new.command ≡ true)
+    (t : OwnedTree) × (new.command ≡ Some t) × IsHeld t new texts pairs later rest
 IsNext (Some turn) old new texts pairs later rest = IsTurned turn old new texts pairs later rest
 
 -- so it is for all texts by which the exchange is under way

@@ -1,21 +1,21 @@
 -- What the evaluation of trees answers, and how much is left to evaluate.
 use Rattle.std.specs.Prelude.{◌≡◌, ℕ, ◌+◌, List, [], ◌∷◌, Option, Result, IfOk, map}
-use Rattle.std.specs.Borrow.{Bor}
 use Rattle.smt_trees.specs.Sexp.{weight}
 use Rattle.smt_trees.specs.View.{sexp_of}
 use Rattle.smt_values.specs.Element.{Element, known_element}
+use Rattle.smt_values.specs.ElementNumbers.{numbered_in}
 use Rattle.smt_values.specs.declared.value.Value.{Value}
 use Rattle.smt_faults.specs.declared.memory.Memory.{Memory}
 use Rattle.smt_forms.specs.declared.variable.Variable.{Variable}
-use Rattle.smt_eval.specs.Cost.{BodyCosts, costs_after, no_costs}
 use Rattle.smt_eval.specs.Known.{KnownMeaning, known_after, known_operators}
 use Rattle.smt_eval.specs.PlainTerm.{entries_of}
 use Rattle.smt_eval.specs.declared.plain.Definition.{Definition}
 use Rattle.smt_eval.specs.declared.plain.names.Definitions.{Definitions}
 
--- what identifiers are known to mean over definitions
+-- what identifiers are known to mean over definitions, and elements by their numbers among the names
 abbrev pub meaning_of : Definitions → KnownMeaning
-meaning_of over = known_after (known_operators over.theories) (entries_of over.seen.now)
+meaning_of over =
+    known_after (known_operators (numbered_in over.names.now) over.theories) (entries_of over.seen.now)
 
 -- what is known of variables
 abbrev pub known_scope : List (Variable (Option Value)) → List (List ℕ × Option Element)
@@ -32,11 +32,3 @@ bodies_weight (d ∷ ds) = weight (sexp_of d.body) + bodies_weight ds
 
 abbrev pub seen_weight : Definitions → ℕ
 seen_weight over = bodies_weight over.seen.now
-
--- what the bodies of definitions cost
-abbrev pub costs_seen : Definitions → BodyCosts
-costs_seen over = costs_after no_costs (entries_of over.seen.now)
-
--- the names that variables have
-abbrev pub names_seen : List (Bor (List ℕ)) → List (List ℕ)
-names_seen names = map (λ x. x.now) names

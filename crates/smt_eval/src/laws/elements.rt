@@ -1,6 +1,6 @@
 //! Laws of the elements of declared sorts: what their names denote. Nothing here does anything.
 
-ghost use Rattle.std.specs.Prelude.{◌≡◌, ◌≢◌, ◌↔◌, ◌≤◌, ℕ, List, Option, Some, All, true, false, codes, length, map};
+ghost use Rattle.std.specs.Prelude.{◌≡◌, ◌≢◌, ◌↔◌, ℕ, List, Option, Some, All, true, false, codes, map};
 ghost use Rattle.smt_trees.specs.Sexp.{Atom, Cons, Items, Nil, Reserved, Sexp, Symbol};
 ghost use Rattle.smt_trees.specs.declared.reserved.Word.TheVariants.{As};
 ghost use Rattle.smt_values.specs.Element.{Abstract, Element, Truth};
@@ -34,19 +34,17 @@ pub fn two_names_are_two_elements()
         × ((value_over z definitions r (equation s t) ≡ Truth false) ↔ (x ≢ y)) }
 {}
 
-/// What is known of two names keeps them apart in the same way. Of a name of at most 31 bytes, none of them 0, it is
-/// known which element it is: behind an `as`, and alone where it has the form of an element's name.
+/// What is known of two names keeps them apart in the same way. Of a name behind an `as` it is known which element it
+/// is, and of a name alone where it has the form of an element's name.
 pub fn known_names_are_two_elements()
     ensures name { (definitions : Signature) (known : List (List ℕ × Option Element)) (s : Sexp) (x : List ℕ)
         (e : Element) → NamesElement definitions (map (λ v. v.0) known) s x
         → known_of (known_in definitions) known s ≡ Some e → e ≡ Abstract x }
     ensures qualified { (definitions : Signature) (known : List (List ℕ × Option Element)) (x : List ℕ)
-        (sort : Sexp) → length x ≤ 31 → All (λ b. b ≢ 0) x
-        → known_of (known_in definitions) known
+        (sort : Sexp) → known_of (known_in definitions) known
         (Items (Cons (Reserved As) (Cons (Atom Symbol x) (Cons sort Nil)))) ≡ Some (Abstract x) }
     ensures alone { (definitions : Signature) (known : List (List ℕ × Option Element)) (x sort : List ℕ)
         → IsNoOther definitions (map (λ v. v.0) known) x → sort_of_element x ≡ Some sort
-        → length x ≤ 31 → All (λ b. b ≢ 0) x
         → known_of (known_in definitions) known (Atom Symbol x) ≡ Some (Abstract x) }
     ensures apart { (definitions : Signature) (known : List (List ℕ × Option Element)) (s t : Sexp)
         (x y : List ℕ) (d e : Element) → NamesElement definitions (map (λ v. v.0) known) s x

@@ -5,21 +5,24 @@ ghost use Rattle.smt_trees.specs.Sexp.{Atom, Cons, Items, Reserved, Symbol};
 ghost use Rattle.smt_trees.specs.View.{sexp_of, sexps_of};
 ghost use Rattle.smt_trees.specs.declared.reserved.Word.TheVariants.{Let};
 ghost use Rattle.smt_values.specs.Element.{known_element, known_elements};
-ghost use Rattle.smt_values.specs.Literals.{name_element};
+ghost use Rattle.smt_values.specs.ElementNumbers.{numbered_in};
 ghost use Rattle.smt_forms.specs.ElementNames.{qualified_symbol};
 ghost use Rattle.smt_forms.specs.Identifier.{applied, indexed};
 ghost use Rattle.smt_eval.specs.Internal.PlainEvaluation.{Gives, known_scope, meaning_of};
 ghost use Rattle.smt_eval.specs.Known.{known_by, known_of, knowns_bound, knowns_of};
 
-use crate::plain::names::{Definitions, known_applied, known_named, known_of_indexed};
+use crate::plain::names::{
+    Definitions, known_applied, known_named, known_of_indexed, named_element,
+};
 use crate::plain::scope::push_variable;
 use smt_faults::Memory;
 use smt_forms::{
     Variable, applied_identifier, find_variable, indexed_identifier, split_let, split_named,
 };
+use smt_names::Names;
 use smt_terms::TermFault;
 use smt_trees::{Tree, Trees, Word};
-use smt_values::{Value, bin, element, hex, numeral};
+use smt_values::{Value, bin, hex, numeral};
 
 /// What is known of a term over the definitions that it sees. The variables have these values, the innermost
 /// first.
@@ -88,7 +91,7 @@ fn known_reserved<'a>(
 {
     match word {
         Word::Underscore => known_indexed(over, args),
-        Word::As => Ok(known_qualified(args)),
+        Word::As => Ok(known_qualified(over.names, args)),
         Word::Let => known_let(over, scope, args),
         Word::Bang => match args.split_first() {
             Some((term, _)) => known_value(over, scope, term),
@@ -99,19 +102,19 @@ fn known_reserved<'a>(
 }
 
 // What is known of the element `(as symbol sort)`, by the parts after the `as`.
-fn known_qualified(parts: Trees<'_>) -> Option<Value>
+fn known_qualified(names: &Names, parts: Trees<'_>) -> Option<Value>
     ensures { known_element result
-        ≡ option_and_then name_element (qualified_symbol (sexps_of parts.entry)) }
+        ≡ option_and_then (numbered_in names.now) (qualified_symbol (sexps_of parts.entry)) }
 {
     match parts.split_first() {
-        Some((Tree::Symbol(name), _)) => element(name),
+        Some((Tree::Symbol(name), _)) => named_element(names, name),
         _ => None,
     }
 }
 
 // What is known of the identifier `(_ symbol index ..)`, by the parts after the `_`.
 fn known_indexed(over: Definitions<'_>, parts: Trees<'_>) -> Result<Option<Value>, Memory>
-    ensures { Gives (known_by (indexed (sexps_of parts.entry)) (λ f. meaning_of over.entry f [])) result }
+    ensures { Gives (known_by (indexed (sexps_of parts.entry)) (λ f. (meaning_of over.entry).gives f [])) result }
 {
     match indexed_identifier(over.alloc, parts) {
         Ok(identifier) => Ok(known_of_indexed(identifier.operator(over.theories), &[])),
@@ -167,7 +170,7 @@ fn known_call<'a>(
     args: Trees<'a>,
 ) -> Result<Option<Value>, Memory>
     ensures { Gives (known_by (applied (sexp_of head.entry) (sexps_of args.entry))
-        (λ f. meaning_of over.entry f
+        (λ f. (meaning_of over.entry).gives f
         (knowns_of (meaning_of over.entry) (known_scope scope.now) (sexps_of args.entry)))) result }
 {
     match applied_identifier(over.alloc, head, args) {

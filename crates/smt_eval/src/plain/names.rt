@@ -6,9 +6,10 @@ ghost use Rattle.smt_trees.specs.Sexp.{weight};
 ghost use Rattle.smt_trees.specs.View.{sexp_of};
 ghost use Rattle.smt_theory.specs.Index.{IndexView};
 ghost use Rattle.smt_values.specs.Element.{Element, known_element, known_elements};
+ghost use Rattle.smt_values.specs.ElementNumbers.{numbered_in};
+ghost use Rattle.smt_values.specs.Element.{Naming};
 ghost use Rattle.smt_forms.specs.Identifier.{Indexed, Plain};
 ghost use Rattle.smt_forms.specs.IdentifierView.{identifier_view};
-ghost use Rattle.smt_eval.specs.Cost.{body_cost, costs_after, no_costs};
 ghost use Rattle.smt_eval.specs.Internal.PlainEvaluation.{Gives, bodies_weight, meaning_of};
 ghost use Rattle.smt_eval.specs.Known.{KnownMeaning, known_after, known_defined, known_of_op, other_known};
 ghost use Rattle.smt_eval.specs.PlainTerm.{entries_of, origin_of};
@@ -18,6 +19,7 @@ use crate::plain::evaluator::known_value;
 use crate::plain::scope::bind;
 use smt_faults::Memory;
 use smt_forms::{Identifier, sort_of_element};
+use smt_names::Names;
 use smt_theory::{Op, OpFault, Theories, op_of};
 use smt_values::{Value, apply, element};
 use std::alloc::Global;
@@ -28,6 +30,8 @@ pub(crate) struct Definitions<'a> {
     pub(crate) alloc: Global,
     pub(crate) theories: Theories,
     pub(crate) seen: &'a [Definition<'a>],
+    /// The names of elements of declared sorts; an element with none of these names is open.
+    pub(crate) names: &'a Names,
 }
 
 /// What is known of an identifier applied to arguments.
@@ -37,7 +41,7 @@ pub(crate) fn known_applied(
     identifier: &Identifier<'_>,
     args: &[Option<Value>],
 ) -> Result<Option<Value>, Memory>
-    ensures { Gives (meaning_of over.entry (identifier_view identifier.now) (known_elements args.now)) result }
+    ensures { Gives ((meaning_of over.entry).gives (identifier_view identifier.now) (known_elements args.now)) result }
 {
     match identifier {
         Identifier::Plain(name) => known_named(over, *name, args),
@@ -56,7 +60,7 @@ pub(crate) fn known_named(
     name: &[u8],
     args: &[Option<Value>],
 ) -> Result<Option<Value>, Memory>
-    ensures { Gives (meaning_of over.entry (Plain name.now) (known_elements args.now)) result }
+    ensures { Gives ((meaning_of over.entry).gives (Plain name.now) (known_elements args.now)) result }
 {
     match last_named(over.seen, name) {
         Some((definition, seen)) => {
@@ -64,10 +68,11 @@ pub(crate) fn known_named(
                 alloc: over.alloc,
                 theories: over.theories,
                 seen,
+                names: over.names,
             };
             known_body(earlier, definition, args)
         }
-        None => Ok(known_of_plain(op_of(over.theories, name, &[]), name, args)),
+        None => Ok(known_of_plain(over.names, op_of(over.theories, name, &[]), name, args)),
     }
 }
 
@@ -91,12 +96,9 @@ pub(crate) fn last_named<'a>(
     name: &[u8],
 ) -> Option<(&'a Definition<'a>, &'a [Definition<'a>])>
     ensures means { (m : KnownMeaning) (args : List (Option Element)) → MatchOption result
-        (known_after m (entries_of definitions.now) (Plain name.now) args ≡ m (Plain name.now) args)
-        (λ found. known_after m (entries_of definitions.now) (Plain name.now) args
+        ((known_after m (entries_of definitions.now)).gives (Plain name.now) args ≡ m.gives (Plain name.now) args)
+        (λ found. (known_after m (entries_of definitions.now)).gives (Plain name.now) args
         ≡ known_defined (known_after m (entries_of found.1.now)) (origin_of found.0.now) args) }
-    ensures costs { MatchOption result (costs_after no_costs (entries_of definitions.now) name.now ≡ 0)
-        (λ found. costs_after no_costs (entries_of definitions.now) name.now
-        ≡ body_cost (costs_after no_costs (entries_of found.1.now)) (origin_of found.0.now)) }
     ensures lighter { IfSome result (λ found. bodies_weight found.1.now + weight (sexp_of found.0.now.body)
         ≤ bodies_weight definitions.now) }
 {
@@ -113,8 +115,8 @@ pub(crate) fn last_named<'a>(
 
 /// What an operator gives for arguments; `None` where the identifier, which has indexes, is no operator's.
 pub(crate) fn known_of_indexed(op: Result<Op, OpFault>, args: &[Option<Value>]) -> Option<Value>
-    ensures { (name : List ℕ) (indexes : List IndexView)
-        → known_element result ≡ known_of_op op (Indexed name indexes) (known_elements args.now) }
+    ensures { (element : Naming) (name : List ℕ) (indexes : List IndexView)
+        → known_element result ≡ known_of_op element op (Indexed name indexes) (known_elements args.now) }
 {
     match op {
         Ok(op) => apply(op, args),
@@ -124,22 +126,38 @@ pub(crate) fn known_of_indexed(op: Result<Op, OpFault>, args: &[Option<Value>]) 
 
 // What the operator of a symbol gives for arguments; where it is none, the element of that form, which takes no
 // arguments.
-fn known_of_plain(op: Result<Op, OpFault>, name: &[u8], args: &[Option<Value>]) -> Option<Value>
-    ensures { known_element result ≡ known_of_op op (Plain name.now) (known_elements args.now) }
+fn known_of_plain(
+    names: &Names,
+    op: Result<Op, OpFault>,
+    name: &[u8],
+    args: &[Option<Value>],
+) -> Option<Value>
+    ensures { known_element result
+        ≡ known_of_op (numbered_in names.now) op (Plain name.now) (known_elements args.now) }
 {
     match op {
         Ok(op) => apply(op, args),
-        Err(_) if args.is_empty() => known_element_of(name),
+        Err(_) if args.is_empty() => known_element_of(names, name),
         Err(_) => None,
     }
 }
 
+/// The element of a name, by its number among the names; `None` where it is none of them.
+pub(crate) fn named_element(names: &Names, name: &[u8]) -> Option<Value>
+    ensures { known_element result ≡ numbered_in names.now name.now }
+{
+    match names.find(name) {
+        Some(number) => Some(element(number)),
+        None => None,
+    }
+}
+
 // The element of a symbol, if it has the form of one.
-fn known_element_of(symbol: &[u8]) -> Option<Value>
-    ensures { known_element result ≡ other_known (Plain symbol.now) [] }
+fn known_element_of(names: &Names, symbol: &[u8]) -> Option<Value>
+    ensures { known_element result ≡ other_known (numbered_in names.now) (Plain symbol.now) [] }
 {
     match sort_of_element(symbol) {
-        Some(_) => element(symbol),
+        Some(_) => named_element(names, symbol),
         None => None,
     }
 }

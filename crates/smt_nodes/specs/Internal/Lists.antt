@@ -58,7 +58,7 @@ before n end xs = slice_range xs (end - n) end
 abbrev pub node_of : Lists → Ends → Stored → spec.Node
 node_of t ends (Literal kind n number) = spec.Literal kind (before n ends.digits t.digits)
 node_of t ends (Large kind n place) = spec.Literal kind (before n ends.digits t.digits)
-node_of t ends (Element n) = spec.Element (before n ends.digits t.digits)
+node_of t ends (Element n number) = spec.Element (before n ends.digits t.digits)
 node_of t ends (Slot place) = spec.Slot place
 node_of t ends (Plain op n) = spec.Apply (op_of_plain op) (before n ends.parts t.parts)
 node_of t ends (Numbered place n) =
@@ -81,7 +81,7 @@ parts_in _ = 0
 abbrev pub digits_in : Stored → ℕ
 digits_in (Literal base n number) = n
 digits_in (Large base n place) = n
-digits_in (Element n) = n
+digits_in (Element n number) = n
 digits_in _ = 0
 
 abbrev pub ops_in : Stored → ℕ

@@ -1,10 +1,10 @@
-//! Laws of the values of constants, and of elements by their names. Nothing here does anything.
+//! Laws of the values of constants. Nothing here does anything.
 
 ghost use Rattle.std.specs.Prelude.{◌≡◌, ◌≢◌, ◌↔◌, ℕ, ◌*◌, ◌<◌, ◌≤◌, List, length, All, Some, None};
 ghost use Rattle.std.specs.Str.Parse.{AllDigits, digits_value};
 ghost use Rattle.smt_bits.specs.BitVector.{vector};
-ghost use Rattle.smt_values.specs.Element.{Abstract, Element, Vector};
-ghost use Rattle.smt_values.specs.Literals.{bin_element, hex_element, name_element};
+ghost use Rattle.smt_values.specs.Element.{Vector};
+ghost use Rattle.smt_values.specs.Literals.{bin_element, hex_element};
 
 use smt_bits::laws::literals;
 
@@ -19,14 +19,4 @@ pub fn constants_of_up_to_128_bits_are_known()
     ensures longer_binary { (digits : List ℕ) → 128 < length digits → bin_element digits ≡ None }
 {
     literals::constants_are_their_digits();
-}
-
-/// Of a name the element is known that has this name, exactly where it has at most 31 bytes and none of them is
-/// 0.
-pub fn elements_are_known_by_names_that_fit()
-    ensures known { (name : List ℕ) → (name_element name ≡ Some (Abstract name))
-        ↔ ((length name ≤ 31) × All (λ b. b ≢ 0) name) }
-    ensures own { (name : List ℕ) (e : Element) → name_element name ≡ Some e → e ≡ Abstract name }
-{
-    crate::laws::names::names_of_31_bytes_fit();
 }

@@ -10,7 +10,7 @@ ghost use Rattle.smt_values.specs.Lists.{are_chained};
 ghost use Rattle.smt_theory.specs.declared.op.CoreOp.TheVariants.{Distinct};
 
 use super::bools::{all_are_known, are_both, distinctness};
-use crate::name::Name;
+use crate::element_number::ElementNumber;
 use crate::value::Value;
 
 // Up to this many arguments, each is compared with each later one, which is quicker than a sort.
@@ -44,14 +44,19 @@ fn are_neighbours_distinct(args: &[Option<Value>]) -> bool
 }
 
 // A key that no other argument has: the kind of the argument, and which it is of that kind.
-fn key(arg: &Option<Value>) -> (u8, i128, u128, Name)
+fn key(arg: &Option<Value>) -> (u8, i128, u128, ElementNumber)
     ensures { result ≡ key_of (known_element arg.now) }
 {
     match arg {
-        None => (0, 0, 0, Name::empty()),
-        Some(Value::Bool(b)) => (1, 0, u128::from(*b), Name::empty()),
-        Some(Value::Int(z)) => (2, z.get(), 0, Name::empty()),
-        Some(Value::Bits(v)) => (3, i128::from(v.width().bits()), v.number(), Name::empty()),
-        Some(Value::Abstract(name)) => (4, 0, 0, *name),
+        None => (0, 0, 0, ElementNumber::none()),
+        Some(Value::Bool(b)) => (1, 0, u128::from(*b), ElementNumber::none()),
+        Some(Value::Int(z)) => (2, z.get(), 0, ElementNumber::none()),
+        Some(Value::Bits(v)) => (
+            3,
+            i128::from(v.width().bits()),
+            v.number(),
+            ElementNumber::none(),
+        ),
+        Some(Value::Abstract(number)) => (4, 0, 0, *number),
     }
 }

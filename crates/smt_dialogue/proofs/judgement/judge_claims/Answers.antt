@@ -2,10 +2,12 @@ use Rattle.std.proofs.Common.{Some, ap, ◌∙◌, sym}
 use Rattle.std.proofs.Common as std
 use Rattle.smt_values.specs.Element.{Truth}
 use Rattle.smt_values.specs.KnownOperations.{is_known}
-use Rattle.smt_terms.specs.Library.{terms_of}
+use Rattle.smt_terms.specs.Library.{element_names_of, terms_of}
+use Rattle.smt_eval.specs.Known.{known_over}
 use Rattle.smt_eval.specs.Structure.{structure_of}
 use Rattle.smt_dialogue.proofs.JudgementLemmas.{cost_first, cost_rest, judged_from, left-false, left-none, left-open}
-use Rattle.smt_dialogue.proofs.JudgementLemmas.{left-opened, left-true, term_left, terms_left}
+use Rattle.smt_dialogue.proofs.JudgementLemmas.{left-opened, left-true, term_left, terms_left, test_by_number}
+use Rattle.smt_dialogue.proofs.JudgementLemmas.{truth_by_number}
 use Rattle.smt_dialogue.specs.Internal.Claims.{claims_left}
 use Rattle.smt_dialogue.specs.Judgement.{open_or_confirmed}
 use Rattle.smt_dialogue.proofs.judgement.judge_claims.Goals as goal
@@ -27,8 +29,9 @@ returns-in-Some-false c = λ script definitions all stands holds assertions.
     left-false (terms_of c.args.library.now)
     (claims_left c.loop-next.left) (claims_left c.next.new.self) c.in-Some.next s c.loop-next.first_open
     (judged_from s std.None all) c.in-Some.ensures
-    (λ t term. sym (c.in_ok-value.ensures.known script definitions t stands holds term) ∙ c.in-Some-false.ensures
-    ∙ ap (λ b. Some (Truth b)) c.in-Some-false.field-0-test)
+    (λ t term. truth_by_number (element_names_of c.args.interpretation.now.definitions) (known_over s t) std.false
+    (sym (c.in_ok-value.ensures.known script definitions t stands holds term) ∙ c.in-Some-false.ensures
+    ∙ ap (λ b. Some (Truth b)) c.in-Some-false.field-0-test))
     (c.loop-next.invariant.judged script definitions all stands holds assertions)
 
 pub loop-next-preserved-in-Some-true : goal.loop-next-preserved-in-Some-true
@@ -49,8 +52,9 @@ loop-next-preserved-in-Some-true c = record {
       left-true (terms_of c.args.library.now)
       (claims_left c.loop-next.left) (claims_left c.next.new.self) c.in-Some.next s c.loop-next.first_open
       (judged_from s std.None all) c.in-Some.ensures
-      (λ t term. sym (c.in_ok-value.ensures.known script definitions t stands holds term) ∙ c.in-Some-true.ensures
-      ∙ ap (λ b. Some (Truth b)) c.in-Some-true.field-0-test)
+      (λ t term. truth_by_number (element_names_of c.args.interpretation.now.definitions) (known_over s t) std.true
+      (sym (c.in_ok-value.ensures.known script definitions t stands holds term) ∙ c.in-Some-true.ensures
+      ∙ ap (λ b. Some (Truth b)) c.in-Some-true.field-0-test))
       (c.loop-next.invariant.judged script definitions all stands holds assertions);
 }
 
@@ -73,10 +77,10 @@ loop-next-preserved c = record {
       (claims_left c.loop-next.left) (claims_left c.next.new.self) c.in-Some.next s c.loop-next.first_open
       (judged_from s std.None all) c.in-Some.ensures
       (λ t term.
-      let known = c.in_ok-value.ensures.known script definitions t stands holds term in (
-        ap (is_known std.false) (sym known) ∙ c.in-None.ensures.0,
-        ap (is_known std.true) (sym known)
-            ∙ c.in-None.ensures.1,
+      let known = c.in_ok-value.ensures.known script definitions t stands holds term in
+      let names = element_names_of c.args.interpretation.now.definitions in (
+        test_by_number names (known_over s t) std.false ∙ ap (is_known std.false) (sym known) ∙ c.in-None.ensures.0,
+        test_by_number names (known_over s t) std.true ∙ ap (is_known std.true) (sym known) ∙ c.in-None.ensures.1,
       ))
       c.if-is_none.ensures
       (c.loop-next.invariant.judged script definitions all stands holds assertions);
@@ -117,10 +121,10 @@ loop-next-preserved-then-is_none c = record {
       (claims_left c.loop-next.left) (claims_left c.next.new.self) c.in-Some.next s c.loop-next.first_open
       (judged_from s std.None all) c.in-Some.ensures
       (λ t term.
-      let known = c.in_ok-value.ensures.known script definitions t stands holds term in (
-        ap (is_known std.false) (sym known) ∙ c.in-None.ensures.0,
-        ap (is_known std.true) (sym known)
-            ∙ c.in-None.ensures.1,
+      let known = c.in_ok-value.ensures.known script definitions t stands holds term in
+      let names = element_names_of c.args.interpretation.now.definitions in (
+        test_by_number names (known_over s t) std.false ∙ ap (is_known std.false) (sym known) ∙ c.in-None.ensures.0,
+        test_by_number names (known_over s t) std.true ∙ ap (is_known std.true) (sym known) ∙ c.in-None.ensures.1,
       ))
       c.if-is_none.ensures
       (c.loop-next.invariant.judged script definitions all stands holds assertions);

@@ -1,7 +1,9 @@
 use Rattle.std.proofs.Common.{[], ◌+◌, ap, length, ◌∙◌}
 use Rattle.smt_machine.specs.Given.{given}
 use Rattle.smt_machine.specs.Tables.{nodes_of}
-use Rattle.smt_terms.specs.Library.{held_terms_of, terms_of}
+use Rattle.smt_terms.specs.Library.{element_names_of, held_terms_of, terms_of}
+use Rattle.smt_eval.specs.Known.{by_name}
+use Rattle.smt_eval.specs.Numbering.{in_numbers}
 use Rattle.smt_eval.proofs.EvaluatorLemmas.{if_known}
 use Rattle.smt_eval.proofs.TermCostLemmas.{AreTablesOf, cost_is, cost_within, counted_is, paid_is}
 use Rattle.smt_eval.proofs.closed.eval_by.Goals as goal
@@ -43,12 +45,17 @@ returns-clause-counted c = λ script definitions t names holds term.
 
 pub returns-clause-known : goal.returns-clause-known
 returns-clause-known c = λ script definitions t names holds term.
-    let model = held_terms_of c.args.interpretation.now.definitions in
+    let library = c.args.interpretation.now.definitions in
+    let model = held_terms_of library in
+    let script_terms = terms_of c.args.library.now in
+    let declared = c.args.interpretation.now.declared.items in
     let id = c.args.term in
     if_known c.eval.result _ _ c.eval.ensures.value
     (ap (λ n. given (nodes_of c.tables_of.result) (n + id) []) c.tables_of.ensures.count
     ∙ ap (λ nodes. given nodes (length model.rows + id) []) c.tables_of.ensures.nodes
-    ∙ c.nodes_give_the_values_of_their_terms.ensures model (terms_of c.args.library.now)
-    c.args.interpretation.now.declared.items script definitions 0 id t (c.tables_of.ensures.named script names) holds.stands.terms
-    holds.defined holds.theories holds.no_elements holds.distinct holds.bodies
-    term)
+    ∙ c.numbers_stand_for_names.ensures model script_terms declared (element_names_of library) (length model.rows + id) []
+    (c.elements_have_numbers.ensures library.nodes)
+    ∙ ap (in_numbers (element_names_of library))
+    (c.nodes_give_the_values_of_their_terms.ensures by_name model script_terms declared script definitions 0 id t
+    (c.tables_of.ensures.named script names) holds.stands.terms holds.defined holds.theories holds.no_elements
+    holds.distinct holds.bodies term))

@@ -1,4 +1,4 @@
-use Rattle.std.proofs.Common.{rules, arith, ◌<◌, ◌-◌, sym}
+use Rattle.std.proofs.Common.{arith, ◌<◌, sym}
 use Rattle.std.proofs.lemmas.List.{append_assoc}
 use Rattle.smt_reasons.proofs.DigitLemmas.{highest_first}
 use Rattle.smt_reasons.proofs.value_texts.add_digits.Goals as goal

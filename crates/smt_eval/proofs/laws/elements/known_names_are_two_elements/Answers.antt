@@ -1,11 +1,11 @@
-use Rattle.smt_eval.proofs.ElementNameLemmas.{alone_held, behind_as_held, known_apart, known_compared, known_name}
+use Rattle.smt_eval.proofs.ElementNameLemmas.{alone_held, qualified_name, known_apart, known_compared, known_name}
 use Rattle.smt_eval.proofs.laws.elements.known_names_are_two_elements.Goals as goal
 
 pub returns-clause-name : goal.returns-clause-name
 returns-clause-name c = known_name
 
 pub returns-clause-qualified : goal.returns-clause-qualified
-returns-clause-qualified c = behind_as_held
+returns-clause-qualified c = qualified_name
 
 pub returns-clause-alone : goal.returns-clause-alone
 returns-clause-alone c = alone_held

@@ -1,5 +1,5 @@
-use Rattle.std.proofs.Common.{◌-◌, take, true, false, sym, ◌∙◌, arith}
-use Rattle.smt_eval.proofs.PlainLemmas.{last_costs, last_is_meant, last_is_not_meant, last_of_first, weight-last}
+use Rattle.std.proofs.Common.{◌-◌, take, sym, ◌∙◌, arith}
+use Rattle.smt_eval.proofs.PlainLemmas.{last_is_meant, last_is_not_meant, last_of_first, weight-last}
 use Rattle.smt_eval.proofs.plain.names.last_named.Goals as goal
 
 pub returns-then-eq-clause-means : goal.returns-then-eq-clause-means
@@ -11,16 +11,6 @@ returns-then-eq-clause-means c = λ m args.
     c.index-definitions-count.is in
     c.loop-count.invariant.means m args
     ∙ last_is_meant m (take (n - 1) ds) (take n ds) d c.args.name.now args split (sym c.eq.ensures ∙ c.if-eq.true)
-
-pub returns-then-eq-clause-costs : goal.returns-then-eq-clause-costs
-returns-then-eq-clause-costs c =
-    let n = c.loop-count.count in
-    let ds = c.args.definitions.now in
-    let d = c.index-definitions-count.result in
-    let split = last_of_first ds (n - 1) n d (omega (arith, c.loop-count-test.true)) c.loop-count.invariant.within
-    c.index-definitions-count.is in
-    c.loop-count.invariant.costs
-    ∙ last_costs (take (n - 1) ds) (take n ds) d c.args.name.now true split (sym c.eq.ensures ∙ c.if-eq.true)
 
 pub returns-then-eq-clause-lighter : goal.returns-then-eq-clause-lighter
 returns-then-eq-clause-lighter c =
@@ -45,7 +35,5 @@ loop-count-preserved c =
       means = λ m args. c.loop-count.invariant.means m args
           ∙ last_is_not_meant m (take (n - 1) ds) (take n ds) d c.args.name.now args split
           (sym c.eq.ensures ∙ c.if-eq.false);
-      costs = c.loop-count.invariant.costs
-          ∙ last_costs (take (n - 1) ds) (take n ds) d c.args.name.now false split (sym c.eq.ensures ∙ c.if-eq.false);
       lighter = omega (arith, w, c.loop-count.invariant.lighter);
     }

@@ -2,7 +2,6 @@
 use Rattle.std.proofs.Common.{◌≡◌, ◌≤◌, List, Option, length, take}
 use Rattle.smt_values.specs.Element.{Element}
 use Rattle.smt_forms.specs.Identifier.{Plain}
-use Rattle.smt_eval.specs.Cost.{costs_after, no_costs}
 use Rattle.smt_eval.specs.Internal.PlainEvaluation.{bodies_weight}
 use Rattle.smt_eval.specs.Known.{KnownMeaning, known_after}
 use Rattle.smt_eval.specs.PlainTerm.{entries_of}
@@ -12,10 +11,8 @@ abbrev pub invariant-loop-count : goal.invariant-loop-count
 invariant-loop-count l = record {
   within : l.count ≤ length l.definitions;
   means : (m : KnownMeaning) (args : List (Option Element))
-      → known_after m (entries_of l.definitions) (Plain l.name) args
-      ≡ known_after m (entries_of (take l.count l.definitions)) (Plain l.name) args;
-  costs : costs_after no_costs (entries_of l.definitions) l.name
-      ≡ costs_after no_costs (entries_of (take l.count l.definitions)) l.name;
+      → (known_after m (entries_of l.definitions)).gives (Plain l.name) args
+      ≡ (known_after m (entries_of (take l.count l.definitions))).gives (Plain l.name) args;
   lighter : bodies_weight (take l.count l.definitions) ≤ bodies_weight l.definitions;
 }
 

@@ -2,8 +2,8 @@ use Rattle.std.proofs.Common.{◌∙◌, ◌+◌, ◌∷◌, List, Some, ap, ref
 use Rattle.smt_nodes.specs.Literals.{literal_number, spelled}
 use Rattle.smt_nodes.specs.NodeView.{node_view}
 use Rattle.smt_values.specs.Element.{known_element}
-use Rattle.smt_values.specs.Literals.{literal_element, name_element}
-use Rattle.smt_machine.specs.Internal.Parts.{meaning}
+use Rattle.smt_values.specs.Literals.{literal_element}
+use Rattle.smt_machine.specs.Internal.Parts.{elements_at, meaning}
 use Rattle.smt_machine.specs.Internal.States.{state_of}
 use Rattle.smt_machine.specs.Internal.Tasks.{IsPlanned, visits}
 use Rattle.smt_machine.specs.Nodes.{Known, Slot, Let}
@@ -27,10 +27,11 @@ returns-in-Literal c = if_done c.leave.result c.leave.ensures
 
 pub returns-in-Element : goal.returns-in-Element
 returns-in-Element c = if_done c.leave-in-Element.result c.leave-in-Element.ensures
-    (λ is nodes at. visited nodes c.args.number (Some (Known (name_element c.in-Element.name.now)))
+    (λ is nodes at. visited nodes c.args.number (Some (Known (elements_at c.args.from.now c.in-Element.field-0.now)))
     (known_element c.element.result) c.args.self.now c.leave-in-Element.new.self
     (sym (ap (λ n. Some (meaning c.args.from.now n)) c.in-Element.is) ∙ at) (λ k. refl)
-    (sym c.element.ensures) is c.requires.based)
+    (sym (c.element.ensures c.in-Element.field-0.now
+    (sym c.requires.here ∙ ap (λ n. Some (node_view n)) c.in-Element.is))) is c.requires.based)
 
 pub returns-in-Slot : goal.returns-in-Slot
 returns-in-Slot c = if_done c.leave-in-Slot.result c.leave-in-Slot.ensures

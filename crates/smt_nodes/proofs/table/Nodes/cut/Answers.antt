@@ -1,11 +1,13 @@
-use Rattle.std.proofs.Common.{◌≡◌, ℕ, ◌∙◌, ap, sym, subst, List, take}
+use Rattle.std.proofs.Common.{◌≡◌, ℕ, ◌∙◌, ap, refl, sym, subst, List, take}
 use Rattle.smt_nodes.specs.Internal.Annotations.{annotated_of}
 use Rattle.smt_nodes.specs.Internal.Lists.{Lists, first_of, lists_of}
 use Rattle.smt_nodes.specs.Internal.Numbers.{large_of}
 use Rattle.smt_nodes.specs.Internal.Rows.{AreNumbered, IsSound, last_ends, views}
-use Rattle.smt_nodes.specs.Nodes.{rows_of}
+use Rattle.smt_nodes.specs.Nodes.{names_of, rows_of}
 use Rattle.smt_nodes.specs.declared.rows.Ends.{Ends}
 use Rattle.smt_nodes.specs.declared.rows.StoredRow.{StoredRow}
+use Rattle.smt_nodes.specs.Internal.Elements.{AreNamed}
+use Rattle.smt_nodes.proofs.ElementLemmas.{named_cut}
 use Rattle.smt_nodes.proofs.NumberLemmas.{numbered_cut}
 use Rattle.smt_nodes.proofs.SoundLemmas.{sound_cut}
 use Rattle.smt_nodes.proofs.TableLemmas.{views_cut}
@@ -38,11 +40,17 @@ invariant_of-self c =
           (numbered_cut c.args.count nodes.rows.items (lists_of nodes.tables) (large_of nodes.tables)
           (large_of after) (annotated_of nodes.tables) (annotated_of after) nodes.sound nodes.numbered
           c.truncate-2.ensures.large c.truncate-2.ensures.annotated);
+      named = left c.args.count nodes.rows.items c.truncate.new.self.items c.as_slice.result.now
+          (lists_of nodes.tables) (lists_of after) c.last_ends-ends.result
+          (λ rows t. AreNamed rows t nodes.names (annotated_of after))
+          c.truncate.ensures.items c.as_slice.ensures.value c.last_ends-ends.ensures c.truncate-2.ensures.lists
+          (named_cut c.args.count nodes.rows.items (lists_of nodes.tables) nodes.names (annotated_of nodes.tables)
+          (annotated_of after) nodes.sound nodes.named c.truncate-2.ensures.annotated);
     }
 
-pub returns : goal.returns
+pub returns-clause-rows : goal.returns-clause-rows
 unfolding rows_of
-returns c =
+returns-clause-rows c =
     let nodes = c.args.self.now in
     let after = c.truncate-2.new.self in
     left c.args.count nodes.rows.items c.truncate.new.self.items c.as_slice.result.now
@@ -52,3 +60,7 @@ returns c =
     c.truncate.ensures.items c.as_slice.ensures.value c.last_ends-ends.ensures c.truncate-2.ensures.lists
     (views_cut c.args.count nodes.rows.items (lists_of nodes.tables) (annotated_of nodes.tables)
     (annotated_of after) nodes.sound c.truncate-2.ensures.annotated)
+
+pub returns-clause-names : goal.returns-clause-names
+unfolding names_of
+returns-clause-names c = refl

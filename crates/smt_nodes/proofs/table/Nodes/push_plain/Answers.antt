@@ -1,11 +1,13 @@
-use Rattle.std.proofs.Common.{List, [], length, ap, sym, subst, append-nil, ◌∙◌}
+use Rattle.std.proofs.Common.{List, [], length, ap, refl, sym, subst, append-nil, ◌∙◌}
 use Rattle.smt_nodes.specs.Internal.Annotations.{annotated_of}
 use Rattle.smt_nodes.specs.Internal.Lists.{lengths, lists_of, node_of}
 use Rattle.smt_nodes.specs.Internal.Numbers.{IsNumberHeld, large_of}
 use Rattle.smt_nodes.specs.Literals.{spelled}
 use Rattle.smt_nodes.specs.Node.{Apply, Node, Row}
-use Rattle.smt_nodes.specs.Nodes.{rows_of}
+use Rattle.smt_nodes.specs.Nodes.{names_of, rows_of}
 use Rattle.smt_theory.specs.PlainOp.{op_of_plain}
+use Rattle.smt_nodes.specs.Elements.{element_number}
+use Rattle.smt_nodes.proofs.ElementLemmas.{named_grown}
 use Rattle.smt_nodes.proofs.NumberLemmas.{numbered_grown}
 use Rattle.smt_nodes.proofs.OutcomeLemmas.{err_as_well, if_ok, on_err, on_ok}
 use Rattle.smt_nodes.proofs.PushLemmas.{as_before, grown_seen, pushed_seen}
@@ -25,7 +27,14 @@ invariant_of-self c =
             [],
             ap (λ xs. xs.items) c.store_plain.ensures.large ∙ sym (append-nil (large_of nodes.tables)),
           ) same nodes.numbered;
+      named = named_grown nodes.rows.items (lists_of nodes.tables) (lists_of after) nodes.names
+          (annotated_of nodes.tables) (annotated_of after) nodes.sound c.store_plain.ensures.grown same nodes.named;
     }
+
+pub push_stored-requires-clause-element : goal.push_stored-requires-clause-element
+push_stored-requires-clause-element c =
+    c.in_ok-stored.ensures.element
+    ∙ ap (element_number c.args.self.now.names) (sym c.in_ok-stored.ensures.stored.node)
 
 pub push_stored-requires-clause-number : goal.push_stored-requires-clause-number
 push_stored-requires-clause-number c =
@@ -67,3 +76,11 @@ returns-clause-unchanged c =
     on_err c.push_stored.result c.push_stored.ensures.unchanged
     (λ is. is ∙ grown_seen nodes c.store_plain.new.self c.in_ok-stored.ensures.grown
     (as_before (annotated_of nodes.tables) (annotated_of c.store_plain.new.self) c.in_ok-stored.ensures.annotated))
+
+pub returns-in_err-stored-clause-names : goal.returns-in_err-stored-clause-names
+unfolding names_of
+returns-in_err-stored-clause-names c = refl
+
+pub returns-clause-names : goal.returns-clause-names
+unfolding names_of
+returns-clause-names c = c.push_stored.ensures.names

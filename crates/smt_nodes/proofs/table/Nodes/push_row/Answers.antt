@@ -4,6 +4,8 @@ use Rattle.smt_nodes.specs.Internal.Lists.{lists_of}
 use Rattle.smt_nodes.specs.Internal.Numbers.{large_of}
 use Rattle.smt_nodes.specs.Internal.Rows.{AreNumbered, IsSound}
 use Rattle.smt_nodes.specs.declared.rows.StoredRow.{StoredRow}
+use Rattle.smt_nodes.specs.Internal.Elements.{AreNamed}
+use Rattle.smt_nodes.proofs.ElementLemmas.{named_pushed}
 use Rattle.smt_nodes.proofs.NumberLemmas.{numbered_pushed}
 use Rattle.smt_nodes.proofs.SoundLemmas.{sound_pushed}
 use Rattle.smt_nodes.proofs.table.Nodes.push_row.Goals as goal
@@ -19,7 +21,10 @@ invariant_of-self c =
     subst (λ (rows : List StoredRow). AreNumbered rows (lists_of nodes.tables) (large_of nodes.tables)
     (annotated_of nodes.tables))
     (sym c.reserve.ensures.items) nodes.numbered in
-    record { sound = kept; numbered = numbered }
+    let named : AreNamed c.reserve.new.self.items (lists_of nodes.tables) nodes.names (annotated_of nodes.tables) =
+    subst (λ (rows : List StoredRow). AreNamed rows (lists_of nodes.tables) nodes.names (annotated_of nodes.tables))
+    (sym c.reserve.ensures.items) nodes.named in
+    record { sound = kept; numbered = numbered; named = named }
 
 pub invariant_of-self-2 : goal.invariant_of-self-2
 invariant_of-self-2 c =
@@ -38,4 +43,10 @@ invariant_of-self-2 c =
     (annotated_of nodes.tables)) (sym pushed)
     (numbered_pushed nodes.rows.items (lists_of nodes.tables) (large_of nodes.tables) (annotated_of nodes.tables)
     new nodes.numbered c.in_ok-ends.ensures c.requires.number) in
-    record { sound = kept; numbered = numbered }
+    let named : AreNamed c.push_reserved.new.self.items (lists_of nodes.tables) nodes.names
+    (annotated_of nodes.tables) =
+    subst (λ (rows : List StoredRow). AreNamed rows (lists_of nodes.tables) nodes.names (annotated_of nodes.tables))
+    (sym pushed)
+    (named_pushed nodes.rows.items (lists_of nodes.tables) nodes.names (annotated_of nodes.tables) new nodes.named
+    c.in_ok-ends.ensures c.requires.element) in
+    record { sound = kept; numbered = numbered; named = named }

@@ -1,9 +1,12 @@
-use Rattle.std.proofs.Common.{[], sym, subst, append-nil, ◌∙◌}
+use Rattle.std.proofs.Common.{◌≡◌, [], sym, subst, append-nil, ◌∙◌}
 use Rattle.smt_nodes.specs.Internal.Annotations.{annotated_of}
-use Rattle.smt_nodes.specs.Internal.Lists.{IsHeld, Lists, lengths, lists_of}
+use Rattle.smt_nodes.specs.Internal.Lists.{IsHeld, Lists, lengths, lists_of, node_of}
 use Rattle.smt_nodes.specs.Internal.Numbers.{large_of}
 use Rattle.smt_nodes.specs.Nodes.{rows_of}
 use Rattle.smt_nodes.specs.declared.rows.Stored.{Stored}
+use Rattle.smt_nodes.specs.Elements.{element_number}
+use Rattle.smt_nodes.specs.Internal.Elements.{held_element}
+use Rattle.smt_nodes.proofs.ElementLemmas.{named_grown}
 use Rattle.smt_nodes.proofs.NumberLemmas.{numbered_grown}
 use Rattle.smt_nodes.proofs.OutcomeLemmas.{err_as_well, on_err, on_ok}
 use Rattle.smt_nodes.proofs.PushLemmas.{grown_seen, number_seen, rows_with, same_lists, stored_seen}
@@ -22,7 +25,19 @@ invariant_of-self c =
           (large_of after) (annotated_of nodes.tables) (annotated_of after) nodes.sound grown
           ([], c.annotate.ensures.large ∙ sym (append-nil (large_of nodes.tables))) c.annotate.ensures.longer
           nodes.numbered;
+      named = named_grown nodes.rows.items (lists_of nodes.tables) (lists_of after) nodes.names
+          (annotated_of nodes.tables) (annotated_of after) nodes.sound grown c.annotate.ensures.longer nodes.named;
     }
+
+pub push_row-requires-clause-element : goal.push_row-requires-clause-element
+push_row-requires-clause-element c =
+    let after = c.annotate.new.self in
+    subst (λ (s : Stored). held_element s
+    ≡ element_number c.args.self.now.names (node_of (lists_of after) (lengths (lists_of after)) s))
+    (sym c.in_ok-stored.ensures.annotated.node)
+    (subst (λ (t : Lists). held_element c.args.stored
+    ≡ element_number c.args.self.now.names (node_of t (lengths t) c.args.stored))
+    (sym c.annotate.ensures.lists) c.requires.element)
 
 pub push_row-requires-clause-held : goal.push_row-requires-clause-held
 push_row-requires-clause-held c =

@@ -7,7 +7,7 @@ use Rattle.smt_terms.proofs.library.Library.check_whole.Goals as goal
 pub returns-in-Ok-clause-grown : goal.returns-in-Ok-clause-grown
 returns-in-Ok-clause-grown c =
     let rows = rows_grow c.new-draft.result c.check_over-result.new.draft c.check_over-result.ensures.longer
-    (record c.args.self.now { nodes = c.new.result }) c.new.ensures in (
+    (record c.args.self.now { nodes = c.new.result }) c.new.ensures.rows in (
       rows.0,
       ap rows_of c.replace.ensures.value ∙ rows.1
           ∙ ap (λ ns. rows_of ns ++ rows.0) (c.new-draft.ensures.nodes ∙ c.replace-nodes.ensures.value),
@@ -16,9 +16,9 @@ returns-in-Ok-clause-grown c =
 pub returns-clause-unchanged : goal.returns-clause-unchanged
 returns-clause-unchanged c =
     let rows = rows_grow c.new-draft.result c.check_over-result.new.draft c.check_over-result.ensures.longer
-    (record c.args.self.now { nodes = c.new.result }) c.new.ensures in
+    (record c.args.self.now { nodes = c.new.result }) c.new.ensures.rows in
     let old = rows_of c.args.self.now.nodes in
-    c.cut.ensures
+    c.cut.ensures.rows
     ∙ ap (λ ns. take c.len-count.result (rows_of ns)) c.replace.ensures.value
     ∙ ap (λ n. take n (rows_of c.check_over-result.new.draft.nodes)) c.len-count.ensures
     ∙ ap (λ rs. take (length old) rs)

@@ -20,7 +20,7 @@ returns-clause-left c =
     (mapped (λ p. (p.0, head_of p.1)) mark.names (entries_of old.names) (entries_of c.truncate.new.self)
     c.truncate.ensures)
     (mapped declaration_view mark.declared old.declared.items c.truncate-2.new.self.items
-    c.truncate-2.ensures.items) c.truncate-3.ensures.items c.truncate-4.ensures.items c.cut.ensures
+    c.truncate-2.ensures.items) c.truncate-3.ensures.items c.truncate-4.ensures.items c.cut.ensures.rows
 
 pub invariant_of-self : goal.invariant_of-self
 invariant_of-self c =

@@ -1,4 +1,5 @@
-use Rattle.std.proofs.Common.{refl}
+use Rattle.std.proofs.Common.{[], append-nil, refl, sym, ◌∙◌}
+use Rattle.smt_nodes.specs.Nodes.{rows_of}
 use Rattle.smt_terms.proofs.TableLemmas.{grows_rows}
 use Rattle.smt_terms.proofs.library.draft.Draft.push_let.Goals as goal
 
@@ -9,3 +10,8 @@ returns-in_err-node-clause-longer c =
 pub returns-clause-longer : goal.returns-clause-longer
 returns-clause-longer c =
     grows_rows c.args.self.now (record c.args.self.now { nodes = c.push.new.self }) _ refl c.in_ok-own.ensures.pushed
+
+pub returns-in_err-own-clause-longer : goal.returns-in_err-own-clause-longer
+returns-in_err-own-clause-longer c =
+    grows_rows c.args.self.now (record c.args.self.now { nodes = c.push.new.self }) [] refl
+    (c.in_err-own.ensures.unchanged ∙ sym (append-nil (rows_of c.args.self.now.nodes)))

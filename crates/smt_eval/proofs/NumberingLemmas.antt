@@ -1,0 +1,399 @@
+-- Where elements of declared sorts have other names, nodes have their values under these names.
+use Rattle.std.proofs.Common.{◌≡◌, ℕ, zero, suc, ◌+◌, Bool, true, false, cond, not, ◌||◌, ◌&&◌, List, [], ◌∷◌, ◌++◌, map}
+use Rattle.std.proofs.Common.{Option, Some, None, option_map, slice_get, refl, ap, ap₂, sym, ◌∙◌, length, nat_eq, nat_lt}
+use Rattle.std.proofs.lemmas.List.{length-map, map-append}
+use Rattle.std.proofs.lemmas.Option.{slice_get-map}
+use Rattle.std.specs.List.{list_all, list_any}
+use Rattle.std.specs.Prelude.{ℤ, fold, option_and_then, unwrap_or}
+use Rattle.smt_bits.specs.BitVector.{BitVector}
+use Rattle.smt_names.specs.Places.{place_of}
+use Rattle.smt_theory.specs.declared.literal.LiteralKind.{LiteralKind}
+use Rattle.smt_theory.specs.declared.literal.LiteralKind.TheVariants.{Numeral, Hexadecimal, Binary}
+use Rattle.smt_theory.specs.declared.op.BitsOp.{BitsOp}
+use Rattle.smt_theory.specs.declared.op.BitsOp.TheVariants as bits
+use Rattle.smt_theory.specs.declared.op.CoreOp.{CoreOp}
+use Rattle.smt_theory.specs.declared.op.CoreOp.TheVariants as cores
+use Rattle.smt_theory.specs.declared.op.IntsOp.{IntsOp}
+use Rattle.smt_theory.specs.declared.op.IntsOp.TheVariants as ints
+use Rattle.smt_theory.specs.declared.op.Op.{Op}
+use Rattle.smt_theory.specs.declared.op.Op.TheVariants.{Core, Ints, Bits}
+use Rattle.smt_values.specs.BitOperations.{unary_vector}
+use Rattle.smt_values.specs.Element.{Element, Truth, Integer, Vector, Abstract}
+use Rattle.smt_values.specs.ElementNumbers.{numbered, numbered_in}
+use Rattle.smt_values.specs.KnownBitOperations.{known_bits, none_given, the_only, two_of_one_width}
+use Rattle.smt_values.specs.KnownOperations.{as_disjunction, decided, is_known, known_core, known_ints, known_integer}
+use Rattle.smt_values.specs.KnownOperations.{known_negation, known_choice, known_step, known_truth, known_vector}
+use Rattle.smt_values.specs.Lists.{all_known, are_chained, are_distinct}
+use Rattle.smt_values.specs.Literals.{literal_element}
+use Rattle.smt_values.specs.Operations.{exclusive_or, is_same}
+use Rattle.smt_nodes.specs.Node as written
+use Rattle.smt_nodes.specs.Node.{Row}
+use Rattle.smt_machine.specs.Given.{fill, given, open_everywhere}
+use Rattle.smt_machine.specs.Nodes.{Frame, Giving, Node, Known, Slot, Apply, Call, Let, at_place, node_value, part, parts}
+use Rattle.smt_values.specs.Element.{Naming}
+use Rattle.smt_machine.specs.Tables.{call, resolved, shifted, unnamed}
+use Rattle.smt_terms.specs.Denotes.{Table}
+use Rattle.smt_eval.specs.Known.{by_name}
+use Rattle.smt_eval.specs.NodeValues.{nodes_over}
+use Rattle.smt_eval.specs.Numbering.{in_numbers, number_name, numbering}
+use Rattle.smt_eval.specs.Renaming.{IsInjective, Renaming, renamed}
+use Rattle.smt_eval.proofs.RenamingLemmas.{chain_stays, difference_stays}
+
+-- ---- operators
+
+module _ (g : Renaming) (injective : IsInjective g) where
+  -- what is known of an element, under its other name
+  abbrev pub under : Option Element → Option Element
+  under v = option_map (renamed g) v
+
+  truth_known : (v : Option Element) → known_truth (under v) ≡ known_truth v
+  truth_known None = refl
+  truth_known (Some (Truth b)) = refl
+  truth_known (Some (Integer z)) = refl
+  truth_known (Some (Vector v)) = refl
+  truth_known (Some (Abstract x)) = refl
+
+  integer_known : (v : Option Element) → known_integer (under v) ≡ known_integer v
+  integer_known None = refl
+  integer_known (Some (Truth b)) = refl
+  integer_known (Some (Integer z)) = refl
+  integer_known (Some (Vector v)) = refl
+  integer_known (Some (Abstract x)) = refl
+
+  vector_known : (v : Option Element) → known_vector (under v) ≡ known_vector v
+  vector_known None = refl
+  vector_known (Some (Truth b)) = refl
+  vector_known (Some (Integer z)) = refl
+  vector_known (Some (Vector v)) = refl
+  vector_known (Some (Abstract x)) = refl
+
+  same_known : (b : Bool) (v : Option Element) → is_known b (under v) ≡ is_known b v
+  same_known b None = refl
+  same_known b (Some (Truth c)) = refl
+  same_known b (Some (Integer z)) = refl
+  same_known b (Some (Vector v)) = refl
+  same_known b (Some (Abstract x)) = refl
+
+  maps_known : {A : Type 0} (f : Option Element → Option A) → ((v : Option Element) → f (under v) ≡ f v)
+      → (vs : List (Option Element)) → map f (map under vs) ≡ map f vs
+  maps_known f stays [] = refl
+  maps_known f stays (v ∷ vs) = ap₂ (λ a rest. a ∷ rest) (stays v) (maps_known f stays vs)
+
+  -- truth values, integers and vectors have no names
+  truths_stay : {A : Type 0} (f : A → Bool) (o : Option A)
+      → under (option_map (λ a. Truth (f a)) o) ≡ option_map (λ a. Truth (f a)) o
+  truths_stay f None = refl
+  truths_stay f (Some a) = refl
+
+  integers_stay : {A : Type 0} (f : A → ℤ) (o : Option A)
+      → under (option_map (λ a. Integer (f a)) o) ≡ option_map (λ a. Integer (f a)) o
+  integers_stay f None = refl
+  integers_stay f (Some a) = refl
+
+  vectors_stay : {A : Type 0} (f : A → BitVector) (o : Option A)
+      → under (option_map (λ a. Vector (f a)) o) ≡ option_map (λ a. Vector (f a)) o
+  vectors_stay f None = refl
+  vectors_stay f (Some a) = refl
+
+  all_under : (vs : List (Option Element)) → all_known (map under vs) ≡ option_map (map (renamed g)) (all_known vs)
+  all_under [] = refl
+  all_under (None ∷ vs) = refl
+  all_under (Some e ∷ vs) = ap (option_map (λ es. renamed g e ∷ es)) (all_under vs) ∙ by (all_known vs)
+    where
+      by : (o : Option (List Element)) → option_map (λ es. renamed g e ∷ es) (option_map (map (renamed g)) o)
+          ≡ option_map (map (renamed g)) (option_map (λ es. e ∷ es) o)
+      by None = refl
+      by (Some es) = refl
+
+  any_same : (b : Bool) (vs : List (Option Element))
+      → list_any (is_known b) (map under vs) ≡ list_any (is_known b) vs
+  any_same b [] = refl
+  any_same b (v ∷ vs) = ap₂ (λ a c. a || c) (same_known b v) (any_same b vs)
+
+  all_same : (b : Bool) (vs : List (Option Element))
+      → list_all (is_known b) (map under vs) ≡ list_all (is_known b) vs
+  all_same b [] = refl
+  all_same b (v ∷ vs) = ap₂ (λ a c. a && c) (same_known b v) (all_same b vs)
+
+  decided_under : (b : Bool) (vs : List (Option Element)) → decided b (map under vs) ≡ under (decided b vs)
+  decided_under b vs =
+      ap₂ (λ any all. cond any (Some (Truth b)) (cond all (Some (Truth (not b))) None)) (any_same b vs)
+      (all_same (not b) vs)
+      ∙ by (list_any (is_known b) vs) (list_all (is_known (not b)) vs)
+    where
+      by : (any all : Bool) → cond any (Some (Truth b)) (cond all (Some (Truth (not b))) None)
+          ≡ under (cond any (Some (Truth b)) (cond all (Some (Truth (not b))) None))
+      by true all = refl
+      by false true = refl
+      by false false = refl
+
+  disjunction_under : (vs : List (Option Element)) → as_disjunction (map under vs) ≡ map under (as_disjunction vs)
+  disjunction_under [] = refl
+  disjunction_under (v ∷ []) = refl
+  disjunction_under (v ∷ w ∷ vs) =
+      ap₂ (λ a rest. a ∷ rest)
+      (ap (option_map (λ c. Truth (not c))) (truth_known v) ∙ sym (truths_stay not (known_truth v)))
+      (disjunction_under (w ∷ vs))
+
+  negation_under : (vs : List (Option Element)) → known_negation (map under vs) ≡ under (known_negation vs)
+  negation_under [] = refl
+  negation_under (v ∷ []) =
+      ap (option_map (λ c. Truth (not c))) (truth_known v) ∙ sym (truths_stay not (known_truth v))
+  negation_under (v ∷ w ∷ vs) = refl
+
+  choice_under : (vs : List (Option Element)) → known_choice (map under vs) ≡ under (known_choice vs)
+  choice_under [] = refl
+  choice_under (c ∷ []) = refl
+  choice_under (c ∷ v ∷ []) = refl
+  choice_under (c ∷ v ∷ w ∷ []) =
+      ap (option_and_then (λ t. cond t (under v) (under w))) (truth_known c) ∙ by (known_truth c)
+    where
+      by : (o : Option Bool) → option_and_then (λ t. cond t (under v) (under w)) o
+          ≡ under (option_and_then (λ t. cond t v w) o)
+      by None = refl
+      by (Some true) = refl
+      by (Some false) = refl
+  choice_under (c ∷ v ∷ w ∷ u ∷ vs) = refl
+
+  -- a test of all elements that sees their names alone
+  tested_under : (test : List Element → Bool) → ((es : List Element) → test (map (renamed g) es) ≡ test es)
+      → (vs : List (Option Element)) → option_map (λ es. Truth (test es)) (all_known (map under vs))
+      ≡ under (option_map (λ es. Truth (test es)) (all_known vs))
+  tested_under test stays vs =
+      ap (option_map (λ es. Truth (test es))) (all_under vs) ∙ by (all_known vs)
+    where
+      by : (o : Option (List Element)) → option_map (λ es. Truth (test es)) (option_map (map (renamed g)) o)
+          ≡ under (option_map (λ es. Truth (test es)) o)
+      by None = refl
+      by (Some es) = ap (λ b. Some (Truth b)) (stays es)
+
+  core_under : (op : CoreOp) (vs : List (Option Element)) → known_core op (map under vs) ≡ under (known_core op vs)
+  core_under cores.True vs = refl
+  core_under cores.False vs = refl
+  core_under cores.Not vs = negation_under vs
+  core_under cores.Implies vs = ap (decided true) (disjunction_under vs) ∙ decided_under true (as_disjunction vs)
+  core_under cores.And vs = decided_under false vs
+  core_under cores.Or vs = decided_under true vs
+  core_under cores.Xor vs =
+      ap (λ os. option_map (λ bs. Truth (fold exclusive_or false bs)) (all_known os))
+      (maps_known known_truth truth_known vs)
+      ∙ sym (truths_stay (fold exclusive_or false) (all_known (map known_truth vs)))
+  core_under cores.Equal vs = tested_under (are_chained is_same) (chain_stays g injective) vs
+  core_under cores.Distinct vs = tested_under (are_distinct is_same) (difference_stays g injective) vs
+  core_under cores.Ite vs = choice_under vs
+
+  -- no operator of the other theories gives an element of a declared sort
+  ints_under : (op : IntsOp) (zs : List ℤ) → under (known_ints op zs) ≡ known_ints op zs
+  ints_under (ints.Arithmetic op) zs = integers_stay (λ z. z) _
+  ints_under (ints.Comparison op) zs = refl
+  ints_under ints.Mod zs = integers_stay (λ z. z) _
+  ints_under ints.Abs zs = integers_stay (λ z. z) _
+  ints_under (ints.Divisible n) zs = truths_stay (λ b. b) _
+
+  bits_under : (op : BitsOp) (vs : List BitVector) → under (known_bits op vs) ≡ known_bits op vs
+  bits_under (bits.Constant x n) vs = vectors_stay _ (none_given vs)
+  bits_under bits.Concat vs = vectors_stay (λ v. v) _
+  bits_under (bits.Extract i j) vs = vectors_stay (λ v. v) _
+  bits_under (bits.Unary op) vs = vectors_stay (unary_vector op) (the_only vs)
+  bits_under (bits.Folded op) vs = vectors_stay (λ v. v) _
+  bits_under (bits.Binary op) vs = vectors_stay _ (two_of_one_width vs)
+  bits_under (bits.Comparison op) vs = truths_stay _ (two_of_one_width vs)
+  bits_under bits.Comp vs = vectors_stay _ (two_of_one_width vs)
+  bits_under (bits.Repeat i) vs = vectors_stay (λ v. v) _
+  bits_under (bits.ZeroExtend i) vs = vectors_stay (λ v. v) _
+  bits_under (bits.SignExtend i) vs = vectors_stay (λ v. v) _
+  bits_under (bits.RotateLeft i) vs = vectors_stay _ (the_only vs)
+  bits_under (bits.RotateRight i) vs = vectors_stay _ (the_only vs)
+
+  of_known : {A : Type 0} (f : List A → Option Element) → ((xs : List A) → under (f xs) ≡ f xs)
+      → (o : Option (List A)) → option_and_then f o ≡ under (option_and_then f o)
+  of_known f stays None = refl
+  of_known f stays (Some xs) = sym (stays xs)
+
+  step_under : (op : Op) (vs : List (Option Element)) → known_step op (map under vs) ≡ under (known_step op vs)
+  step_under (Core op) vs = core_under op vs
+  step_under (Ints op) vs =
+      ap (λ os. option_and_then (known_ints op) (all_known os)) (maps_known known_integer integer_known vs)
+      ∙ of_known (known_ints op) (ints_under op) (all_known (map known_integer vs))
+  step_under (Bits op) vs =
+      ap (λ os. option_and_then (known_bits op) (all_known os)) (maps_known known_vector vector_known vs)
+      ∙ of_known (known_bits op) (bits_under op) (all_known (map known_vector vs))
+
+  -- ---- nodes
+
+  abbrev other : Node → Node
+  other (Known v) = Known (under v)
+  other (Slot k) = Slot k
+  other (Apply op args) = Apply op args
+  other (Call body args) = Call body args
+  other (Let values body) = Let values body
+
+  -- the first gives what the second does, under the other names
+  abbrev IsUnder : Giving → Giving → Type 0
+  IsUnder f h = (j : ℕ) (frame : Frame) → f j (map under frame) ≡ under (h j frame)
+
+  place_under : (frame : Frame) (k : ℕ) → at_place (map under frame) k ≡ under (at_place frame k)
+  place_under frame k =
+      ap (λ o. unwrap_or o None) (slice_get-map under frame k) ∙ by (slice_get frame k)
+    where
+      by : (o : Option (Option Element)) → unwrap_or (option_map under o) None ≡ under (unwrap_or o None)
+      by None = refl
+      by (Some v) = refl
+
+  part_under : (i : ℕ) (f h : Giving) (frame : Frame) (j : ℕ) → IsUnder f h
+      → part i f (map under frame) j ≡ under (part i h frame j)
+  part_under i f h frame j is = by (nat_lt j i)
+    where
+      by : (b : Bool) → cond b (f j (map under frame)) None ≡ under (cond b (h j frame) None)
+      by true = is j frame
+      by false = refl
+
+  parts_under : (i : ℕ) (f h : Giving) (frame : Frame) (js : List ℕ) → IsUnder f h
+      → parts i f (map under frame) js ≡ map under (parts i h frame js)
+  parts_under i f h frame [] is = refl
+  parts_under i f h frame (j ∷ js) is =
+      ap₂ (λ v rest. v ∷ rest) (part_under i f h frame j is) (parts_under i f h frame js is)
+
+  node_under : (i : ℕ) (f h : Giving) (frame : Frame) (o : Option Node) → IsUnder f h
+      → node_value i f (map under frame) (option_map other o) ≡ under (node_value i h frame o)
+  node_under i f h frame None is = refl
+  node_under i f h frame (Some (Known v)) is = refl
+  node_under i f h frame (Some (Slot k)) is = place_under frame k
+  node_under i f h frame (Some (Apply op args)) is =
+      ap (known_step op) (parts_under i f h frame args is) ∙ step_under op (parts i h frame args)
+  node_under i f h frame (Some (Call body args)) is =
+      ap (λ vs. part i f vs body) (parts_under i f h frame args is)
+      ∙ part_under i f h (parts i h frame args) body is
+  node_under i f h frame (Some (Let values body)) is =
+      ap (λ vs. part i f (map under frame ++ vs) body) (parts_under i f h frame values is)
+      ∙ ap (λ vs. part i f vs body) (sym (map-append under frame (parts i h frame values)))
+      ∙ part_under i f h (frame ++ parts i h frame values) body is
+
+  abbrev filled : List Node → ℕ → Giving
+  filled nodes n = fill open_everywhere (λ f i frame. node_value i f frame (slice_get nodes i)) n
+
+  next_under : (nodes : List Node) (n i : ℕ) (frame : Frame) (b : Bool)
+      → IsUnder (filled (map other nodes) n) (filled nodes n)
+      → cond b (λ vs. node_value n (filled (map other nodes) n) vs (slice_get (map other nodes) n))
+      (filled (map other nodes) n i) (map under frame)
+      ≡ under (cond b (λ vs. node_value n (filled nodes n) vs (slice_get nodes n)) (filled nodes n i) frame)
+  next_under nodes n i frame true before =
+      ap (node_value n (filled (map other nodes) n) (map under frame)) (slice_get-map other nodes n)
+      ∙ node_under n (filled (map other nodes) n) (filled nodes n) frame (slice_get nodes n) before
+  next_under nodes n i frame false before = before i frame
+
+  filled_under : (nodes : List Node) (n : ℕ) → IsUnder (filled (map other nodes) n) (filled nodes n)
+  filled_under nodes zero i frame = refl
+  filled_under nodes (suc n) i frame = next_under nodes n i frame (nat_eq i n) (filled_under nodes n)
+
+  pub given_under : (nodes : List Node) (i : ℕ) (frame : Frame)
+      → given (map other nodes) i (map under frame) ≡ under (given nodes i frame)
+  unfolding given
+  given_under nodes i frame =
+      ap (λ n. filled (map other nodes) n i (map under frame)) (length-map nodes other)
+      ∙ filled_under nodes (length nodes) i frame
+
+  -- ---- nodes as they are written
+
+  literal_under : (kind : LiteralKind) (digits : List ℕ)
+      → under (literal_element kind digits) ≡ literal_element kind digits
+  literal_under Numeral digits = integers_stay (λ z. z) _
+  literal_under Hexadecimal digits = vectors_stay (λ v. v) _
+  literal_under Binary digits = vectors_stay (λ v. v) _
+
+  call_under : (o : Option ℕ) (args : List ℕ) → call o args ≡ other (call o args)
+  call_under None args = refl
+  call_under (Some body) args = refl
+
+  -- a node of a script, which names no element
+  closed_under : (off : ℕ) (bodies declared : List ℕ) (n : written.Node)
+      → resolved unnamed off bodies declared n ≡ other (resolved unnamed off bodies declared n)
+  closed_under off bodies declared (written.Literal kind digits) = ap Known (sym (literal_under kind digits))
+  closed_under off bodies declared (written.Element x) = refl
+  closed_under off bodies declared (written.Slot k) = refl
+  closed_under off bodies declared (written.Apply op args) = refl
+  closed_under off bodies declared (written.Declared place args) =
+      call_under (slice_get declared place) (shifted off args)
+  closed_under off bodies declared (written.Defined place args) =
+      call_under (option_map (λ j. off + j) (slice_get bodies place)) (shifted off args)
+  closed_under off bodies declared (written.Let values body) = refl
+
+  -- and one of a model, whose elements have these names
+  named_under : (naming : Naming) (off : ℕ) (bodies declared : List ℕ) (n : written.Node)
+      → ((x : List ℕ) → n ≡ written.Element x → naming x ≡ Some (Abstract (g x)))
+      → resolved naming off bodies declared n ≡ other (resolved by_name off bodies declared n)
+  named_under naming off bodies declared (written.Literal kind digits) is = ap Known (sym (literal_under kind digits))
+  named_under naming off bodies declared (written.Element x) is = ap Known (is x refl)
+  named_under naming off bodies declared (written.Slot k) is = refl
+  named_under naming off bodies declared (written.Apply op args) is = refl
+  named_under naming off bodies declared (written.Declared place args) is =
+      call_under (slice_get declared place) (shifted off args)
+  named_under naming off bodies declared (written.Defined place args) is =
+      call_under (option_map (λ j. off + j) (slice_get bodies place)) (shifted off args)
+  named_under naming off bodies declared (written.Let values body) is = refl
+
+  closed_rows : (off : ℕ) (bodies declared : List ℕ) (rows : List Row)
+      → map (λ (r : Row). resolved unnamed off bodies declared r.node) rows
+      ≡ map other (map (λ (r : Row). resolved unnamed off bodies declared r.node) rows)
+  closed_rows off bodies declared [] = refl
+  closed_rows off bodies declared (r ∷ rows) =
+      ap₂ (λ n rest. n ∷ rest) (closed_under off bodies declared r.node) (closed_rows off bodies declared rows)
+
+  named_rows : (naming : Naming) (off : ℕ) (bodies declared : List ℕ) (rows : List Row)
+      → ((k : ℕ) (r : Row) (x : List ℕ) → slice_get rows k ≡ Some r → r.node ≡ written.Element x
+      → naming x ≡ Some (Abstract (g x)))
+      → map (λ (r : Row). resolved naming off bodies declared r.node) rows
+      ≡ map other (map (λ (r : Row). resolved by_name off bodies declared r.node) rows)
+  named_rows naming off bodies declared [] is = refl
+  named_rows naming off bodies declared (r ∷ rows) is =
+      ap₂ (λ n rest. n ∷ rest) (named_under naming off bodies declared r.node (λ x. is 0 r x refl))
+      (named_rows naming off bodies declared rows (λ k q x at. is (suc k) q x at))
+
+  pub nodes_under : (naming : Naming) (model script : Table) (declared : List ℕ) (i : ℕ) (frame : Frame)
+      → ((k : ℕ) (r : Row) (x : List ℕ) → slice_get model.rows k ≡ Some r → r.node ≡ written.Element x
+      → naming x ≡ Some (Abstract (g x)))
+      → given (nodes_over naming model script declared) i (map under frame)
+      ≡ under (given (nodes_over by_name model script declared) i frame)
+  nodes_under naming model script declared i frame is =
+      let count = length model.rows in
+      let first : List Node = map (λ (r : Row). resolved by_name 0 model.bodies [] r.node) model.rows in
+      let second : List Node = map (λ (r : Row). resolved unnamed count script.bodies declared r.node) script.rows in
+      ap (λ ns. given ns i (map under frame))
+      (ap₂ (λ a b. a ++ b) (named_rows naming 0 model.bodies [] model.rows is)
+      (closed_rows count script.bodies declared script.rows) ∙ sym (map-append other first second))
+      ∙ given_under (nodes_over by_name model script declared) i frame
+
+-- ---- numbers
+
+-- a place is that of one name
+abbrev pub PlacesAreOfOneName : Type 0
+PlacesAreOfOneName = (names : List (List ℕ)) (x y : List ℕ) (place : ℕ) → place_of names x ≡ Some place
+    → place_of names y ≡ Some place → x ≡ y
+
+-- two names have two numbers, or are without
+numbers_differ : PlacesAreOfOneName → (names : List (List ℕ)) → IsInjective (numbering names)
+numbers_differ one names x y = by (place_of names x) refl (place_of names y) refl
+  where
+    by : (o : Option ℕ) → place_of names x ≡ o → (p : Option ℕ) → place_of names y ≡ p
+        → number_name x o ≡ number_name y p → x ≡ y
+    by (Some k) at (Some j) there same =
+        let number : k ≡ j = cc in one names x y k at (there ∙ ap (λ n. Some n) (sym number))
+    by (Some k) at None there same = cc
+    by None at (Some j) there same = cc
+    by None at None there same = cc
+
+-- a name that has a number is known by it
+known_by_number : (names : List (List ℕ)) (x : List ℕ) (place : ℕ) → place_of names x ≡ Some place
+    → numbered_in names x ≡ Some (Abstract (numbering names x))
+known_by_number names x place at =
+    ap (option_map numbered) at ∙ sym (ap (λ o. Some (Abstract (number_name x o))) at)
+
+pub numbers_for_names : PlacesAreOfOneName → (model script : Table) (declared : List ℕ) (names : List (List ℕ))
+    (i : ℕ) (frame : Frame)
+    → ((k : ℕ) (row : Row) (x : List ℕ) → slice_get model.rows k ≡ Some row → row.node ≡ written.Element x
+    → (place : ℕ) × (place_of names x ≡ Some place))
+    → given (nodes_over (numbered_in names) model script declared) i (map (in_numbers names) frame)
+    ≡ in_numbers names (given (nodes_over by_name model script declared) i frame)
+numbers_for_names one model script declared names i frame has =
+    nodes_under (numbering names) (numbers_differ one names) (numbered_in names) model script declared i frame
+    (λ k r x at is. let h = has k r x at is in known_by_number names x h.0 h.1)
