@@ -4,13 +4,14 @@ Each function of KINDS tells a dialogue a script of about so many bytes. Where a
 says the values of its constants too (`known`): what is left to do is to read and to evaluate.
 """
 from collections import namedtuple
+from fractions import Fraction
 
 WIDTHS = (1, 7, 8, 16, 32, 33, 64, 128)
 DEEP = 980  # lists may be 1,000 deep
 LEVELS = 9999  # there may be 10,000 levels, the first one among them
 LONG = 10000  # bytes of a long name
 
-# A constant or a variable: its sort is "Bool", "Int", or the width of its vectors.
+# A constant or a variable: its sort is "Bool", "Int", "Real", or the width of its vectors.
 Named = namedtuple("Named", "name sort value")
 
 
@@ -41,7 +42,7 @@ class Dialogue:
 
 
 def sort_text(sort):
-    return sort if sort in ("Bool", "Int") else "(_ BitVec %d)" % sort
+    return sort if sort in ("Bool", "Int", "Real") else "(_ BitVec %d)" % sort
 
 
 def literal(value, sort):
@@ -49,12 +50,18 @@ def literal(value, sort):
         return "true" if value else "false"
     if sort == "Int":
         return str(value) if value >= 0 else "(- %d)" % -value
+    if sort == "Real":
+        top, below = abs(value.numerator), value.denominator
+        text = "%d.0" % top if below == 1 else "(/ %d.0 %d.0)" % (top, below)
+        return text if value >= 0 else "(- %s)" % text
     return "#x%0*x" % (sort // 4, value) if sort % 4 == 0 else "#b" + format(value, "0%db" % sort)
 
 
 def some_value(sort, random):
     if sort == "Bool":
         return random.random() < 0.5
+    if sort == "Real":
+        return Fraction(random.randint(-(10**6), 10**6), random.randint(1, 1000))
     return random.randint(-(10**9), 10**9) if sort == "Int" else random.getrandbits(sort)
 
 
@@ -278,6 +285,19 @@ def lia(dialogue, size, random):
     dialogue.check(constants)
 
 
+def lra(dialogue, size, random):
+    """a model of fractions, as large as the script, in sums with numerals that are compared, and quotients"""
+    dialogue.say("(set-logic QF_LRA)")
+    constants = some_constants(("Real",), max(16, size // 150), random)
+    dialogue.declare(constants)
+    for a, b, c in zip(constants, constants[1:] + constants[:1], constants[2:] + constants[:2]):
+        factor = random.randint(2, 9)
+        left, right = a.value * factor + b.value, c.value / factor
+        relation = "<" if left < right else ">="
+        dialogue.say("(assert (%s (+ (* %d %s) %s) (/ %s %d)))" % (relation, factor, a.name, b.name, c.name, factor))
+    dialogue.check(constants)
+
+
 def inc(dialogue, size, random):
     """rounds of push, declaration, two assertions, check, model and pop, over twenty constants with another value in each round"""
     dialogue.say("(set-logic QF_BV)")
@@ -401,4 +421,4 @@ def levels(dialogue, size, random):
         dialogue.say("(pop %d)" % level)
 
 
-KINDS = {function.__name__: function for function in (bv, lia, inc, chain, consts, labels, deeplet, widelet, names, levels)}
+KINDS = {function.__name__: function for function in (bv, lia, lra, inc, chain, consts, labels, deeplet, widelet, names, levels)}

@@ -1,8 +1,8 @@
 #!/usr/bin/env python3
 """Counts how many of a solver's models are confirmed, by kind of script: shares.py [--scripts N] [--seed N] [--profile P] [--kind K] NAME=COMMAND..
 
-It invents N scripts (40) of each kind, or of the kinds whose names have the word K; declared sorts in the profile `wide` alone. Each script has
-one assertion or more. Each solver answers each script twice: first without models, and then with a `get-model` behind each check that was
+It invents N scripts (40) of each kind, or of the kinds whose names have the word K; declared sorts and reals in the profile `wide` alone. Each
+script has one assertion or more. Each solver answers each script twice: first without models, and then with a `get-model` behind each check that was
 answered `sat`, since some print nothing for a model behind `unsat`. A solver has 10 seconds for each run. The table has, for each kind and
 solver, `confirmed of sat`, and what else was found, in the profile `base` or in that which is named. SMTCHECK names the program.
 """
@@ -46,6 +46,8 @@ class Terms:
             return f"(ite {self.of('Bool', depth - 1)} {self.of(sort, depth - 1)} {self.of(sort, depth - 1)})"
         if sort in DECLARED:
             return self.leaf(sort)
+        if sort == "Real":
+            return self.real(depth)
         return self.formula(depth) if sort == "Bool" else self.integer(depth) if sort == "Int" else self.vector(sort, depth)
 
     def leaf(self, sort: str) -> str:
@@ -54,6 +56,8 @@ class Terms:
             return self.random.choice(self.names[sort])
         if sort == "Int":
             return str(self.random.randrange(12))
+        if sort == "Real":
+            return self.number()
         width = int(sort.split()[-1][:-1])
         return "#b" + format(self.random.randrange(2**width), f"0{width}b")
 
@@ -61,7 +65,7 @@ class Terms:
         """A formula."""
         if self.sorts and self.random.random() < 0.6:
             sort = self.random.choice(self.sorts)
-            signs = ("<=", "<", "=", "distinct") if sort == "Int" else ("=", "distinct") if sort in DECLARED else ("bvult", "bvsle", "=", "distinct")
+            signs = ("<=", "<", "=", "distinct") if sort in ("Int", "Real") else ("=", "distinct") if sort in DECLARED else ("bvult", "bvsle", "=", "distinct")
             return f"({self.random.choice(signs)} {self.of(sort, depth - 1)} {self.of(sort, depth - 1)})"
         if self.random.random() < 0.2:
             return f"(not {self.of('Bool', depth - 1)})"
@@ -77,6 +81,26 @@ class Terms:
         if self.random.random() < 0.2:
             return f"(* {self.random.randrange(2, 9)} {self.of('Int', depth - 1)})"
         return f"({self.random.choice('+-')} {self.of('Int', depth - 1)} {self.of('Int', depth - 1)})"
+
+    def number(self) -> str:
+        """A number of the sort Real: a decimal or a fraction."""
+        whole = self.random.randrange(12)
+        if self.random.random() < 0.3:
+            return f"(/ {whole} {self.random.randrange(2, 12)})"
+        return f"{whole}.{self.random.choice((0, 0, 5, 25, 125, 3))}"
+
+    def real(self, depth: int) -> str:
+        """A term of reals, in which integers are mixed if the script has some."""
+        kind = self.random.random()
+        if self.divides and kind < 0.3:
+            return f"(/ {self.of('Real', depth - 1)} {self.of('Real', depth - 1)})"
+        if self.products and kind < 0.3:
+            return f"(* {self.of('Real', depth - 1)} {self.of('Real', depth - 1)})"
+        if "Int" in self.sorts and kind < 0.3:
+            return self.random.choice(("(to_real {0})", "(+ {0} {1})", "(- {1} {0})", "(* {1} 3)")).format(self.of("Int", depth - 1), self.of("Real", depth - 1))
+        if kind < 0.5:
+            return f"(* {self.number()} {self.of('Real', depth - 1)})"
+        return f"({self.random.choice('+-')} {self.of('Real', depth - 1)} {self.of('Real', depth - 1)})"
 
     def vector(self, sort: str, depth: int) -> str:
         """A term of bit vectors."""
@@ -110,6 +134,17 @@ def defined(terms: Terms, parameters: str) -> List[str]:
     return [*told, *(f"(assert (or {use} {terms.of('Bool', 2)}))" for _ in range(4)), "(check-sat)"]
 
 
+def differences(terms: Terms) -> List[str]:
+    """Twelve bounds of differences between reals, with large numerals and fractions, of which each second one may hold or not."""
+    told, names = terms.declarations(), terms.names["Real"]
+    for index in range(12):
+        bound = terms.random.choice((str(terms.random.randrange(10**terms.random.choice((1, 3, 9, 18)))), terms.number()))
+        bound = f"(- {bound})" if terms.random.random() < 0.3 else bound
+        claim = f"({terms.random.choice(('<=', '<', '>='))} (- {' '.join(terms.random.sample(names, 2))}) {bound})"
+        told.append(f"(assert (or {claim} {terms.random.choice(terms.names['Bool'])}))" if index % 2 else f"(assert {claim})")
+    return [*told, "(check-sat)"]
+
+
 def labelled(terms: Terms) -> List[str]:
     """As plain, with a label on every assertion."""
     return [*terms.declarations(), *(f"(assert (! {terms.of('Bool', 3)} :named l{index}))" for index in range(4)), "(check-sat)"]
@@ -133,6 +168,12 @@ KINDS: Tuple[Tuple[str, str, Callable[[int], List[str]]], ...] = (
     ("functions that the script defines", "QF_BV", lambda seed: defined(Terms(seed, vectors(seed)), "(b Bool)")),
     ("constants that the script defines", "QF_BV", lambda seed: defined(Terms(seed, vectors(seed)), "")),
     ("labels on every assertion", "QF_BV", lambda seed: labelled(Terms(seed, vectors(seed)))),
+    ("reals", "QF_LRA", lambda seed: plain(Terms(seed, ["Real"]))),
+    ("reals, bounds of differences", "QF_RDL", lambda seed: differences(Terms(seed, ["Real"]))),
+    ("reals and functions", "QF_UFLRA", lambda seed: plain(Terms(seed, ["Real"], functions=True))),
+    ("reals and integers", "QF_LIRA", lambda seed: plain(Terms(seed, ["Real", "Int"]))),
+    ("reals and products", "QF_NRA", lambda seed: plain(Terms(seed, ["Real"], products=True))),
+    ("reals divided by variables", "QF_NRA", lambda seed: plain(Terms(seed, ["Real"], divides="term"))),
     ("declared sorts and functions", "QF_UF", lambda seed: plain(Terms(seed, DECLARED[: 1 + seed % 2], functions=True))),
 )
 
@@ -187,7 +228,7 @@ def main() -> int:
     print("| kind of script | " + " | ".join(name for name, _ in solvers) + " |")
     print("|---" * (len(solvers) + 1) + "|")
     refuted = 0
-    kinds = [row for row in KINDS if given.kind in row[0] and (given.profile == "wide" or not row[0].startswith("declared"))]
+    kinds = [row for row in KINDS if given.kind in row[0] and (given.profile == "wide" or not row[0].startswith(("declared", "reals")))]
     for kind, logic, body in kinds:
         cells = []
         for _, command in solvers:

@@ -116,7 +116,7 @@ SMTCHECK="$work/rebuilt" SOLVER="$work/solver --quiet" ends 5 "$all" "$work/solv
 says 'there `sha256: '
 
 # Options of the program: each run has them, run.txt and the object of a script keep them, and other options are another run. A script has
-# its model item for a label, which the profile `wide` sets aside; no step is enough for sudoku; an `unsat` is not strictly valid.
+# its model item for a label, which the profile `wide` sets aside, and one has reals; no step is enough for sudoku; an `unsat` is not strictly valid.
 export SMTCHECK_OPTIONS='--profile wide'
 ends 0 "$one" "$work/wide" plain/labels.smt2
 [ "$(fields "$work/wide/plain/labels.smt2.row" 3-5)" = '0	valid	1' ] || fail "--profile wide: $(cat "$work/wide/plain/labels.smt2.row")"
@@ -125,7 +125,7 @@ grep -qx "sha256: $(python3 -c 'import hashlib, sys; print(hashlib.sha256(open(s
     fail "the program of a run: $(cat "$work/wide/run.txt")"
 grep -qF '"options": ["--profile", "wide"]' "$work/wide/plain/labels.smt2.json" || fail "the options of a script: $(cat "$work/wide/plain/labels.smt2.json")"
 ends 1 "$all" "$work/wide" . 4
-[ "$(grep -c '	0	valid	' "$work/table")" = 8 ] || fail "a folder with --profile wide: $(cat "$work/table")"
+[ "$(grep -c '	0	valid	' "$work/table")" = 9 ] || fail "a folder with --profile wide: $(cat "$work/table")"
 echo '(set-logic QF_BV)(push)(check-sat)(pop)' >"$work/push.smt2"
 (cd "$work" && ends 0 "$top/collections/taken.sh" push.smt2)
 SMTCHECK_OPTIONS='--profile base' ends 5 "$one" "$work/wide" plain/unsat.smt2

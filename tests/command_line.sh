@@ -171,7 +171,8 @@ hinted on 'profile wide takes' '(define-const c Int 1)(check-sat)(get-model)(min
 hinted on 'profile wide takes' '(set-logic QF_UFLIRA)(check-sat)' 'success unsat'
 hinted off 'profile wide takes' '(set-logic QF_NEW)(check-sat)' 'unsupported unsat'
 hinted on - '(declare-sort U 1)(check-sat)' 'success unsat'
-hinted on - '(define-const c Real 1.5)(check-sat)' 'success unsat'
+hinted on - '(define-const c String "a")(check-sat)' 'success unsat'
+hinted on 'profile wide takes' '(define-const c Real 1.5)(check-sat)' 'success unsat'
 hinted on - '(push 1)(minimize c)' 'success'
 hinted 'on --profile wide' - '(push)(minimize c)' 'success'
 deep=$(printf '%01100d' 0)
@@ -494,9 +495,12 @@ grep -qxF '      --print-success <on|off>  whether the solver printed `success` 
 grep -qxF '      --steps <N>               how many steps the evaluation of a model may take [default: 10000000]' output || fail 'a b -h'
 grep -qxF '      --explain[=<FORM>]        say where what is not confirmed stands, and why' output || fail 'a b -h'
 
-# The version is that of CHANGELOG.md, and the kit is the one that is here.
+# The version is that of CHANGELOG.md, and the kit that of the README, whose logic is the one that is here.
 version=$(sed -n 's/^## //p' "$top/CHANGELOG.md" | head -n 1)
+kit=$(sed -n 's/.*`\(rattle-kit-[^ ]* logic [0-9a-f]*\)`.*/\1/p' "$top/README.md")
+here=$(rt version)
+[ "${kit#* }" = "${here#* }" ] || fail "the README names another logic than $here"
 for line in --version -V 'a b -V'; do
     run "$line"
-    [ "$status" = 0 ] && [ ! -s errors ] && [ "$(cat output)" = "smtcheck $version ($(rt version))" ] || fail "$line"
+    [ "$status" = 0 ] && [ ! -s errors ] && [ "$(cat output)" = "smtcheck $version ($kit)" ] || fail "$line"
 done

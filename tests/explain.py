@@ -19,7 +19,7 @@ from explain_forms import Wrong, check_forms, lines_of, run
 from models import Structure, bodies_of
 from rows import dialogues_of
 from script import Assertion, Definition, Force, command_of
-from sorts import BASE, BOOL, INT, WIDE, Faulty, Free
+from sorts import BASE, BOOL, INT, REAL, WIDE, Faulty, Free
 from terms import Checker, Context
 from text import KEYWORD, STRING, SYMBOL, Atom, begins_with, is_kind, is_symbol, read
 from validator import NONE, is_no_effect, takes, with_deep_stack
@@ -358,6 +358,10 @@ class World:
             return "true" if value else "false"
         if sort == INT:
             return "%d" % value if value >= 0 else "(- %d)" % -value
+        if sort == REAL:
+            top, below = abs(value.numerator), value.denominator
+            text = "%d.0" % top if below == 1 else "(/ %d %d)" % (top, below)
+            return text if value >= 0 else "(- %s)" % text
         if type(sort) is Free:
             return value.name if read(value.name.encode("latin-1")).trees == [Atom(SYMBOL, value.name)] else "|%s|" % value.name
         return "#x%0*x" % (sort // 4, value) if sort % 4 == 0 else "#b{:0{}b}".format(value, sort)

@@ -322,6 +322,15 @@ explains - off '(declare-const x Int)(declare-const y Int)(assert (= y x))(check
 # ---- names with two meanings, in the profile wide
 profile=wide
 used="    F7: the name is in use, or is an operator's"
+explains - off '(declare-const x Real)(assert (< (* x x) 4))(check-sat)(get-model)' \
+    'sat ((define-fun x () Real (/ 1 1000000000000000000000000000)))' 's:1:45: check 1, command 3: (check-sat)' \
+    's:1:23: claim, command 2: (assert (< (* x x) 4))' 's:1:23: open: (* x x)' \
+    '    a fraction too large, or a step to it below -2^127 or over 2^127 - 1' \
+    '    x = (/ 1 1000000000000000000000000000)' 'a:1:6: item x' 'a:1:5: model'
+explains - off '(declare-const x Real)(declare-const i Int)(assert (< (+ x i) (/ i (- 3)) (- x) (- 4.0)))(check-sat)(get-model)' \
+    'sat ((define-fun x () Real 3.0)(define-fun i () Int 2))' 's:1:90: check 1, command 4: (check-sat)' \
+    's:1:44: claim, command 3: (assert (< (+ x i) (/ i (- 3)) (- x) (- 4.0)))' 's:1:44: false: (< (+ x i) (/ i (- 3)) (- x) (- 4.0))' \
+    '    (+ x i) = 5.0, (/ i (- 3)) = (- (/ 2 3)), (- x) = (- 3.0), x = 3.0, i = 2' 'a:1:6: item x' 'a:1:32: item i' 'a:1:5: model'
 explains F7 off '(declare-sort U 0)(declare-const d U)(define-fun @a () U d)(check-sat)(get-model)' 'sat ((define-fun d () U (as @a U)))' \
     's:1:60: check 1, command 4: (check-sat)' 'a:1:6: item 1: (define-fun d () U (as @a U))' "$used" \
     's:1:38: in use, command 3: (define-fun @a () U d)'

@@ -11,7 +11,7 @@ from flaws import BEFORE_LOGICS, LETTERS, Flaws
 from inventor import ALL_OPERATORS, NAMES, OPERATOR_NAMES, Inventor, width_names
 from models import Structure
 from script import CHECKS, Assertion, Declaration, Definition, Force, Refused, command_of, is_define_fun
-from sorts import BASE, BITS, BOOL, INT, INTS, LOGICS, THEORIES, WIDE, Faulty, Free
+from sorts import BASE, BITS, BOOL, INT, INTS, LOGICS, REAL, THEORIES, WIDE, Faulty, Free
 from terms import Checker, Context, Rank, Use, check_assertion, check_definition, check_literal
 from text import BINARY, DEEPEST, Atom, is_symbol
 from trees import copied, depth_of, keyword, listed, lists_in, numeral, string, symbol, word, written
@@ -1244,6 +1244,8 @@ def literal_of(sort, value):
     """A term for a known value."""
     if sort == BOOL:
         return symbol("true" if value else "false")
+    if sort == REAL:
+        return listed("/", literal_of(INT, value.numerator), value.denominator)
     if sort != INT:
         return Atom(BINARY, bin((1 << sort) + value)[3:])
     if value >= 0:

@@ -1,5 +1,6 @@
 """Invents sorts and terms that have no fault."""
-from sorts import BITS, BOOL, INT, INTS, Free
+from reals import edge, printed, usual
+from sorts import BITS, BOOL, INT, INTS, NUMBERS, REAL, REALS, Free
 from text import BINARY, HEXADECIMAL, Atom, is_word
 from trees import indexed, keyword, listed, numeral, string, symbol, word
 
@@ -11,6 +12,8 @@ OPERATOR_NAMES = "and + - * div mod abs < bvadd concat bvcomp not true = ite".sp
 CORE_OPERATORS = "not => and or xor = distinct ite".split()
 INT_OPERATORS = "- + * div mod abs ite".split()
 INT_RELATIONS = "<= < >= > divisible".split()
+REAL_OPERATORS = "- + * / ite".split()
+REAL_RELATIONS = "<= < >= >".split()
 SAME_WIDTH = (
     "bvnot bvneg bvand bvor bvxor bvadd bvmul bvnand bvnor bvxnor bvsub bvudiv bvurem bvsdiv bvsrem bvsmod bvshl bvlshr bvashr "
     "rotate_left rotate_right ite"
@@ -19,8 +22,8 @@ OTHER_WIDTHS = "concat extract repeat zero_extend sign_extend".split()
 DIVISIONS = frozenset("bvudiv bvurem bvsdiv bvsrem bvsmod".split())
 SHIFTS = frozenset("bvshl bvlshr bvashr".split())
 BIT_RELATIONS = "bvult bvule bvugt bvuge bvslt bvsle bvsgt bvsge".split()
-ANY_NUMBER = frozenset("=> and or xor = distinct - + * div <= < >= > bvand bvor bvxor bvadd bvmul".split())
-UNARY = frozenset("not abs divisible bvnot bvneg rotate_left rotate_right".split())
+ANY_NUMBER = frozenset("=> and or xor = distinct - + * / div <= < >= > bvand bvor bvxor bvadd bvmul".split())
+UNARY = frozenset("not abs divisible to_real to_int is_int bvnot bvneg rotate_left rotate_right".split())
 
 ALL_OPERATORS = sorted(
     set(CORE_OPERATORS + INT_OPERATORS + INT_RELATIONS + SAME_WIDTH + OTHER_WIDTHS + BIT_RELATIONS + ["bvcomp", "bvX", "true", "false"])
@@ -50,6 +53,7 @@ class Inventor:
         self.labels = labels
         self.ints = INTS in context.theories
         self.bits = BITS in context.theories
+        self.reals = REALS in context.theories
         self.constants, self.functions = {}, {}
         for name, rank in context.ranks.items():
             (self.functions if rank.parameters else self.constants).setdefault(rank.result, []).append((name, rank.parameters))
@@ -58,7 +62,7 @@ class Inventor:
 
     def sort(self):
         """A sort of the theories."""
-        choices = [BOOL] + [INT] * 2 * self.ints + [self.rng.choice(self.widths)] * 2 * self.bits
+        choices = [BOOL] + [INT] * 2 * self.ints + [self.rng.choice(self.widths)] * 2 * self.bits + [REAL] * 3 * self.reals
         return self.rng.choice(choices + [sort for sort in self.declared_sorts() if self.has_elements(sort)] * 2)
 
     def declared_sorts(self):
@@ -83,7 +87,7 @@ class Inventor:
             return symbol(rng.choice(names))
         if type(sort) is Free:
             return symbol(names[0] if names else "Gone")
-        return symbol(sort) if sort in (BOOL, INT) else indexed("BitVec", sort)
+        return symbol(sort) if sort in (BOOL, INT, REAL) else indexed("BitVec", sort)
 
     # Terms
 
@@ -101,6 +105,8 @@ class Inventor:
             elif rng.random() < 0.002:
                 number = 10 ** rng.choice((400, 5000))
             return numeral(number) if rng.random() < 0.7 else listed("-", number)
+        if sort == REAL:
+            return edge(rng) if rng.random() < 0.08 else printed(rng, usual(rng), self.ints)
         if type(sort) is Free:
             return self.element(sort)
         number = rng.choice((0, 1, 2**sort - 1, 2 ** (sort - 1), 2 ** (sort - 1) - 1, rng.getrandbits(sort), rng.getrandbits(sort), 2, 3))
@@ -177,9 +183,12 @@ class Inventor:
     def operators_to(self, sort):
         """Names of operators with this result."""
         if sort == BOOL:
-            return CORE_OPERATORS + INT_RELATIONS * self.ints + BIT_RELATIONS * self.bits
+            on_reals = REAL_RELATIONS * (2 - self.ints) * self.reals + ["is_int"] * (self.ints and self.reals)
+            return CORE_OPERATORS + INT_RELATIONS * self.ints + on_reals + BIT_RELATIONS * self.bits
         if sort == INT:
-            return INT_OPERATORS
+            return INT_OPERATORS + ["to_int"] * self.reals
+        if sort == REAL:
+            return REAL_OPERATORS + ["to_real"] * self.ints
         if type(sort) is Free:
             return ["ite"]
         return SAME_WIDTH + OTHER_WIDTHS + ["bvcomp"] * (4 * (sort == 1))
@@ -199,6 +208,10 @@ class Inventor:
         inner = max(1, (size - 1) // count)
         argument = sort
         head = symbol(name)
+        if self.reals and (sort == REAL or name in ("=", "distinct", "to_int", "is_int") or name in REAL_RELATIONS):
+            found = self.on_numbers(name, sort, count, inner, scope)
+            if found is not None:
+                return found
         if name == "ite":
             return [head, self.term(BOOL, inner, scope), self.term(sort, inner, scope), self.term(sort, inner, scope)]
         if name in ("=", "distinct"):
@@ -224,6 +237,27 @@ class Inventor:
         if second is not None:
             return [head, self.term(argument, inner, scope), second]
         return [head] + [self.term(argument, inner, scope) for _ in range(count)]
+
+    def on_numbers(self, name, sort, count, inner, scope):
+        """An application to numbers, whose sorts may be mixed; None if it is to be another."""
+        rng = self.rng
+        if name in ("=", "distinct") and rng.random() < 0.5 or name in REAL_RELATIONS and self.ints and rng.random() < 0.3:
+            return None
+        sorts = [REAL] * count
+        if name == "ite":
+            sorts = [BOOL, REAL, REAL]
+        if name == "to_real":
+            sorts = [INT]
+        elif self.ints:
+            kinds = NUMBERS if name in UNARY or rng.random() < 0.4 else (REAL,)
+            sorts = [rng.choice(kinds) if found == REAL else found for found in sorts]
+            if sort == REAL and name != "/" and REAL not in sorts:
+                sorts[-1] = REAL
+        arguments = [self.term(found, inner, scope) for found in sorts]
+        if name == "/" and rng.random() < 0.7:
+            # Divisors that are numbers, and not 0 mostly.
+            arguments[1:] = [self.literal(REAL) for _ in arguments[1:]]
+        return [symbol(name)] + arguments
 
     def second(self, name, width):
         """A second argument that matters for an operator, now and then: no divisor, or a shift about the width."""
@@ -295,6 +329,10 @@ class Inventor:
     def aimed(self, name, size, scope):
         """A term that applies this operator."""
         rng = self.rng
+        if name in ("/", "to_real") or self.reals and name in REAL_OPERATORS and rng.random() < 0.5:
+            return self.application(name, REAL, size, scope)
+        if name in ("to_int", "is_int"):
+            return self.application(name, INT if name == "to_int" else BOOL, size, scope)
         if name in CORE_OPERATORS + INT_RELATIONS + BIT_RELATIONS + ["true", "false"] and not (name == "ite" and rng.random() < 0.5):
             return self.application(name, BOOL, size, scope)
         sort = INT if name in INT_OPERATORS and self.ints else 1 if name == "bvcomp" else rng.choice(self.widths)

@@ -1,6 +1,8 @@
 """Printed models: their items, their cost, and what they make of the assertions in force and of the assumptions of their check."""
+from fractions import Fraction
+
 from script import Assertion, Declaration, Definition, is_define_fun
-from sorts import WIDE, Faulty, element_sort, like_element, of_abbreviation, sort_of
+from sorts import INT, REAL, WIDE, Faulty, element_sort, like_element, of_abbreviation, sort_of
 from terms import Apply, Context, Let, Literal, Note, Use, Variable, check_definition, check_rank
 from text import begins_with, is_symbol
 from values import OPEN, Abstract
@@ -36,14 +38,16 @@ class Structure:
         kind = type(node)
         if kind is Apply:
             values = [self.value(argument, variables) for argument in node.arguments]
+            value = node.operator.value(values, node.sorts)
             if self.reached is not None:
                 self.reached["operator " + node.operator.name] += 1
-            return node.operator.value(values, node.sorts)
+                count_numbers(self.reached, node, values, value)
+            return value
         if kind is Variable:
             return variables[node.number]
         if kind is Literal:
-            if self.reached is not None and type(node.value) is Abstract:
-                self.reached["wide: an element"] += 1
+            if self.reached is not None and type(node.value) in (Abstract, Fraction):
+                self.reached["wide: an element" if type(node.value) is Abstract else "wide: a decimal that is no integer"] += 1
             return node.value
         if kind is Note:
             return self.value(node.term, variables)
@@ -59,6 +63,17 @@ class Structure:
             body = self.bodies[node.name]
             self.values[use] = self.value(body.node, dict(zip(body.parameters, values)))
         return self.values[use]
+
+
+def count_numbers(reached, node, values, value):
+    """Counts which operators got numbers of both sorts, made a fraction, or are open of known reals."""
+    name = node.operator.name
+    if INT in node.sorts and REAL in node.sorts:
+        reached["wide: mixed " + name] += 1
+    if type(value) is Fraction:
+        reached["wide: a fraction by " + name] += 1
+    if value is OPEN and OPEN not in values and (REAL in node.sorts or name == "/"):
+        reached["wide: open by %s%s" % (name, " of 0" if name == "/" and 0 in values[1:] else "")] += 1
 
 
 class ItemFault(Exception):

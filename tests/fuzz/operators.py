@@ -2,7 +2,7 @@
 import re
 
 import values as v
-from sorts import BITS, BOOL, CORE, INT, INTS, WIDEST, Faulty, is_bits
+from sorts import BITS, BOOL, CORE, INT, INTS, NUMBERS, REAL, REALS, WIDEST, Faulty, is_bits
 from text import NUMERAL, is_kind
 
 LARGEST_INDEX = 2**64 - 1
@@ -51,6 +51,26 @@ def alike(sorts):
 def branches(sorts):
     """Takes a condition and two of one sort."""
     return sorts[1] if len(sorts) == 3 and sorts[0] == BOOL and sorts[1] == sorts[2] else None
+
+
+def numbers(least, most, result=None):
+    """Takes from `least` to `most` integers and reals; without another result it has their sort, and is a real where they are mixed."""
+
+    def result_of(sorts):
+        fits = least <= len(sorts) and (most is None or len(sorts) <= most) and all(sort in NUMBERS for sort in sorts)
+        return (result or (REAL if REAL in sorts else INT)) if fits else None
+
+    return result_of
+
+
+def alike_or_numbers(sorts):
+    """Takes two arguments or more of one sort, or numbers, and has a truth value."""
+    return alike(sorts) or numbers(2, None, BOOL)(sorts)
+
+
+def branches_or_numbers(sorts):
+    """Takes a condition and two of one sort, or two numbers."""
+    return branches(sorts) or (numbers(2, 2)(sorts[1:]) if len(sorts) == 3 and sorts[0] == BOOL else None)
 
 
 def vectors(least, most, result=None):
@@ -163,7 +183,33 @@ def operators():
     return {CORE: core, INTS: ints, BITS: bits}
 
 
+def operators_on_reals():
+    """The operators without indexes where there are Reals, by name, and those which need Ints too."""
+    reals, both = {}, {}
+
+    def put(table, name, result, meaning, takes_open=False):
+        table[name] = Operator(name, result, meaning, takes_open)
+
+    put(reals, "=", alike_or_numbers, plain(v.neighbours(lambda x, y: x == y)))
+    put(reals, "distinct", alike_or_numbers, plain(v.distinct))
+    put(reals, "ite", branches_or_numbers, plain(v.choice), True)
+    difference = v.from_left(v.difference_of)
+    put(reals, "-", numbers(1, None), plain(lambda a: v.negative(a) if len(a) == 1 else difference(a)))
+    put(reals, "+", numbers(2, None), plain(v.from_left(v.sum_of)))
+    put(reals, "*", numbers(2, None), plain(v.from_left(v.product_of)))
+    put(reals, "/", numbers(2, None, REAL), plain(v.from_left(v.real_quotient_of)))
+    put(reals, "<=", numbers(2, None, BOOL), plain(v.neighbours(lambda x, y: x <= y)))
+    put(reals, "<", numbers(2, None, BOOL), plain(v.neighbours(lambda x, y: x < y)))
+    put(reals, ">=", numbers(2, None, BOOL), plain(v.neighbours(lambda x, y: x >= y)))
+    put(reals, ">", numbers(2, None, BOOL), plain(v.neighbours(lambda x, y: x > y)))
+    put(both, "to_real", some(1, 1, INT, REAL), plain(lambda a: a[0]))
+    put(both, "to_int", numbers(1, 1, INT), plain(v.greatest_integer))
+    put(both, "is_int", numbers(1, 1, BOOL), plain(v.is_integer))
+    return reals, both
+
+
 TABLES = operators()
+ON_REALS, WITH_INTS = operators_on_reals()
 TABLE_OF = {}
 
 
@@ -173,6 +219,9 @@ def operators_in(theories):
         table = {}
         for theory in theories:
             table.update(TABLES.get(theory, {}))
+        if REALS in theories:
+            table.update(ON_REALS)
+            table.update(WITH_INTS if INTS in theories else {})
         TABLE_OF[theories] = table
     return TABLE_OF[theories]
 

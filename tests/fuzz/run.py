@@ -24,6 +24,7 @@ import time
 import traceback
 from collections import Counter, namedtuple
 
+import reals
 from dialogues import Dialogue, invent
 from inventor import ALL_OPERATORS
 from mutate import Corpus
@@ -120,6 +121,13 @@ WIDE_KINDS += ["wide: " + what for what in (
 WIDE_KINDS += ["wide: %s of %s" % (word, name) for word in ("declare-sort", "define-sort") for name in WIDE_SORTS]
 WIDE_KINDS += ["wide: repeated item whose body would have " + letter for letter in ("F1", "F2", "F3", "F4", "F8")]
 WIDE_KINDS += ["wide: logic like %s, %s QF_" % (names.split()[0], how) for _, names in WIDE_LOGICS for how in ("with", "without")]
+# Reals.
+WIDE_KINDS += ["operator " + name for name in reals.OPERATORS] + ["wide: a decimal that is no integer"]
+WIDE_KINDS += ["wide: mixed " + name for name in "- + * / <= < >= > = distinct ite".split()]
+WIDE_KINDS += ["wide: a fraction by " + name for name in "- + * / ite".split()]
+WIDE_KINDS += ["wide: open by " + name for name in ("-", "+", "*", "/", "/ of 0")]
+WIDE_KINDS += ["wide: numbers of the other sort as %s, F4" % what for what in ("arguments", "a body", "a rank")]
+WIDE_KINDS += ["wide: an operator of integers with a Real, F4", "wide: a decimal without Reals, F3", "wide: the sort Real without Reals, F3"]
 # What it hardly reaches: a label whose level is gone is set aside in it, and an operator's name is rare.
 NOT_WIDE = "global: model with names whose levels are gone: item F7"
 WITH_STEPS = ["model: too long", "limit on steps", "assuming: too long by its literals", "assuming: as long as the limit"]
@@ -429,7 +437,7 @@ class Streams:
 class Fuzzer:
     """Runs seeds, and counts what they reach."""
 
-    def __init__(self, program, with_steps, corpus, folder, mutated, profile, sorts, spines):
+    def __init__(self, program, with_steps, corpus, folder, mutated, profile, sorts, spines, with_reals):
         # Files in memory, where there are such, are written ten times as fast.
         memory = "/dev/shm" if os.access("/dev/shm", os.W_OK) else None
         self.work = tempfile.mkdtemp(prefix="smtcheck-fuzz-", dir=memory)
@@ -441,6 +449,7 @@ class Fuzzer:
         self.profile = profile
         self.sorts = sorts
         self.spines = spines
+        self.with_reals = with_reals
         self.counts = Counter()
         self.differences = 0
         self.slowest = (0.0, None)
@@ -466,12 +475,14 @@ class Fuzzer:
         if self.spines:
             self.counts["dialogue with a spine"] += 1
             return invent_spine(seed, self.profile)
-        if self.corpus.dialogues and rng.random() < 0.2 and not self.sorts:
+        if self.corpus.dialogues and rng.random() < 0.2 and not self.sorts and not self.with_reals:
             self.counts["dialogue mutated"] += 1
             found = self.corpus.mutated(seed, self.with_steps)
             return widened(seed, found) if self.profile == WIDE else found
         self.counts["dialogue invented"] += 1
-        return invent_wide(seed, self.with_steps, self.sorts) if self.profile == WIDE else invent(seed, self.with_steps)
+        if self.profile == WIDE:
+            return invent_wide(seed, self.with_steps, self.sorts, self.with_reals)
+        return invent(seed, self.with_steps)
 
     def options_of(self, dialogue, rng=None):
         """The options for a dialogue."""
@@ -734,13 +745,15 @@ def main():
     parser.add_argument(
         "--spines", action="store_true", help="invent each dialogue with a term that nests deep, up to 2,000 frames; no kind has to be reached"
     )
+    parser.add_argument("--reals", action="store_true", help="in `wide`, let each dialogue aim at reals; no kind has to be reached")
     parser.add_argument("-j", dest="jobs", type=int, default=1, help="how many run side by side")
     chosen = parser.parse_args()
     if not os.access(chosen.program, os.X_OK) or not stat.S_ISREG(os.stat(chosen.program).st_mode):
         sys.exit("fuzz: no program: " + chosen.program)
     with_steps = knows_steps(chosen.program) if chosen.steps_option == "ask" else chosen.steps_option == "on"
     folder = chosen.folder or os.path.join(tempfile.gettempdir(), "smtcheck-differences")
-    settings = os.path.abspath(chosen.program), with_steps, chosen.rows, folder, chosen.mutated, chosen.profile, chosen.sorts, chosen.spines
+    kinds = chosen.mutated, chosen.profile, chosen.sorts, chosen.spines, chosen.reals
+    settings = os.path.abspath(chosen.program), with_steps, chosen.rows, folder, *kinds
     seeds = range(chosen.seed, chosen.seed + chosen.number)
     size = max(1, min(2000, -(-len(seeds) // max(1, chosen.jobs))))
     works = [(settings, seeds[begin : begin + size]) for begin in range(0, len(seeds), size)]
@@ -755,7 +768,7 @@ def main():
     if chosen.mutated:
         counts["different stored dialogues"] = len(sources)
         counts["different stored dialogues of solvers"] = sum(map(of_solver, sources))
-    required = [] if chosen.mutated or chosen.sorts or chosen.spines else REQUIRED + WITH_STEPS * with_steps
+    required = [] if chosen.mutated or chosen.sorts or chosen.spines or chosen.reals else REQUIRED + WITH_STEPS * with_steps
     if required and chosen.profile == WIDE:
         required = [name for name in required if name != NOT_WIDE] + WIDE_KINDS
     table(counts, required)

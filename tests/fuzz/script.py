@@ -12,12 +12,13 @@ Command = namedtuple("Command", "word parts")
 
 
 class Refused(Exception):
-    """The fault of a command: its letter, and that of its name, sort or term for C7."""
+    """The fault of a command: its letter, and that of its name, sort or term for C7; and of some, what is counted of them."""
 
-    def __init__(self, letter, inner=None):
+    def __init__(self, letter, inner=None, kind=None):
         super().__init__(letter, inner)
         self.letter = letter
         self.inner = inner
+        self.kind = kind
 
 
 def is_option(tree, value=None):
@@ -236,7 +237,7 @@ class Force:
                 else:
                     self.take_term(number, word, parts)
             except Faulty as fault:
-                raise Refused("C7", fault.letter)
+                raise Refused("C7", fault.letter, fault.kind)
         self.settled = self.settled or word in SETTLING
         return assumed
 

@@ -1,10 +1,12 @@
-"""Sorts: the truth values, the integers, bit vectors, which stand here as their width, a number from 1 to 128, and declared sorts."""
+"""Sorts: the truth values, the integers, the reals, bit vectors, which stand here as their width, a number from 1 to 128, and declared sorts."""
 import re
 from collections import namedtuple
 
 from text import NUMERAL, SYMBOL, is_kind, is_symbol, is_word
 
-BOOL, INT = "Bool", "Int"
+BOOL, INT, REAL = "Bool", "Int", "Real"
+# The sorts of numbers.
+NUMBERS = (INT, REAL)
 # A sort that the command of this number declared, by this name.
 Free = namedtuple("Free", "command name")
 WIDEST = 128
@@ -14,9 +16,9 @@ ALL_THEORIES = frozenset([CORE, INTS, BITS])
 
 BASE, WIDE = "base", "wide"
 # Names that no new sort may have in the profile `wide`, beside those that none may have.
-WIDE_SORTS = ("Real", "Array")
-# No sort and no operator of Reals or of arrays is there yet: a logic with them has what it has besides.
-THEORIES = {BASE: ALL_THEORIES, WIDE: ALL_THEORIES | frozenset([REALS, ARRAYS])}
+WIDE_SORTS = (REAL, "Array")
+# No sort and no operator of arrays is there yet: a logic with them has what it has besides. In the profile `wide` WIDE is among the theories.
+THEORIES = {BASE: ALL_THEORIES, WIDE: ALL_THEORIES | frozenset([REALS, ARRAYS, WIDE])}
 
 
 def theories_of():
@@ -50,7 +52,7 @@ def wide_theories_of():
     table = {}
     for theories, names in WIDE_LOGICS:
         for name in names.split():
-            table[name] = table["QF_" + name] = frozenset((CORE,) + theories)
+            table[name] = table["QF_" + name] = frozenset((CORE, WIDE) + theories)
     return table
 
 
@@ -107,7 +109,11 @@ def sort_of(tree, abbreviations, theories):
             return BOOL
         if name == INT and INTS in theories:
             return INT
-        raise Faulty("F2" if name in ("Real", "String") else "F3")
+        if name == REAL and REALS in theories:
+            return REAL
+        if name == REAL and WIDE in theories:
+            raise Faulty("F3", "the sort Real without Reals, F3")
+        raise Faulty("F2" if name in (REAL, "String") else "F3")
     if type(tree) is not list or not tree:
         raise Faulty("F1")
     if is_symbol(tree[0]):

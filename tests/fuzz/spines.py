@@ -10,7 +10,7 @@ from sorts import WIDE
 from text import read
 from trees import copied, keyword, listed, numeral, symbol, word, written
 
-BOOL, INT, BITS = "Bool", "Int", "(_ BitVec 8)"
+BOOL, INT, BITS, REAL = "Bool", "Int", "(_ BitVec 8)", "Real"
 SORTS = (BOOL, BOOL, INT, BITS)
 # The hole of a frame: a list of its own, which no term has.
 HOLE = ["hole"]
@@ -18,10 +18,13 @@ HOLE = ["hole"]
 SCRIPT = """(declare-const p Bool)(declare-const q Bool)(declare-const i Int)(declare-const j Int)(declare-const b (_ BitVec 8))
 (define-fun f ((x Bool) (y Int)) Bool (and x (< y 1000)))(define-fun g ((x Int)) Int (- x))(define-fun h ((x (_ BitVec 8)) (y Bool)) (_ BitVec 8) x)
 """
+# What scripts with reals have besides, and their models.
+REAL_SCRIPT = "(declare-const a Real)(declare-const e Real)(define-fun k ((x Real)) Real (/ x 2))\n"
+REAL_MODEL = "(define-fun a () Real (/ 1 3)) (define-fun e () Real (- 2.5))"
 MODEL = """(define-fun p () Bool %s) (define-fun q () Bool %s) (define-fun i () Int %d) (define-fun j () Int (- %d)) (define-fun b () (_ BitVec 8) #x%02x)"""
 
 # Terms without variables, by sort; and what is wrong in any place, or nearly.
-PLAIN = {BOOL: ("p", "q", "true", "false"), INT: ("i", "j", "0", "7"), BITS: ("b", "#x0f", "#b10000001")}
+PLAIN = {BOOL: ("p", "q", "true", "false"), INT: ("i", "j", "0", "7"), BITS: ("b", "#x0f", "#b10000001"), REAL: ("a", "e", "0.5", "2.0")}
 WRONG = (
     "()", "nobody", "(nobody p)", "(p q)", "(f p)", "(and p 1)", "(f p true)", "1.5", '"a"', ":a", "let", "(let () p)", "(let ((v p)) v v)",
     "(let ((v p) (v q)) v)", "(let ((v)) v)", "(let ((v p) (v nobody)) v)", "(let ((v nobody) (v p)) v)", "(let (v p) v)", "(! p)", "(! p q)",
@@ -40,8 +43,11 @@ def trees_of(text):
 class Spine:
     """Makes one spine."""
 
-    def __init__(self, rng, labels):
+    def __init__(self, rng, labels, reals=False):
         self.rng = rng
+        # Whether there are reals in it, which are mixed with integers.
+        self.reals = reals
+        self.sorts = SORTS + (REAL, REAL) * reals
         # Whether labels may stand in it.
         self.labels = labels
         self.bound = []
@@ -70,7 +76,7 @@ class Spine:
         """A `let` whose hole is one of the terms that it binds, or its body."""
         rng = self.rng
         names = list(dict.fromkeys(self.variable() for _ in range(rng.choice((1, 1, 2, 3)))))
-        sorts = [rng.choice(SORTS) for _ in names]
+        sorts = [rng.choice(self.sorts) for _ in names]
         bindings = [[symbol(name), self.leaf(of)] for name, of in zip(names, sorts)]
         if rng.random() < 0.5:
             self.bound += list(zip(names, sorts))
@@ -98,8 +104,10 @@ class Spine:
             return self.note(sort)
         if kind < 0.45:
             return self.among("ite", BOOL, sort, sort)
+        if self.reals and (sort == REAL or sort != BITS and rng.random() < 0.3):
+            return self.on_reals(sort)
         if sort == BOOL:
-            other = rng.choice(SORTS)
+            other = rng.choice(self.sorts)
             return self.among(*rng.choice((
                 ("not", BOOL), ("and",) + (BOOL,) * rng.choice((2, 3, 5)), ("or", BOOL, BOOL), ("=>", BOOL, BOOL, BOOL), ("xor", BOOL, BOOL),
                 ("=", other, other), ("distinct", other, other, other), ("<", INT, INT), ("bvult", BITS, BITS), ("f", BOOL, INT),
@@ -113,6 +121,18 @@ class Spine:
             ("bvnot", BITS), ("bvadd", BITS, BITS), ("bvand", BITS, BITS, BITS), ("h", BITS, BOOL), ("bvneg", BITS), ("bvshl", BITS, BITS),
             (trees_of(indexed)[0][0], BITS),
         )))
+
+    def on_reals(self, sort):
+        """A frame of numbers, mixed mostly, and the sort of its hole."""
+        frames = {
+            BOOL: (("<", INT, REAL), ("=", REAL, INT), ("distinct", REAL, INT, REAL), ("is_int", REAL), (">=", REAL, REAL)),
+            INT: (("to_int", REAL), ("to_int", INT)),
+            REAL: (
+                ("-", REAL), ("+", REAL, INT, REAL), ("-", INT, REAL), ("*", REAL, INT), ("/", REAL, INT), ("/", INT, INT), ("to_real", INT), ("k", REAL),
+                ("ite", BOOL, INT, REAL), ("ite", BOOL, REAL, REAL),
+            ),
+        }
+        return self.among(*self.rng.choice(frames[sort]))
 
     def make(self, size):
         """A truth value of so many frames."""
@@ -173,13 +193,15 @@ def invent_spine(seed, profile):
     """The dialogue of a seed."""
     rng = random.Random(seed)
     place = rng.choice(("assertion", "assertion", "assertion", "definition", "item", "assumption" if profile == WIDE else "assertion"))
-    spine = Spine(rng, place == "assertion")
+    reals = profile == WIDE and rng.random() < 0.4
+    spine = Spine(rng, place == "assertion", reals)
     root = spine.make(size_of(rng, profile))
     for _ in range(rng.choice((0, 1, 1, 2))):
         spine.plant()
     truths = [rng.choice(("true", "false")) for _ in range(2)]
     items = trees_of(MODEL % (*truths, rng.choice((0, 1, 5, 2**127 - 1)), rng.choice((1, 3)), rng.randrange(256)))
-    script = trees_of(SCRIPT)
+    script = trees_of(SCRIPT + REAL_SCRIPT * reals)
+    items += trees_of(REAL_MODEL * reals)
     asked = listed("check-sat")
     if place == "item":
         script.append(listed("declare-const", "r", "Bool"))

@@ -2,9 +2,9 @@
 from collections import namedtuple
 
 from operators import indexed_operator, operators_in
-from sorts import BITS, BOOL, INT, INTS, WIDEST, Faulty, Free, element_sort, of_abbreviation, sort_of
+from sorts import BITS, BOOL, INT, INTS, NUMBERS, REAL, REALS, WIDE, WIDEST, Faulty, Free, element_sort, of_abbreviation, sort_of
 from text import BINARY, DECIMAL, HEXADECIMAL, KEYWORD, NUMERAL, RESERVED, STRING, SYMBOL, begins_with, is_kind, is_symbol, is_word
-from values import HIGHEST, OPEN, element
+from values import HIGHEST, OPEN, decimal, element
 
 # The nodes that terms are made of. Variables and parameters have numbers, each its own within one command or item.
 Literal = namedtuple("Literal", "value")
@@ -84,10 +84,14 @@ class Checker:
         if atom.kind is SYMBOL:
             return self.check_symbol(atom.text, scope)
         if atom.kind is NUMERAL:
-            if INTS not in self.context.theories:
+            if INTS not in self.context.theories and REALS not in self.context.theories:
                 raise Faulty("F3")
             number = int(atom.text)
-            return INT, Literal(number if number <= HIGHEST else OPEN)
+            return INT if INTS in self.context.theories else REAL, Literal(number if number <= HIGHEST else OPEN)
+        if atom.kind is DECIMAL and WIDE in self.context.theories:
+            if REALS not in self.context.theories:
+                raise Faulty("F3", "a decimal without Reals, F3")
+            return REAL, Literal(decimal(atom.text))
         if atom.kind is HEXADECIMAL or atom.kind is BINARY:
             if BITS not in self.context.theories:
                 raise Faulty("F3")
@@ -188,7 +192,7 @@ class Checker:
         elif head.text in self.context.ranks:
             rank = self.context.ranks[head.text]
             if rank.parameters != sorts:
-                raise Faulty("F4")
+                raise Faulty("F4", mixed("arguments", sorts, rank.parameters))
             return rank.result, Use(head.text, nodes)
         elif head.text in self.context.operators:
             operator = self.context.operators[head.text]
@@ -196,7 +200,8 @@ class Checker:
             raise Faulty("F3")
         result = operator.result(sorts)
         if result is None:
-            raise Faulty("F4")
+            of_real = REAL in sorts and all(sort in NUMBERS for sort in sorts) and operator.result((INT,) * len(sorts))
+            raise Faulty("F4", "an operator of integers with a Real, F4" if of_real else None)
         return result, Apply(operator, nodes, sorts)
 
 
@@ -204,6 +209,13 @@ def indexed_form(tree):
     """The form of a list that begins with `_`."""
     if len(tree) < 3 or not is_symbol(tree[1]) or not all(is_kind(i, NUMERAL) or is_kind(i, SYMBOL) for i in tree[2:]):
         raise Faulty("F1")
+
+
+def mixed(what, found, wanted):
+    """What is counted where sorts are others than are wanted only in that they are those of the other numbers."""
+    pairs = list(zip(found, wanted))
+    fits = len(found) == len(wanted) and all(x == y or x in NUMBERS and y in NUMBERS for x, y in pairs)
+    return "numbers of the other sort as %s, F4" % what if fits else None
 
 
 def is_binding(tree):
@@ -272,8 +284,8 @@ def check_definition(context, parameters, result, body, rank=None):
     scope, numbers, sorts = check_parameters(context, checker, parameters)
     found = Rank(sorts, context.sort(result))
     if rank is not None and found != rank:
-        raise Faulty("F4")
+        raise Faulty("F4", mixed("a rank", sorts + (found.result,), rank.parameters + (rank.result,)))
     sort, node = checker.check(body, scope)
     if sort != found.result:
-        raise Faulty("F4")
+        raise Faulty("F4", mixed("a body", (sort,), (found.result,)))
     return found, Body(numbers, node)

@@ -203,6 +203,8 @@ class Dialogue:
             try:
                 self.take_command(number, tree)
             except Refused as refused:
+                if refused.kind:
+                    self.count("wide: " + refused.kind)
                 inner = " " + refused.inner if refused.inner else ""
                 raise Fault("fault %s%s at command %d" % (refused.letter, inner, number))
         if self.script.reading.flaw:

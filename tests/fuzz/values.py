@@ -1,9 +1,10 @@
 """Values and what operators make of them.
 
-A truth value is a bool, an integer an int, a bit vector the number that it is. What is not known is OPEN. Each function takes the list of
-the values of its arguments, all of them known but where it is said, and what else it needs by name.
+A truth value is a bool, an integer an int, a real that is no integer a Fraction, a bit vector the number that it is. What is not known is
+OPEN. Each function takes the list of the values of its arguments, all of them known but where it is said, and what else it needs by name.
 """
 from collections import namedtuple
+from fractions import Fraction
 
 
 class Open:
@@ -17,6 +18,9 @@ OPEN = Open()
 # An element of a declared sort, by its name.
 Abstract = namedtuple("Abstract", "name")
 LOWEST, HIGHEST = -(2**127), 2**127 - 1
+# The denominators of known reals, and how many digits a known decimal may have behind the point.
+LARGEST_DENOMINATOR = 2**120 - 1
+MOST_PLACES = 38
 
 
 def element(name):
@@ -99,6 +103,72 @@ def remainder_of(dividend, divisor):
 def quotient_of(dividend, divisor):
     """The quotient that goes with that remainder."""
     return known((dividend - remainder_of(dividend, divisor)) // divisor) if divisor else OPEN
+
+
+# Reals. A real that is an integer is that integer: each number has one form, in lowest terms.
+
+
+def ratio(numerator, denominator, *parts):
+    """The quotient of two integers, if both and all other parts of the step to it are in range, and its denominator in lowest terms is."""
+    if any(known(part) is OPEN for part in (numerator, denominator, *parts)):
+        return OPEN
+    result = Fraction(numerator, denominator)
+    if result.denominator > LARGEST_DENOMINATOR:
+        return OPEN
+    return result.numerator if result.denominator == 1 else result
+
+
+def terms(x, y):
+    """Numerator and denominator of one number, and those of another."""
+    return x.numerator, x.denominator, y.numerator, y.denominator
+
+
+def sum_of(x, y):
+    """The sum of two numbers."""
+    a, b, c, d = terms(x, y)
+    return ratio(a * d + c * b, b * d, a * d, c * b)
+
+
+def difference_of(x, y):
+    """The difference of two numbers."""
+    a, b, c, d = terms(x, y)
+    return ratio(a * d - c * b, b * d, a * d, c * b)
+
+
+def product_of(x, y):
+    """The product of two numbers."""
+    a, b, c, d = terms(x, y)
+    return ratio(a * c, b * d)
+
+
+def real_quotient_of(x, y):
+    """The quotient of two numbers; the sign of the divisor goes to the numerator."""
+    a, b, c, d = terms(x, y)
+    if c == 0:
+        return OPEN
+    return ratio(a * d, b * c) if c > 0 else ratio(-a * d, -b * c)
+
+
+def negative(values):
+    """Unary minus."""
+    return ratio(-values[0].numerator, values[0].denominator)
+
+
+def greatest_integer(values):
+    """to_int: the greatest integer that is not above the number."""
+    return values[0].numerator // values[0].denominator
+
+
+def is_integer(values):
+    """is_int: whether the number is an integer."""
+    return values[0].denominator == 1
+
+
+def decimal(text):
+    """The number that a decimal spells."""
+    whole, behind = text.split(".")
+    digits = int(whole + behind)
+    return OPEN if digits > HIGHEST or len(behind) > MOST_PLACES else ratio(digits, 10 ** len(behind))
 
 
 # Bit vectors of m bits.

@@ -3,19 +3,27 @@ import random
 
 from dialogues import AIMS, Dialogue, Story, aims, is_right_form, soup_of
 from flaws import LETTERS, SORT_LETTERS, templates
+import reals
 from inventor import BEHIND_AS, ELEMENT_NAMES, NAMES
 from script import Definition
-from sorts import BOOL, INT, INTS, LOGICS, WIDE, WIDE_LOGICS, WIDE_SORTS, Faulty, Free, element_sort
+from sorts import BOOL, INT, INTS, LOGICS, REAL, REALS, WIDE, WIDE_LOGICS, WIDE_SORTS, Faulty, Free, element_sort
 from text import NUMERAL, begins_with, is_kind, is_symbol, is_word, read
 from trees import copied, keyword, listed, lists_in, numeral, symbol, word, written
 from values import OPEN
 
-WIDE_AIMS = AIMS + aims("global", {"late": 6, "twice": 6}) + aims(
+REAL_AIMS = aims(
+    "wide",
+    {
+        "real operator": 14, "printed real": 4, "edge": 16, "by zero": 8, "mixed": 13, "lacking": 12, "real fault": 26, "real command": 13,
+        "real name": 12, "real item": 8,
+    },
+)
+WIDE_AIMS = AIMS + REAL_AIMS + aims("global", {"late": 6, "twice": 6}) + aims(
     "wide",
     {
         "repeated": 8, "rank": 32, "gone": 4, "inner": 4, "logic": 14, "assumed": 12, "const": 20, "bare": 10, "declared": 3, "twice": 2,
         "body": 3, "sort": 8, "element": 24, "universe": 16, "two meanings": 94, "gone sort": 6,
-        "new sort": 16, "long element": 6,
+        "new sort": 22, "long element": 6,
     },
 )
 
@@ -108,10 +116,10 @@ class WideStory(Story):
     """A story in the profile `wide`."""
 
     PROFILE = WIDE
-    LOGIC_NAMES = sorted(LOGICS[WIDE]) + ["ALL", "QF_BV", "QF_LIA", "QF_UFBV", "ALL_SUPPORTED"] * 8 + ["AX", "QF_AX"] * 3
+    LOGIC_NAMES = sorted(LOGICS[WIDE]) + ["ALL", "QF_BV", "QF_LIA", "QF_UFBV", "ALL_SUPPORTED"] * 8 + ["AX", "QF_AX"] * 3 + reals.USUAL * 2
     SHORT_SORTS = ("word", "S", "String", "BitVec", "x", "let", "T", "U", "V", "V", "W")
 
-    def __init__(self, rng, aim, turn, with_steps, sorts):
+    def __init__(self, rng, aim, turn, with_steps, sorts, with_reals=False):
         super().__init__(rng, aim, turn, with_steps)
         # The sorts that were declared, also those that are gone: what was ever their name.
         self.sorts_met = []
@@ -120,6 +128,8 @@ class WideStory(Story):
         self.defined = set()
         self.sorted = 0.2 if sorts else rng.choice((0, 0, 0.05, 0.2))
         self.begins_with_sort = sorts
+        if with_reals:
+            self.LOGIC_NAMES = reals.USUAL
 
     # Commands and answers
 
@@ -699,6 +709,171 @@ class WideStory(Story):
         except Faulty:
             return symbol("false")
 
+    # Reals
+
+    def begin_with(self, logics):
+        """The start again, in one of these logics or in none; whether the script goes on."""
+        self.do(listed("reset"))
+        if not self.over and self.rng.random() < 0.85:
+            # A solver that knows the logic, so that it is set.
+            self.do(listed("set-logic", self.rng.choice(logics)), symbol("success") if self.force.print_success else None)
+        return not self.over
+
+    def new_name(self):
+        """A name that was not used."""
+        self.fresh += 1
+        return "r%d" % self.fresh
+
+    def a_real(self):
+        """A constant of the sort Real and a function of a real, by their names, or None."""
+        constant, function = self.new_name(), self.new_name()
+        result = self.rng.choice(("Real", "Real", "Bool")) if INTS not in self.force.theories else self.rng.choice(("Real", "Int", "Bool"))
+        self.do(listed("declare-const", constant, "Real"))
+        if not self.over:
+            self.do(listed("declare-fun", function, [symbol("Real")], result))
+        return None if self.over else (constant, function)
+
+    def assert_and_check(self, tree, keep=False):
+        """An assertion of a term, or of what it is equal to, and a check with a right model."""
+        if not self.over:
+            self.assert_tree(self.exact(tree), keep)
+        self.check_reals()
+
+    def check_reals(self):
+        """A check with a right model, or with one in which a value is another."""
+        self.right_check(["wrong"] * self.rng.choice((0, 0, 1, 2)))
+
+    def aim_at_real_operator(self):
+        """An operator on numbers; then one argument more or less."""
+        if self.begin_with(reals.USUAL):
+            self.a_real()
+        name = reals.ON_NUMBERS[self.turn % len(reals.ON_NUMBERS)]
+        if self.over or REALS not in self.force.theories or INTS not in self.force.theories and name in reals.OPERATORS[1:]:
+            return
+        tree = self.inventor().aimed(name, self.rng.choice((3, 5)), {})
+        self.assert_and_check(tree)
+        if type(tree) is list and not self.over and self.rng.random() < 0.3:
+            more = copied(tree) + [copied(tree[-1])] if self.rng.random() < 0.6 else copied(tree[:-1])
+            self.assert_tree(listed("=", more, copied(more)))
+
+    def aim_at_printed_real(self):
+        """Constants and functions whose items have numbers as solvers print them."""
+        if self.begin_with(reals.USUAL):
+            for _ in range(3):
+                if not self.over:
+                    self.a_real()
+        for _ in range(2):
+            if not self.over:
+                self.assert_tree(self.exact(self.inventor().term(REAL if REALS in self.force.theories else BOOL, 6, {})))
+        self.check_reals()
+
+    def aim_at_edge(self):
+        """A term over numbers at the bounds of what is known."""
+        if self.turn % 3 == 0:
+            self.begin_with(reals.USUAL)
+        if self.over or REALS not in self.force.theories:
+            return
+        tree, is_formula = reals.edge_term(self.rng, INTS in self.force.theories)
+        if is_formula and self.rng.random() < 0.5:
+            tree = listed("not", tree)
+        self.assert_and_check(tree, self.rng.random() < 0.7)
+
+    def aim_at_by_zero(self):
+        """A division by zero, which decides or not."""
+        if self.begin_with(reals.USUAL) and REALS in self.force.theories:
+            self.assert_and_check(copied(reals.BY_ZERO[self.turn % len(reals.BY_ZERO)]), self.rng.random() < 0.8)
+
+    def aim_at_mixed(self):
+        """A term that mixes the sorts of numbers, or may not."""
+        logics = reals.USUAL if self.rng.random() < 0.3 else ("ALL", "QF_LIRA", "QF_UFLIRA")
+        names = self.a_real() if self.begin_with(logics) and REALS in self.force.theories else None
+        if names is not None:
+            tree = reals.filled(copied(reals.MIXES[self.turn % len(reals.MIXES)]), {"CONSTANT": names[0], "NAME": names[1]})
+            if self.rng.random() < 0.2:
+                tree = self.inventor().spoiled(self.inventor().term(BOOL, 4, {}), tree)
+            self.assert_tree(tree)
+            self.check_reals()
+
+    def aim_at_lacking(self):
+        """What reals bring, where they or integers are not there."""
+        rng = self.rng
+        if not self.begin_with(rng.choice((reals.LACKING, reals.LACKING, reals.PURE))):
+            return
+        if self.turn % 4 == 0:
+            self.do(rng.choice((listed("declare-const", "lacked", "Real"), listed("define-sort", "lacked", [], "Real"))))
+        elif self.turn % 4 == 1:
+            self.do(listed("assert", rng.choice((listed("=", reals.decimal("1.5"), reals.decimal("1.5")), reals.decimal("0.0"), listed("=", 1, 1)))))
+        elif self.turn % 4 == 2:
+            self.do(listed("assert", copied(rng.choice(reals.FAULTS + reals.BY_ZERO + reals.MIXES))))
+        else:
+            body = copied(rng.choice((reals.decimal("1.5"), listed("/", 1, 2), numeral(1), listed("to_real", 1))))
+            item = [word("define-fun"), symbol("extra.item"), [], symbol(rng.choice(("Real", "Bool", "Int"))), body]
+            self.sat_with(lambda items: self.put(items, item))
+
+    def aim_at_real_fault(self):
+        """A term with a wrong sort, or nearly."""
+        if self.rng.random() < 0.7:
+            self.begin_with(reals.USUAL)
+        tree = copied(reals.FAULTS[self.turn % len(reals.FAULTS)])
+        if not self.over and self.rng.random() < 0.3:
+            tree = self.inventor().spoiled(self.inventor().term(BOOL, 4, {}), tree)
+        if not self.over:
+            self.assert_tree(tree)
+        self.check_reals()
+
+    def aim_at_real_command(self):
+        """A command that names the sort."""
+        if self.rng.random() < 0.8:
+            self.begin_with(reals.USUAL)
+        names = {"NAME": self.new_name()}
+        if not self.over:
+            self.do(reals.filled(copied(reals.COMMANDS[self.turn % len(reals.COMMANDS)]), names))
+        self.check_reals()
+
+    def aim_at_real_name(self):
+        """A new name that is an operator's, or is not where the logic lacks a theory."""
+        rng = self.rng
+        name = symbol(reals.OPERATORS[self.turn % 4])
+        if not self.begin_with(rng.choice((reals.USUAL, reals.PURE, reals.LACKING))):
+            return
+        kind = self.turn // 4 % 6
+        if kind == 0:
+            self.do(listed("declare-const", name, "Bool"))
+        elif kind == 1:
+            self.do(listed("define-fun", name, [listed("x", "Bool")], "Bool", "x"))
+        elif kind == 2:
+            self.do(listed("assert", listed("!", "true", keyword(":named"), name)))
+        elif kind == 3:
+            self.do(listed("define-sort", name, [], "Bool"))
+        elif kind == 4:
+            self.do(listed("assert", [word("let"), [[name, symbol("true")]], rng.choice((name, [name, numeral(1), numeral(2)]))]))
+        if kind < 5:
+            self.check_reals()
+        else:
+            item = [word("define-fun"), name, [], symbol("Bool"), symbol("true")]
+            self.sat_with(lambda items: self.put(items, item))
+
+    def aim_at_real_item(self):
+        """An item of the sort Real whose body is of another sort, or has another fault, or none."""
+        rng = self.rng
+        names = self.a_real() if self.begin_with(reals.USUAL) and REALS in self.force.theories else None
+        if names is None:
+            return
+        ints = INTS in self.force.theories
+        bodies = [numeral(2), listed("-", 7), listed("/", 1, 3), reals.printed(rng, reals.usual(rng), ints), reals.edge(rng), listed("+", 1, 1)]
+        bodies += [listed("root-obj", listed("+", listed("^", "x", 2), listed("-", 2)), 2), listed("to_real", 2), listed("to_int", 2), symbol("true")]
+        body = bodies[self.turn % len(bodies)]
+        self.assert_tree(listed("=", names[0], copied(body)) if rng.random() < 0.3 else listed("<", names[0], reals.edge(rng)), True)
+
+        def change(items):
+            for item in items:
+                if is_right_form(item) and item[1].text == names[0]:
+                    item[4] = body
+                    if rng.random() < 0.5:
+                        item[3] = symbol("Int")
+
+        self.sat_with(change)
+
     def aim_at_const(self):
         """A `define-const`, out of form or with a fault, or right."""
         self.fresh += 1
@@ -747,8 +922,12 @@ def widened(seed, dialogue):
     return Dialogue(written(commands), written(answers), dialogue.print_success, dialogue.steps)
 
 
-def invent_wide(seed, with_steps=False, sorts=False):
-    """The dialogue of a seed in the profile `wide`; with limits on steps, and beginning with a declared sort, if it is said."""
+def invent_wide(seed, with_steps=False, sorts=False, with_reals=False):
+    """The dialogue of a seed in the profile `wide`; with limits on steps, beginning with a declared sort, or aiming at reals, if it is said."""
+    if with_reals:
+        rng = random.Random(seed)
+        found = REAL_AIMS + [(None, None, 0, 1)] * 40
+        return WideStory(rng, found[seed % len(found)], seed // len(found), with_steps, sorts, True).tell()
     if seed % 29 == 11 and not sorts:
         return soup_of(random.Random(seed))
     return WideStory(random.Random(seed), WIDE_AIMS[seed % len(WIDE_AIMS)], seed // len(WIDE_AIMS), with_steps, sorts).tell()

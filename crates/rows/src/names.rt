@@ -56,6 +56,7 @@ pub(crate) fn write_sort<W: Write>(out: &mut W, sort: &Sort) -> io::Result<()> {
     match sort.kind() {
         SortKind::Bool => write!(out, "Bool"),
         SortKind::Int => write!(out, "Int"),
+        SortKind::Real => write!(out, "Real"),
         SortKind::Free(command) => write!(out, "the sort of command {command}"),
         SortKind::Bits(width) => write!(out, "(_ BitVec {})", width.bits()),
     }

@@ -239,6 +239,7 @@ fn write_known<W: Write>(out: &mut W, names: &Names, known: &Option<Value>) -> i
             let bits = value.width().bits();
             write!(out, "(_ bv{} {bits})", value.number())
         }
+        Some(Value::Ratio(ratio)) => write!(out, "{}/{}", ratio.numerator(), ratio.denominator()),
         Some(Value::Abstract(number)) => write_name(out, names, *number),
         Some(value) => write!(out, "{}", value.integer().unwrap_or(0)),
         None => write!(out, "open"),

@@ -9,7 +9,7 @@ use Rattle.smt_trees.specs.Sexp.{Sexp, Sexps, Nil, Cons, Atom}
 use Rattle.smt_theory.specs.Sort.{is_same_sort}
 use Rattle.smt_theory.specs.Words.{result_and_then}
 use Rattle.smt_theory.specs.Sort.{Sort}
-use Rattle.smt_theory.specs.Sort.{Boolean as BooleanSort, Int as IntSort, Bits, Free}
+use Rattle.smt_theory.specs.Sort.{Boolean as BooleanSort, Int as IntSort, Real as RealSort, Bits, Free}
 use Rattle.smt_forms.specs.Labels.{labels_in}
 use Rattle.smt_terms.specs.Assertions.{label_entries}
 use Rattle.smt_terms.specs.Checking.{sort_in}
@@ -49,6 +49,7 @@ formula_sort : (r : Result Sort TermFlaw) (labels : List Entry)
     (λ sort. cond (is_same_sort sort BooleanSort) (Ok labels) (Err IllSorted))) ≡ None → r ≡ Ok BooleanSort
 formula_sort (Ok BooleanSort) labels h = refl
 formula_sort (Ok IntSort) labels h = absurd (cc)
+formula_sort (Ok RealSort) labels h = absurd (cc)
 formula_sort (Ok (Bits w)) labels h = absurd (cc)
 formula_sort (Ok (Free command)) labels h = absurd (cc)
 formula_sort (Err f) labels h = absurd (cc)
@@ -71,6 +72,7 @@ none_of_two (Some x) r h = absurd (cc)
 literal_sort : (r : Result Sort TermFlaw) → flaw_of_formula r ≡ None → r ≡ Ok BooleanSort
 literal_sort (Ok BooleanSort) h = refl
 literal_sort (Ok IntSort) h = absurd (cc)
+literal_sort (Ok RealSort) h = absurd (cc)
 literal_sort (Ok (Bits w)) h = absurd (cc)
 literal_sort (Ok (Free command)) h = absurd (cc)
 literal_sort (Err f) h = absurd (cc)

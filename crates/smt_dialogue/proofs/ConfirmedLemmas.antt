@@ -21,7 +21,7 @@ use Rattle.std.specs.Option.{option_or}
 use Rattle.smt_dialogue.specs.Window.{Printed, models_from, structure_at, window}
 use Rattle.smt_dialogue.specs.Judgement.{Claimed, first_claim, is_false_over, is_open_over}
 use Rattle.smt_dialogue.specs.Judgement.{claims_cost, judged_in, judged_over, judgement_of, refuted_or}
-use Rattle.smt_values.specs.Element.{Agrees, Element, Truth, Integer, Vector, Abstract}
+use Rattle.smt_values.specs.Element.{Agrees, Element, Truth, Integer, Fraction, Vector, Abstract}
 use Rattle.smt_values.specs.Operations.{DivisionByZero}
 use Rattle.smt_values.specs.KnownOperations.{is_known}
 use Rattle.smt_eval.specs.Agreement.{AgreesWith}
@@ -72,6 +72,7 @@ is_true_value None h = absurd (cc)
 is_true_value (Some (Truth true)) h = refl
 is_true_value (Some (Truth false)) h = absurd (cc)
 is_true_value (Some (Integer z)) h = absurd (cc)
+is_true_value (Some (Fraction n d)) h = absurd (cc)
 is_true_value (Some (Vector v)) h = absurd (cc)
 is_true_value (Some (Abstract name)) h = absurd (cc)
 
@@ -80,6 +81,7 @@ is_false_value None h = absurd (cc)
 is_false_value (Some (Truth true)) h = absurd (cc)
 is_false_value (Some (Truth false)) h = refl
 is_false_value (Some (Integer z)) h = absurd (cc)
+is_false_value (Some (Fraction n d)) h = absurd (cc)
 is_false_value (Some (Vector v)) h = absurd (cc)
 is_false_value (Some (Abstract name)) h = absurd (cc)
 

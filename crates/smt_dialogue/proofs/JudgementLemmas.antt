@@ -15,7 +15,7 @@ use Rattle.smt_eval.specs.Cost.{cost_over}
 use Rattle.smt_eval.specs.Known.{known_over}
 use Rattle.smt_eval.specs.Numbering.{in_numbers}
 use Rattle.smt_terms.specs.Signature.{Signature}
-use Rattle.smt_values.specs.Element.{Abstract, Element, Integer, Truth, Vector}
+use Rattle.smt_values.specs.Element.{Abstract, Element, Fraction, Integer, Truth, Vector}
 use Rattle.smt_report.specs.declared.claim.Claim.{Claim}
 use Rattle.smt_dialogue.specs.declared.claims.ReadClaim.{ReadClaim}
 use Rattle.smt_dialogue.specs.declared.judgement.Judgement.{Judgement}
@@ -29,6 +29,7 @@ pub truth_by_number : (names : List (List ℕ)) (known : Option Element) (b : Bo
 truth_by_number names None b is = is
 truth_by_number names (Some (Truth c)) b is = is
 truth_by_number names (Some (Integer z)) b is = is
+truth_by_number names (Some (Fraction n d)) b is = is
 truth_by_number names (Some (Vector v)) b is = is
 truth_by_number names (Some (Abstract x)) b is = cc
 
@@ -37,6 +38,7 @@ pub test_by_number : (names : List (List ℕ)) (known : Option Element) (b : Boo
 test_by_number names None b = refl
 test_by_number names (Some (Truth c)) b = refl
 test_by_number names (Some (Integer z)) b = refl
+test_by_number names (Some (Fraction n d)) b = refl
 test_by_number names (Some (Vector v)) b = refl
 test_by_number names (Some (Abstract x)) b = refl
 

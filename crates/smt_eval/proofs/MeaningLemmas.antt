@@ -15,7 +15,8 @@ use Rattle.smt_theory.specs.declared.op.OpFault.{OpFault}
 use Rattle.smt_theory.specs.declared.theories.Theories.{Theories}
 use Rattle.smt_values.specs.Element.{Element, Abstract, Integer, Vector, Agrees, AllAgree}
 use Rattle.smt_values.specs.KnownOperations.{known_step}
-use Rattle.smt_values.specs.Literals.{numeral_element}
+use Rattle.smt_values.specs.Decimals.{decimal_value}
+use Rattle.smt_values.specs.Literals.{decimal_element, numeral_element}
 use Rattle.smt_values.specs.Operations.{DivisionByZero, operate}
 use Rattle.smt_forms.specs.ElementNames.{qualified_symbol, sort_of_element}
 use Rattle.smt_forms.specs.Heads.{begins_indexed}
@@ -46,6 +47,10 @@ Means k m = (f : Identifier) (ks : List (Option Element)) (es : List Element) �
 abbrev pub StepsAreTrue : Type 0
 StepsAreTrue = (z : DivisionByZero) (op : Op) (ks : List (Option Element)) (es : List Element)
     → AllAgree ks es → Agrees (known_step op ks) (operate z op es)
+
+-- the law of decimals
+abbrev pub DecimalsAreTrue : Type 0
+DecimalsAreTrue = (digits : List ℕ) (e : Element) → decimal_element digits ≡ Some e → e ≡ decimal_value digits
 
 -- an element is that of its name
 abbrev pub NamesAreTrue : KnownMeaning → Type 0
@@ -128,6 +133,14 @@ numeral_true digits = by (nat_lt (digits_value 10 digits) (2 ^ 127)) refl
     by true h = rw h refl
     by false h = rw h tt
 
+-- so is a decimal
+decimal_true : DecimalsAreTrue → (digits : List ℕ) → Agrees (decimal_element digits) (decimal_value digits)
+decimal_true law digits = by (decimal_element digits) refl
+  where
+    by : (o : Option Element) → decimal_element digits ≡ o → Agrees o (decimal_value digits)
+    by None is = tt
+    by (Some e) is = sym (law digits e is)
+
 -- so is a bit vector
 constant_true : (base bits : ℕ) (digits : List ℕ)
     → Agrees (option_map Vector (known_constant base bits digits)) (Vector (constant base bits digits))
@@ -139,7 +152,8 @@ constant_true base bits digits = by (is_some (width_of (bits * length digits)))
     by false = tt
 
 -- what is known of a term is true of its value
-module _ (k : KnownMeaning) (m : Meaning) (means : Means k m) (named : NamesAreTrue k) where
+module _ (decimals : DecimalsAreTrue) (k : KnownMeaning) (m : Meaning) (means : Means k m)
+    (named : NamesAreTrue k) where
   list_true : (known : List (List ℕ × Option Element)) (r : List (List ℕ × Element)) (head : Sexp)
       (args : Sexps) → AllAgree (knowns_of k known args) (values_of m r args)
       → is_plain_list head args ≡ true → (b : Bool) → begins_indexed head ≡ b
@@ -161,7 +175,7 @@ module _ (k : KnownMeaning) (m : Meaning) (means : Means k m) (named : NamesAreT
     term_true known r agrees (Atom Symbol x) = unwrap_or_true (look_up known x) (look_up r x) (k.gives (Plain x) [])
         (m (Plain x) []) (agrees x) (means (Plain x) [] [] tt)
     term_true known r agrees (Atom Numeral x) = numeral_true x
-    term_true known r agrees (Atom Decimal x) = tt
+    term_true known r agrees (Atom Decimal x) = decimal_true decimals x
     term_true known r agrees (Atom Hexadecimal x) = constant_true 16 4 x
     term_true known r agrees (Atom Binary x) = constant_true 2 1 x
     term_true known r agrees (Atom Text x) = tt
@@ -202,34 +216,36 @@ AgreesWith-zip (p ∷ ps) (k ∷ ks) (e ∷ es) h x = in_front (bytes_eq x p) k 
     (look_up (zip ps es) x) h.0 (AgreesWith-zip ps ks es h.1 x)
 
 -- one more definition keeps that
-Means-with : (k : KnownMeaning) (m : Meaning) (e : Entry) → Means k m → NamesAreTrue k
+Means-with : DecimalsAreTrue → (k : KnownMeaning) (m : Meaning) (e : Entry) → Means k m → NamesAreTrue k
     → Means (with_known k e) (with_definition m e)
-Means-with k m e means named (Indexed f indexes) ks es h = means (Indexed f indexes) ks es h
-Means-with k m e means named (Plain f) ks es h = by (bytes_eq f e.name) e.origin
+Means-with decimals k m e means named (Indexed f indexes) ks es h = means (Indexed f indexes) ks es h
+Means-with decimals k m e means named (Plain f) ks es h = by (bytes_eq f e.name) e.origin
   where
     by : (b : Bool) (s : Origin)
         → Agrees (cond b (known_defined k s ks) (k.gives (Plain f) ks))
         (cond b (defined_value m s es) (m (Plain f) es))
     by true (Declared command) = tt
-    by true (Defined ps body) = term_true k m means named (zip ps ks) (zip ps es) (AgreesWith-zip ps ks es h) body
+    by true (Defined ps body) =
+        term_true decimals k m means named (zip ps ks) (zip ps es) (AgreesWith-zip ps ks es h) body
     by false s = means (Plain f) ks es h
 
 -- and so do any
-Means-after : (k : KnownMeaning) (m : Meaning) (ds : List Entry) → Means k m → NamesAreTrue k
+Means-after : DecimalsAreTrue → (k : KnownMeaning) (m : Meaning) (ds : List Entry) → Means k m → NamesAreTrue k
     → Means (known_after k ds) (meaning_after m ds)
-Means-after k m [] means named = means
-Means-after k m (d ∷ ds) means named =
-    Means-after (with_known k d) (with_definition m d) ds (Means-with k m d means named) named
+Means-after decimals k m [] means named = means
+Means-after decimals k m (d ∷ ds) means named =
+    Means-after decimals (with_known k d) (with_definition m d) ds (Means-with decimals k m d means named) named
 
 -- what is known is the value
-pub known_is_true : StepsAreTrue
+pub known_is_true : StepsAreTrue → DecimalsAreTrue
     → (z : DivisionByZero) (definitions : Signature) (known : List (List ℕ × Option Element))
     (r : List (List ℕ × Element)) (term : Sexp)
     → AgreesWith known r → Agrees (known_of (known_in definitions) known term)
     (value_of (meaning_in z definitions) r term)
-known_is_true law z definitions known r term agrees =
-    term_true (known_in definitions) (meaning_in z definitions)
-    (Means-after (known_operators by_name definitions.theories) (operators z definitions.theories) definitions.entries
+known_is_true law decimals z definitions known r term agrees =
+    term_true decimals (known_in definitions) (meaning_in z definitions)
+    (Means-after decimals (known_operators by_name definitions.theories) (operators z definitions.theories)
+    definitions.entries
     (Means-operators law z definitions.theories) (λ x. refl))
     (λ x. ap (λ (f : Naming). f x) (element_kept (known_operators by_name definitions.theories) definitions.entries))
     known r agrees term

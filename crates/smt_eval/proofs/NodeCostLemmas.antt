@@ -5,7 +5,8 @@ use Rattle.std.proofs.Common.{slice_get, Option, Some, None, is_some, option_map
 use Rattle.std.proofs.Common.{Result, Ok, Err}
 use Rattle.std.proofs.lemmas.Bool.{lt-ltb}
 use Rattle.std.proofs.lemmas.List.{map-append}
-use Rattle.smt_trees.specs.Sexp.{Sexp, Sexps, Atom, Reserved, Items, Nil, Cons, Numeral, Hexadecimal, Binary}
+use Rattle.smt_trees.specs.Sexp.{Sexp, Sexps, Atom, Reserved, Items, Nil, Cons, Numeral, Decimal, Hexadecimal}
+use Rattle.smt_trees.specs.Sexp.{Binary}
 use Rattle.smt_trees.specs.Sexp.{Symbol}
 use Rattle.smt_trees.specs.declared.reserved.Word.TheVariants.{As, Bang, Let, Underscore}
 use Rattle.smt_theory.specs.Operators.{op_by}
@@ -192,6 +193,8 @@ module _ (c : ℕ → ℕ) (held : Naming) (off : ℕ) (declared : List ℕ) (t 
         (sym (ap (λ vs. is_among vs x) named ∙ among_names slots x))
     term_costs slots next around i (Atom Numeral digits) d h variables named =
         node_costs i around (node.Literal literal.Numeral digits) d.0
+    term_costs slots next around i (Atom Decimal digits) d h variables named =
+        node_costs i around (node.Literal literal.Decimal digits) d.0
     term_costs slots next around i (Atom Hexadecimal digits) d h variables named =
         node_costs i around (node.Literal literal.Hexadecimal digits) d.0
     term_costs slots next around i (Atom Binary digits) d h variables named =

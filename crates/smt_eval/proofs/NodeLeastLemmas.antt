@@ -4,7 +4,8 @@ use Rattle.std.proofs.Common.{slice_get, Option, Some, None, refl, ap, sym, ◌�
 use Rattle.std.proofs.Common.{nat_lt}
 use Rattle.std.proofs.Common.{Result, Ok, Err}
 use Rattle.std.proofs.lemmas.Bool.{lt-ltb}
-use Rattle.smt_trees.specs.Sexp.{Sexp, Sexps, Atom, Reserved, Items, Nil, Cons, Numeral, Hexadecimal, Binary}
+use Rattle.smt_trees.specs.Sexp.{Sexp, Sexps, Atom, Reserved, Items, Nil, Cons, Numeral, Decimal, Hexadecimal}
+use Rattle.smt_trees.specs.Sexp.{Binary}
 use Rattle.smt_trees.specs.Sexp.{Symbol}
 use Rattle.smt_trees.specs.declared.reserved.Word.TheVariants.{As, Bang, Let, Underscore}
 use Rattle.smt_theory.specs.Operators.{op_by}
@@ -209,6 +210,8 @@ module _ (c k : ℕ → ℕ) (held : Naming) (off : ℕ) (declared : List ℕ) (
     term_counts slots next around i (Atom Symbol x) d h = symbol_counts i around x (look_up slots x) h d
     term_counts slots next around i (Atom Numeral digits) d h =
         let here = node_counts i around (node.Literal literal.Numeral digits) d.0 in omega (arith, here)
+    term_counts slots next around i (Atom Decimal digits) d h =
+        let here = node_counts i around (node.Literal literal.Decimal digits) d.0 in omega (arith, here)
     term_counts slots next around i (Atom Hexadecimal digits) d h =
         let here = node_counts i around (node.Literal literal.Hexadecimal digits) d.0 in omega (arith, here)
     term_counts slots next around i (Atom Binary digits) d h =

@@ -7,7 +7,8 @@ use Rattle.std.proofs.lemmas.Bool.{lt-ltb}
 use Rattle.std.proofs.lemmas.List.{length-map}
 use Rattle.std.specs.List.{zip}
 use Rattle.std.specs.Prelude.{option_and_then, unwrap_or}
-use Rattle.smt_trees.specs.Sexp.{Sexp, Sexps, Atom, Reserved, Items, Nil, Cons, Numeral, Hexadecimal, Binary}
+use Rattle.smt_trees.specs.Sexp.{Sexp, Sexps, Atom, Reserved, Items, Nil, Cons, Numeral, Decimal, Hexadecimal}
+use Rattle.smt_trees.specs.Sexp.{Binary}
 use Rattle.smt_trees.specs.Sexp.{Symbol}
 use Rattle.smt_trees.specs.declared.reserved.Word.TheVariants.{As, Bang, Let, Underscore}
 use Rattle.smt_theory.specs.Words.{look_up}
@@ -209,6 +210,8 @@ module _ (g : Giving) (held : Naming) (off : ℕ) (declared : List ℕ) (t : Tab
         ∙ ap (λ o. unwrap_or o (m.gives (Plain x) [])) (sym (stands_found frame slots r x stand))
     term_given slots next around i (Atom Numeral digits) d h frame r counted stand =
         node_given i around (node.Literal literal.Numeral digits) frame d.0
+    term_given slots next around i (Atom Decimal digits) d h frame r counted stand =
+        node_given i around (node.Literal literal.Decimal digits) frame d.0
     term_given slots next around i (Atom Hexadecimal digits) d h frame r counted stand =
         node_given i around (node.Literal literal.Hexadecimal digits) frame d.0
     term_given slots next around i (Atom Binary digits) d h frame r counted stand =

@@ -6,9 +6,13 @@ use Rattle.std.proofs.lemmas.Option.{slice_get-map}
 use Rattle.std.specs.List.{list_all, list_any}
 use Rattle.std.specs.Prelude.{ℤ, fold, option_and_then, unwrap_or}
 use Rattle.smt_bits.specs.BitVector.{BitVector}
+use Rattle.smt_ratios.specs.Known.{known_decimal, known_negative}
+use Rattle.smt_ratios.specs.Rational as rational
+use Rattle.smt_ratios.specs.Rational.{Rational}
 use Rattle.smt_names.specs.Places.{place_of}
 use Rattle.smt_theory.specs.declared.literal.LiteralKind.{LiteralKind}
-use Rattle.smt_theory.specs.declared.literal.LiteralKind.TheVariants.{Numeral, Hexadecimal, Binary}
+use Rattle.smt_theory.specs.declared.literal.LiteralKind.TheVariants.{Numeral, Decimal, Hexadecimal, Binary}
+use Rattle.smt_theory.specs.declared.op.Arithmetic.TheVariants.{Minus}
 use Rattle.smt_theory.specs.declared.op.BitsOp.{BitsOp}
 use Rattle.smt_theory.specs.declared.op.BitsOp.TheVariants as bits
 use Rattle.smt_theory.specs.declared.op.CoreOp.{CoreOp}
@@ -16,15 +20,21 @@ use Rattle.smt_theory.specs.declared.op.CoreOp.TheVariants as cores
 use Rattle.smt_theory.specs.declared.op.IntsOp.{IntsOp}
 use Rattle.smt_theory.specs.declared.op.IntsOp.TheVariants as ints
 use Rattle.smt_theory.specs.declared.op.Op.{Op}
-use Rattle.smt_theory.specs.declared.op.Op.TheVariants.{Core, Ints, Bits}
+use Rattle.smt_theory.specs.declared.op.Op.TheVariants.{Core, Ints, Reals, Bits}
+use Rattle.smt_theory.specs.declared.op.RealsOp.{RealsOp}
+use Rattle.smt_theory.specs.declared.op.RealsOp.TheVariants as reals
 use Rattle.smt_values.specs.BitOperations.{unary_vector}
-use Rattle.smt_values.specs.Element.{Element, Truth, Integer, Vector, Abstract}
+use Rattle.smt_values.specs.Element.{Element, Truth, Integer, Fraction, Vector, Abstract}
 use Rattle.smt_values.specs.ElementNumbers.{numbered, numbered_in}
 use Rattle.smt_values.specs.KnownBitOperations.{known_bits, none_given, the_only, two_of_one_width}
+use Rattle.smt_values.specs.KnownNumbers.{is_known_fraction, known_calculated, known_division, known_mixed}
+use Rattle.smt_values.specs.KnownNumbers.{known_number, known_reals}
 use Rattle.smt_values.specs.KnownOperations.{as_disjunction, decided, is_known, known_core, known_ints, known_integer}
 use Rattle.smt_values.specs.KnownOperations.{known_negation, known_choice, known_step, known_truth, known_vector}
-use Rattle.smt_values.specs.Lists.{all_known, are_chained, are_distinct}
+use Rattle.smt_values.specs.Lists.{all_known, are_chained, are_distinct, steps_from}
+use Rattle.smt_values.specs.Decimals.{decimal_digits, places}
 use Rattle.smt_values.specs.Literals.{literal_element}
+use Rattle.smt_values.specs.Numbers.{element_of_number}
 use Rattle.smt_values.specs.Operations.{exclusive_or, is_same}
 use Rattle.smt_nodes.specs.Node as written
 use Rattle.smt_nodes.specs.Node.{Row}
@@ -50,6 +60,7 @@ module _ (g : Renaming) (injective : IsInjective g) where
   truth_known None = refl
   truth_known (Some (Truth b)) = refl
   truth_known (Some (Integer z)) = refl
+  truth_known (Some (Fraction n d)) = refl
   truth_known (Some (Vector v)) = refl
   truth_known (Some (Abstract x)) = refl
 
@@ -57,13 +68,31 @@ module _ (g : Renaming) (injective : IsInjective g) where
   integer_known None = refl
   integer_known (Some (Truth b)) = refl
   integer_known (Some (Integer z)) = refl
+  integer_known (Some (Fraction n d)) = refl
   integer_known (Some (Vector v)) = refl
   integer_known (Some (Abstract x)) = refl
+
+  number_known : (v : Option Element) → known_number (under v) ≡ known_number v
+  number_known None = refl
+  number_known (Some (Truth b)) = refl
+  number_known (Some (Integer z)) = refl
+  number_known (Some (Fraction n d)) = refl
+  number_known (Some (Vector v)) = refl
+  number_known (Some (Abstract x)) = refl
+
+  fraction_known : (v : Option Element) → is_known_fraction (under v) ≡ is_known_fraction v
+  fraction_known None = refl
+  fraction_known (Some (Truth b)) = refl
+  fraction_known (Some (Integer z)) = refl
+  fraction_known (Some (Fraction n d)) = refl
+  fraction_known (Some (Vector v)) = refl
+  fraction_known (Some (Abstract x)) = refl
 
   vector_known : (v : Option Element) → known_vector (under v) ≡ known_vector v
   vector_known None = refl
   vector_known (Some (Truth b)) = refl
   vector_known (Some (Integer z)) = refl
+  vector_known (Some (Fraction n d)) = refl
   vector_known (Some (Vector v)) = refl
   vector_known (Some (Abstract x)) = refl
 
@@ -71,6 +100,7 @@ module _ (g : Renaming) (injective : IsInjective g) where
   same_known b None = refl
   same_known b (Some (Truth c)) = refl
   same_known b (Some (Integer z)) = refl
+  same_known b (Some (Fraction n d)) = refl
   same_known b (Some (Vector v)) = refl
   same_known b (Some (Abstract x)) = refl
 
@@ -79,7 +109,7 @@ module _ (g : Renaming) (injective : IsInjective g) where
   maps_known f stays [] = refl
   maps_known f stays (v ∷ vs) = ap₂ (λ a rest. a ∷ rest) (stays v) (maps_known f stays vs)
 
-  -- truth values, integers and vectors have no names
+  -- truth values, numbers and vectors have no names
   truths_stay : {A : Type 0} (f : A → Bool) (o : Option A)
       → under (option_map (λ a. Truth (f a)) o) ≡ option_map (λ a. Truth (f a)) o
   truths_stay f None = refl
@@ -89,6 +119,14 @@ module _ (g : Renaming) (injective : IsInjective g) where
       → under (option_map (λ a. Integer (f a)) o) ≡ option_map (λ a. Integer (f a)) o
   integers_stay f None = refl
   integers_stay f (Some a) = refl
+
+  number_stays : (a : Rational) → renamed g (element_of_number a) ≡ element_of_number a
+  number_stays (rational.Integer z) = refl
+  number_stays (rational.Fraction n d) = refl
+
+  numbers_stay : (o : Option Rational) → under (option_map element_of_number o) ≡ option_map element_of_number o
+  numbers_stay None = refl
+  numbers_stay (Some a) = ap (λ (e : Element). Some e) (number_stays a)
 
   vectors_stay : {A : Type 0} (f : A → BitVector) (o : Option A)
       → under (option_map (λ a. Vector (f a)) o) ≡ option_map (λ a. Vector (f a)) o
@@ -114,6 +152,11 @@ module _ (g : Renaming) (injective : IsInjective g) where
       → list_all (is_known b) (map under vs) ≡ list_all (is_known b) vs
   all_same b [] = refl
   all_same b (v ∷ vs) = ap₂ (λ a c. a && c) (same_known b v) (all_same b vs)
+
+  any_fraction : (vs : List (Option Element))
+      → list_any is_known_fraction (map under vs) ≡ list_any is_known_fraction vs
+  any_fraction [] = refl
+  any_fraction (v ∷ vs) = ap₂ (λ a c. a || c) (fraction_known v) (any_fraction vs)
 
   decided_under : (b : Bool) (vs : List (Option Element)) → decided b (map under vs) ≡ under (decided b vs)
   decided_under b vs =
@@ -190,6 +233,19 @@ module _ (g : Renaming) (injective : IsInjective g) where
   ints_under ints.Abs zs = integers_stay (λ z. z) _
   ints_under (ints.Divisible n) zs = truths_stay (λ b. b) _
 
+  mixed_under : (op : IntsOp) (ns : List Rational) → under (known_mixed op ns) ≡ known_mixed op ns
+  mixed_under (ints.Arithmetic Minus) (a ∷ []) = numbers_stay (known_negative a)
+  mixed_under (ints.Arithmetic op) (a ∷ rest) = numbers_stay (steps_from (known_calculated op) a rest)
+  mixed_under (ints.Comparison op) ns = refl
+  mixed_under _ _ = refl
+
+  reals_under : (op : RealsOp) (ns : List Rational) → under (known_reals op ns) ≡ known_reals op ns
+  reals_under reals.Divide (a ∷ rest) = numbers_stay (steps_from known_division a rest)
+  reals_under reals.ToReal (a ∷ []) = numbers_stay (Some a)
+  reals_under reals.ToInt (a ∷ []) = refl
+  reals_under reals.IsInt (a ∷ []) = refl
+  reals_under _ _ = refl
+
   bits_under : (op : BitsOp) (vs : List BitVector) → under (known_bits op vs) ≡ known_bits op vs
   bits_under (bits.Constant x n) vs = vectors_stay _ (none_given vs)
   bits_under bits.Concat vs = vectors_stay (λ v. v) _
@@ -213,8 +269,22 @@ module _ (g : Renaming) (injective : IsInjective g) where
   step_under : (op : Op) (vs : List (Option Element)) → known_step op (map under vs) ≡ under (known_step op vs)
   step_under (Core op) vs = core_under op vs
   step_under (Ints op) vs =
-      ap (λ os. option_and_then (known_ints op) (all_known os)) (maps_known known_integer integer_known vs)
-      ∙ of_known (known_ints op) (ints_under op) (all_known (map known_integer vs))
+      ap (λ b. cond b (option_and_then (known_mixed op) (all_known (map known_number (map under vs))))
+      (option_and_then (known_ints op) (all_known (map known_integer (map under vs))))) (any_fraction vs)
+      ∙ ap₂ (λ ns zs. cond (list_any is_known_fraction vs) (option_and_then (known_mixed op) (all_known ns))
+      (option_and_then (known_ints op) (all_known zs)))
+      (maps_known known_number number_known vs) (maps_known known_integer integer_known vs)
+      ∙ by (list_any is_known_fraction vs)
+    where
+      by : (b : Bool) → cond b (option_and_then (known_mixed op) (all_known (map known_number vs)))
+          (option_and_then (known_ints op) (all_known (map known_integer vs)))
+          ≡ under (cond b (option_and_then (known_mixed op) (all_known (map known_number vs)))
+          (option_and_then (known_ints op) (all_known (map known_integer vs))))
+      by true = of_known (known_mixed op) (mixed_under op) (all_known (map known_number vs))
+      by false = of_known (known_ints op) (ints_under op) (all_known (map known_integer vs))
+  step_under (Reals op) vs =
+      ap (λ os. option_and_then (known_reals op) (all_known os)) (maps_known known_number number_known vs)
+      ∙ of_known (known_reals op) (reals_under op) (all_known (map known_number vs))
   step_under (Bits op) vs =
       ap (λ os. option_and_then (known_bits op) (all_known os)) (maps_known known_vector vector_known vs)
       ∙ of_known (known_bits op) (bits_under op) (all_known (map known_vector vs))
@@ -298,6 +368,7 @@ module _ (g : Renaming) (injective : IsInjective g) where
   literal_under : (kind : LiteralKind) (digits : List ℕ)
       → under (literal_element kind digits) ≡ literal_element kind digits
   literal_under Numeral digits = integers_stay (λ z. z) _
+  literal_under Decimal digits = numbers_stay (known_decimal (decimal_digits digits) (places digits))
   literal_under Hexadecimal digits = vectors_stay (λ v. v) _
   literal_under Binary digits = vectors_stay (λ v. v) _
 

@@ -5,6 +5,9 @@ use Rattle.std.proofs.Common.{Option, Some, None, is_some, Result, Ok, Err, refl
 use Rattle.std.specs.List.{zip}
 use Rattle.std.specs.Prelude.{ℤ, bytes_eq, ok_or, option_map, unwrap_or}
 use Rattle.smt_bits.specs.BitVector.{BitVector}
+use Rattle.smt_ratios.specs.Operators.{decimal}
+use Rattle.smt_ratios.specs.Rational as rational
+use Rattle.smt_ratios.specs.Rational.{Rational}
 use Rattle.smt_trees.specs.Sexp as sexp
 use Rattle.smt_trees.specs.Sexp.{Sexp, Sexps, Atom, Reserved, Items, Nil, Cons, Symbol, Keyword, Numeral}
 use Rattle.smt_trees.specs.Sexp.{Hexadecimal, Binary, count}
@@ -16,7 +19,9 @@ use Rattle.smt_theory.specs.declared.op.Op.{Op}
 use Rattle.smt_theory.specs.declared.op.OpFault.{OpFault}
 use Rattle.smt_theory.specs.declared.op.OpFault.TheVariants.{Unknown}
 use Rattle.smt_theory.specs.declared.theories.Theories.{Theories}
-use Rattle.smt_values.specs.Element.{Element, Truth, Integer, Vector, Abstract}
+use Rattle.smt_values.specs.Element.{Element, Truth, Integer, Fraction, Vector, Abstract}
+use Rattle.smt_values.specs.Decimals.{decimal_digits, places}
+use Rattle.smt_values.specs.Numbers.{element_of_number}
 use Rattle.smt_values.specs.Operations.{DivisionByZero, operate}
 use Rattle.smt_faults.specs.declared.term_flaw.TermFlaw.{TermFlaw}
 use Rattle.smt_faults.specs.declared.term_flaw.TermFlaw.TheVariants.{Form}
@@ -57,6 +62,7 @@ AreRelated R s r = (x : List ℕ) → OptionRelated R (look_up s x) (look_up r x
 pub record IsKept (P : OfNames) (R : Relation) : Type 0 where
   pub truths : (b : Bool) → R (Truth b) (Truth b)
   pub integers : (z : ℤ) → R (Integer z) (Integer z)
+  pub fractions : (n : ℤ) (d : ℕ) → R (Fraction n d) (Fraction n d)
   pub vectors : (v : BitVector) → R (Vector v) (Vector v)
   pub names : (x : List ℕ) → P x → R (Abstract x) (Abstract x)
   pub results : (z : DivisionByZero) (op : Op) (ds es : List Element) → AllRelated R ds es
@@ -108,6 +114,10 @@ never_plain x (Cons (Atom Symbol y) (Cons t ts)) h = by (all_indexes (Cons t ts)
 never_plain x _ h = cc
 
 module _ (P : OfNames) (R : Relation) (kept : IsKept P R) where
+  number_related : (a : Rational) → R (element_of_number a) (element_of_number a)
+  number_related (rational.Integer z) = kept.integers z
+  number_related (rational.Fraction n d) = kept.fractions n d
+
   operators_related : (z : DivisionByZero) (theories : Theories)
       → IsMeant P R (operators_take theories) (operators z theories)
   operators_related z theories = record {
@@ -191,7 +201,8 @@ module _ (P : OfNames) (R : Relation) (kept : IsKept P R) where
       value_related names s r same have (Atom Numeral x) only = kept.integers _
       value_related names s r same have (Atom Hexadecimal x) only = kept.vectors _
       value_related names s r same have (Atom Binary x) only = kept.vectors _
-      value_related names s r same have (Atom sexp.Decimal x) only = kept.truths false
+      value_related names s r same have (Atom sexp.Decimal x) only =
+          number_related (decimal (decimal_digits x) (places x))
       value_related names s r same have (Atom sexp.Text x) only = kept.truths false
       value_related names s r same have (Atom Keyword x) only = kept.truths false
       value_related names s r same have (Reserved word) only = kept.truths false

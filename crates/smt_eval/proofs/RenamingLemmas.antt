@@ -8,6 +8,9 @@ use Rattle.std.specs.Prelude.{bytes_eq, fold}
 use Rattle.std.proofs.lemmas.List.Elements.{All-head, All-tail}
 use Rattle.std.proofs.lemmas.Slice.Eq.{bytes_eq-Decides}
 use Rattle.smt_bits.specs.BitVector.{BitVector}
+use Rattle.smt_ratios.specs.Operators.{negative}
+use Rattle.smt_ratios.specs.Rational as rational
+use Rattle.smt_ratios.specs.Rational.{Rational}
 use Rattle.std.specs.Prelude.{ℤ}
 use Rattle.smt_trees.specs.Sexp.{Sexp, Sexps, Atom, Reserved, Items, Nil, Cons, Symbol, count}
 use Rattle.smt_trees.specs.declared.reserved.Word.TheVariants.{As, Bang, Let, Underscore}
@@ -20,10 +23,14 @@ use Rattle.smt_theory.specs.declared.op.CoreOp.TheVariants as cores
 use Rattle.smt_theory.specs.declared.op.IntsOp.{IntsOp}
 use Rattle.smt_theory.specs.declared.op.IntsOp.TheVariants as ints
 use Rattle.smt_theory.specs.declared.op.Op.{Op}
-use Rattle.smt_theory.specs.declared.op.Op.TheVariants.{Core, Ints, Bits}
+use Rattle.smt_theory.specs.declared.op.Op.TheVariants.{Core, Ints, Reals, Bits}
+use Rattle.smt_theory.specs.declared.op.RealsOp.{RealsOp}
+use Rattle.smt_theory.specs.declared.op.RealsOp.TheVariants as reals
 use Rattle.smt_values.specs.BitOperations.{operate_bits}
-use Rattle.smt_values.specs.Element.{Element, Truth, Integer, Vector, Abstract}
+use Rattle.smt_values.specs.Element.{Element, Truth, Integer, Fraction, Vector, Abstract}
 use Rattle.smt_values.specs.Lists.{are_chained, are_distinct}
+use Rattle.smt_values.specs.Numbers.{Quotient, calculated, divided, element_of_number, is_fraction, number_of}
+use Rattle.smt_values.specs.Numbers.{operate_numbers, operate_reals}
 use Rattle.smt_values.specs.Operations.{DivisionByZero, chosen, exclusive_or, integer_of, is_implied, is_same}
 use Rattle.smt_values.specs.Operations.{negated, operate, operate_core, operate_ints, truth_of, vector_of}
 use Rattle.smt_faults.specs.declared.term_flaw.TermFlaw.{TermFlaw}
@@ -50,18 +57,35 @@ module _ (g : Renaming) (injective : IsInjective g) where
   truth_stays : (e : Element) → truth_of (renamed g e) ≡ truth_of e
   truth_stays (Truth b) = refl
   truth_stays (Integer z) = refl
+  truth_stays (Fraction n d) = refl
   truth_stays (Vector v) = refl
   truth_stays (Abstract x) = refl
 
   integer_stays : (e : Element) → integer_of (renamed g e) ≡ integer_of e
   integer_stays (Truth b) = refl
   integer_stays (Integer z) = refl
+  integer_stays (Fraction n d) = refl
   integer_stays (Vector v) = refl
   integer_stays (Abstract x) = refl
+
+  number_stays : (e : Element) → number_of (renamed g e) ≡ number_of e
+  number_stays (Truth b) = refl
+  number_stays (Integer z) = refl
+  number_stays (Fraction n d) = refl
+  number_stays (Vector v) = refl
+  number_stays (Abstract x) = refl
+
+  fraction_stays : (e : Element) → is_fraction (renamed g e) ≡ is_fraction e
+  fraction_stays (Truth b) = refl
+  fraction_stays (Integer z) = refl
+  fraction_stays (Fraction n d) = refl
+  fraction_stays (Vector v) = refl
+  fraction_stays (Abstract x) = refl
 
   vector_stays : (e : Element) → vector_of (renamed g e) ≡ vector_of e
   vector_stays (Truth b) = refl
   vector_stays (Integer z) = refl
+  vector_stays (Fraction n d) = refl
   vector_stays (Vector v) = refl
   vector_stays (Abstract x) = refl
 
@@ -79,6 +103,7 @@ module _ (g : Renaming) (injective : IsInjective g) where
   sameness_stays : (d e : Element) → is_same (renamed g d) (renamed g e) ≡ is_same d e
   sameness_stays (Truth a) (Truth b) = refl
   sameness_stays (Integer a) (Integer b) = refl
+  sameness_stays (Fraction n d) (Fraction m e) = refl
   sameness_stays (Vector s) (Vector t) = refl
   sameness_stays (Abstract x) (Abstract y) = bytes_stay x y
   sameness_stays _ _ = refl
@@ -95,6 +120,10 @@ module _ (g : Renaming) (injective : IsInjective g) where
   any_stay : (es : List Element) → list_any truth_of (all_renamed es) ≡ list_any truth_of es
   any_stay [] = refl
   any_stay (e ∷ es) = ap₂ (λ a b. a || b) (truth_stays e) (any_stay es)
+
+  any_fraction_stays : (es : List Element) → list_any is_fraction (all_renamed es) ≡ list_any is_fraction es
+  any_fraction_stays [] = refl
+  any_fraction_stays (e ∷ es) = ap₂ (λ a b. a || b) (fraction_stays e) (any_fraction_stays es)
 
   pub chain_stays : (es : List Element) → are_chained is_same (all_renamed es) ≡ are_chained is_same es
   chain_stays [] = refl
@@ -151,6 +180,24 @@ module _ (g : Renaming) (injective : IsInjective g) where
   ints_stay z (ints.Divisible n) (a ∷ []) = refl
   ints_stay z _ _ = refl
 
+  of_number_stays : (a : Rational) → renamed g (element_of_number a) ≡ element_of_number a
+  of_number_stays (rational.Integer z) = refl
+  of_number_stays (rational.Fraction n d) = refl
+
+  numbers_stay : (op : IntsOp) (ns : List Rational) → renamed g (operate_numbers op ns) ≡ operate_numbers op ns
+  numbers_stay (ints.Arithmetic Minus) (a ∷ []) = of_number_stays (negative a)
+  numbers_stay (ints.Arithmetic op) (a ∷ rest) = of_number_stays (fold (calculated op) a rest)
+  numbers_stay (ints.Comparison op) ns = refl
+  numbers_stay _ _ = refl
+
+  reals_stay : (table : List (Quotient × Quotient)) (op : RealsOp) (ns : List Rational)
+      → renamed g (operate_reals table op ns) ≡ operate_reals table op ns
+  reals_stay table reals.Divide (a ∷ rest) = of_number_stays (fold (divided table) a rest)
+  reals_stay table reals.ToReal (a ∷ []) = of_number_stays a
+  reals_stay table reals.ToInt (a ∷ []) = refl
+  reals_stay table reals.IsInt (a ∷ []) = refl
+  reals_stay table _ _ = refl
+
   bits_stay : (op : BitsOp) (vs : List BitVector) → renamed g (operate_bits op vs) ≡ operate_bits op vs
   bits_stay (bits.Constant x n) vs = refl
   bits_stay bits.Concat (s ∷ rest) = refl
@@ -171,7 +218,19 @@ module _ (g : Renaming) (injective : IsInjective g) where
       → operate z op (all_renamed es) ≡ renamed g (operate z op es)
   result_renamed z (Core op) es = core_renamed op es
   result_renamed z (Ints op) es =
-      ap (operate_ints z op) (kept integer_of integer_stays es) ∙ sym (ints_stay z op (map integer_of es))
+      ap (λ b. cond b (operate_numbers op (map number_of (all_renamed es)))
+      (operate_ints z op (map integer_of (all_renamed es)))) (any_fraction_stays es)
+      ∙ ap₂ (λ ns zs. cond (list_any is_fraction es) (operate_numbers op ns) (operate_ints z op zs))
+      (kept number_of number_stays es) (kept integer_of integer_stays es)
+      ∙ by (list_any is_fraction es)
+    where
+      by : (b : Bool) → cond b (operate_numbers op (map number_of es)) (operate_ints z op (map integer_of es))
+          ≡ renamed g (cond b (operate_numbers op (map number_of es)) (operate_ints z op (map integer_of es)))
+      by true = sym (numbers_stay op (map number_of es))
+      by false = sym (ints_stay z op (map integer_of es))
+  result_renamed z (Reals op) es =
+      ap (operate_reals z.ratios op) (kept number_of number_stays es)
+      ∙ sym (reals_stay z.ratios op (map number_of es))
   result_renamed z (Bits op) es =
       ap (operate_bits op) (kept vector_of vector_stays es) ∙ sym (bits_stay op (map vector_of es))
 
@@ -190,6 +249,7 @@ module _ (g : Renaming) (injective : IsInjective g) where
   others_kept = record {
     truths = λ b. refl;
     integers = λ z. refl;
+    fractions = λ n d. refl;
     vectors = λ v. refl;
     names = λ x same. ap Abstract (sym same);
     results = λ z op ds es all. ap (operate z op) (all_others ds es all) ∙ result_renamed z op es;
@@ -326,6 +386,24 @@ module _ (names : List (List ℕ)) where
   ints_named z (ints.Divisible n) (a ∷ []) = tt
   ints_named z _ _ = tt
 
+  number_named : (a : Rational) → IsOfName (IsAmong names) (element_of_number a)
+  number_named (rational.Integer z) = tt
+  number_named (rational.Fraction n d) = tt
+
+  numbers_named : (op : IntsOp) (ns : List Rational) → IsOfName (IsAmong names) (operate_numbers op ns)
+  numbers_named (ints.Arithmetic Minus) (a ∷ []) = number_named (negative a)
+  numbers_named (ints.Arithmetic op) (a ∷ rest) = number_named (fold (calculated op) a rest)
+  numbers_named (ints.Comparison op) ns = tt
+  numbers_named _ _ = tt
+
+  reals_named : (table : List (Quotient × Quotient)) (op : RealsOp) (ns : List Rational)
+      → IsOfName (IsAmong names) (operate_reals table op ns)
+  reals_named table reals.Divide (a ∷ rest) = number_named (fold (divided table) a rest)
+  reals_named table reals.ToReal (a ∷ []) = number_named a
+  reals_named table reals.ToInt (a ∷ []) = tt
+  reals_named table reals.IsInt (a ∷ []) = tt
+  reals_named table _ _ = tt
+
   bits_named : (op : BitsOp) (vs : List BitVector) → IsOfName (IsAmong names) (operate_bits op vs)
   bits_named (bits.Constant x n) vs = tt
   bits_named bits.Concat (s ∷ rest) = tt
@@ -345,13 +423,20 @@ module _ (names : List (List ℕ)) where
   result_named : (z : DivisionByZero) (op : Op) (es : List Element)
       → AllRelated (λ d e. IsOfName (IsAmong names) e) es es → IsOfName (IsAmong names) (operate z op es)
   result_named z (Core op) es all = core_named op es all
-  result_named z (Ints op) es all = ints_named z op (map integer_of es)
+  result_named z (Ints op) es all = by (list_any is_fraction es)
+    where
+      by : (b : Bool) → IsOfName (IsAmong names)
+          (cond b (operate_numbers op (map number_of es)) (operate_ints z op (map integer_of es)))
+      by true = numbers_named op (map number_of es)
+      by false = ints_named z op (map integer_of es)
+  result_named z (Reals op) es all = reals_named z.ratios op (map number_of es)
   result_named z (Bits op) es all = bits_named op (map vector_of es)
 
   named_kept : IsKept (IsAmong names) IsSameOf
   named_kept = record {
     truths = λ b. (refl, tt);
     integers = λ z. (refl, tt);
+    fractions = λ n d. (refl, tt);
     vectors = λ v. (refl, tt);
     names = λ x among. (refl, among);
     results = λ z op ds es all. let same = all_same ds es all in

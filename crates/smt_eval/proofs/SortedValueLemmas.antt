@@ -6,7 +6,7 @@ use Rattle.std.proofs.Math.Nat.{mod-lt}
 use Rattle.std.proofs.Math.Pow.{pow_pos}
 use Rattle.std.specs.List.{zip}
 use Rattle.std.specs.Option.{option_or}
-use Rattle.std.specs.Prelude.{unwrap_or, bytes_eq, is_some, ok_or, option_and_then, option_map}
+use Rattle.std.specs.Prelude.{ℤ, pos, unwrap_or, bytes_eq, is_some, ok_or, option_and_then, option_map}
 use Rattle.std.specs.Str.Parse.{digits_value}
 use Rattle.smt_bits.specs.Literals.{constant}
 use Rattle.smt_trees.specs.Sexp.{Sexp, Sexps, Atom, Reserved, Items, Nil, Cons, Symbol, Numeral, Decimal}
@@ -21,9 +21,10 @@ use Rattle.smt_theory.specs.declared.op.Op.{Op}
 use Rattle.smt_theory.specs.declared.op.OpFault.{OpFault}
 use Rattle.smt_theory.specs.declared.op.OpFault.TheVariants as ops
 use Rattle.smt_theory.specs.Sort.{Sort}
-use Rattle.smt_theory.specs.Sort.{Int, Bits, Free}
+use Rattle.smt_theory.specs.Sort.{Int, Real, Bits, Free}
 use Rattle.smt_theory.specs.declared.theories.Theories.{Theories}
-use Rattle.smt_values.specs.Element.{Element, Abstract, Vector, IsOfSort, AreOfSorts}
+use Rattle.smt_values.specs.Element.{Element, Abstract, Integer, Vector, IsOfSort, AreOfSorts}
+use Rattle.smt_values.specs.Decimals.{decimal_value}
 use Rattle.smt_values.specs.Operations.{DivisionByZero, operate}
 use Rattle.smt_forms.specs.Bindings.{are_attributes, are_bindings}
 use Rattle.smt_forms.specs.Labels.{labels_among}
@@ -63,9 +64,14 @@ abbrev pub FitsAlone : Names → Meaning → Type 0
 FitsAlone names m = (x : List ℕ) (sort : Sort)
     → sort_alone names x (look_up names.ranks x) ≡ Ok sort → IsOfSort sort (m (Plain x) [])
 
+-- the law of decimals
+abbrev pub DecimalsAreReals : Type 0
+DecimalsAreReals = (digits : List ℕ) → IsOfSort Real (decimal_value digits)
+
 pub record Fits (names : Names) (m : Meaning) : Type 0 where
   pub called : FitsApplied names m
   pub alone : FitsAlone names m
+  pub decimals : DecimalsAreReals
 
 -- the law of the operators
 abbrev pub ResultsAreOfTheirSorts : Type 0
@@ -154,13 +160,14 @@ unless-element-fits law z elements x (Some s) (Err ops.Index) sort among is = cc
 unless-element-fits law z elements x (Some s) (Ok op) sort among is =
     operator-fits law z (Ok op) (Plain x) [] sort [] is tt
 
-Fits-operators : ResultsAreOfTheirSorts
+Fits-operators : ResultsAreOfTheirSorts → DecimalsAreReals
     → (z : DivisionByZero) (theories : Theories) (elements : Option ElementNames)
     → Fits (unlabelled_over theories elements []) (operators z theories)
-Fits-operators law z theories elements = record {
+Fits-operators law decimals z theories elements = record {
   called = applied-operators law z theories elements;
   alone = λ x sort is. unless-element-fits law z elements x (element_among elements x)
       (operator_of theories (Plain x)) sort refl is;
+  decimals = decimals;
 }
 
 -- a first answer, where the whole is one
@@ -190,10 +197,18 @@ call_applied names scope (Plain f) sorts sort is = by (look_up scope f) is
     by None is = is
     by (Some s) is = cc
 
--- a numeral is an integer
-numeral-sort : (b : Bool) (sort : Sort) → cond b (Ok Int) (Err Unknown) ≡ Ok sort → sort ≡ Int
-numeral-sort true sort is = cc
-numeral-sort false sort is = cc
+-- a numeral is an integer, or a real that is one
+numeral-fits : (ints reals : Bool) (sort : Sort) (z : ℤ)
+    → cond ints (Ok Int) (cond reals (Ok Real) (Err Unknown)) ≡ Ok sort → IsOfSort sort (Integer z)
+numeral-fits true reals sort z is = let same : Int ≡ sort = cc in subst (λ s. IsOfSort s (Integer z)) same tt
+numeral-fits false true sort z is = let same : Real ≡ sort = cc in subst (λ s. IsOfSort s (Integer z)) same tt
+numeral-fits false false sort z is = cc
+
+-- a decimal is a real
+decimal-fits : (reals : Bool) (fault : TermFlaw) (sort : Sort) (e : Element) → IsOfSort Real e
+    → cond reals (Ok Real) (Err fault) ≡ Ok sort → IsOfSort sort e
+decimal-fits true fault sort e here is = let same : Real ≡ sort = cc in subst (λ s. IsOfSort s e) same here
+decimal-fits false fault sort e here is = cc
 
 -- a constant is a bit vector of as many bits as its digits have
 constant-fits : (b : Bool) (base bits n : ℕ) (digits : List ℕ) (sort : Sort) → n ≡ bits * length digits
@@ -300,9 +315,11 @@ module _ (N : Names) (m : Meaning) (fits : Fits (unlabelled N) m) where
         → (t : Sexp) (sort : Sort) → sort_in (unlabelled N) scope t ≡ Ok sort → IsOfSort sort (value_of m r t)
     term-fits scope r fit (Atom Symbol x) sort is =
         variable-fits (unlabelled N) m x (look_up scope x) (look_up r x) sort fits (fit x) is
-    term-fits scope r fit (Atom Numeral x) sort is = subst (λ s. IsOfSort s (value_of m r (Atom Numeral x)))
-        (sym (numeral-sort N.theories.ints sort is)) tt
-    term-fits scope r fit (Atom Decimal x) sort is = cc
+    term-fits scope r fit (Atom Numeral x) sort is =
+        numeral-fits N.theories.ints N.theories.reals sort (pos (digits_value 10 x)) is
+    term-fits scope r fit (Atom Decimal x) sort is =
+        decimal-fits N.theories.reals (cond N.theories.wide Unknown Unsupported) sort (decimal_value x)
+        (fits.decimals x) is
     term-fits scope r fit (Atom Hexadecimal x) sort is =
         constant-fits N.theories.bits 16 4 (4 * length x) x sort refl is
     term-fits scope r fit (Atom Binary x) sort is =
@@ -521,7 +538,7 @@ module _ (same : SameSorts) (theories : Theories) (elements : Option ElementName
       by false other = fits.alone x sort (sym (ap (λ o. sort_alone more x o) (rank-there x other)) ∙ is)
 
   Fits-with : Fits more (with_definition m e)
-  Fits-with = record { called = applied-with; alone = alone-with }
+  Fits-with = record { called = applied-with; alone = alone-with; decimals = fits.decimals }
 
 -- and any
 Fits-after : SameSorts → (theories : Theories) (elements : Option ElementNames) (earlier es : List Entry)
@@ -537,15 +554,15 @@ Fits-after same theories elements earlier (e ∷ es) m fits sorted distinct =
     (subst AreDistinct (sym together) distinct))
 
 -- the value of a well-sorted term is of its sort
-pub sorted-value : ResultsAreOfTheirSorts → SameSorts
+pub sorted-value : ResultsAreOfTheirSorts → DecimalsAreReals → SameSorts
     → (z : DivisionByZero) (definitions : Signature) (scope : List (List ℕ × Sort))
     (r : List (List ℕ × Element)) (term : Sexp) (sort : Sort)
     → AreWellSorted definitions.theories definitions.elements [] definitions.entries
     → AreDistinct definitions.entries
     → FitsScope scope r → sort_in (unlabelled (names_of definitions)) scope term ≡ Ok sort
     → IsOfSort sort (value_of (meaning_in z definitions) r term)
-sorted-value law same z definitions scope r term sort sorted distinct fit is =
+sorted-value law decimals same z definitions scope r term sort sorted distinct fit is =
     term-fits (names_of definitions) (meaning_in z definitions)
     (Fits-after same definitions.theories definitions.elements [] definitions.entries
     (operators z definitions.theories)
-    (Fits-operators law z definitions.theories definitions.elements) sorted distinct) scope r fit term sort is
+    (Fits-operators law decimals z definitions.theories definitions.elements) sorted distinct) scope r fit term sort is

@@ -6,7 +6,7 @@ use Rattle.std.proofs.Math.Seq.{take-length}
 use Rattle.std.proofs.lemmas.List.{length-map}
 use Rattle.std.specs.List.{All}
 use Rattle.std.specs.Prelude.{bytes_eq}
-use Rattle.smt_trees.specs.Sexp.{Sexp, Atom, Reserved, Items, Nil, Cons, Numeral, Hexadecimal, Binary}
+use Rattle.smt_trees.specs.Sexp.{Sexp, Atom, Reserved, Items, Nil, Cons, Numeral, Decimal, Hexadecimal, Binary}
 use Rattle.smt_trees.specs.Sexp.{Symbol}
 use Rattle.smt_trees.specs.declared.reserved.Word.TheVariants.{As, Bang, Let, Underscore}
 use Rattle.smt_theory.specs.Operators.{is_plain_operator}
@@ -157,6 +157,7 @@ pub denotes_within : (t : Table) (slots : Slots) (next around i : ℕ) (term : S
     → Denotes t slots next around i term → i < length t.rows
 denotes_within t slots next around i (Atom Symbol x) d = row_within t.rows i around _ d.0
 denotes_within t slots next around i (Atom Numeral x) d = row_within t.rows i around _ d.0
+denotes_within t slots next around i (Atom Decimal x) d = row_within t.rows i around _ d.0
 denotes_within t slots next around i (Atom Hexadecimal x) d = row_within t.rows i around _ d.0
 denotes_within t slots next around i (Atom Binary x) d = row_within t.rows i around _ d.0
 denotes_within t slots next around i (Items (Cons (Reserved Underscore) parts)) d =

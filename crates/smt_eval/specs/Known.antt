@@ -3,8 +3,8 @@
 use Rattle.std.specs.Prelude.{ℕ, List, [], ◌∷◌, ◌++◌, Option, Some, None, Result, Ok, Err, if◌then◌else◌, unwrap_or}
 use Rattle.std.specs.Prelude.{bytes_eq, option_and_then}
 use Rattle.std.specs.List.{zip}
-use Rattle.smt_trees.specs.Sexp.{Sexp, Sexps, Atom, Reserved, Items, Nil, Cons, Symbol, Numeral, Hexadecimal}
-use Rattle.smt_trees.specs.Sexp.{Binary}
+use Rattle.smt_trees.specs.Sexp.{Sexp, Sexps, Atom, Reserved, Items, Nil, Cons, Symbol, Numeral, Decimal}
+use Rattle.smt_trees.specs.Sexp.{Hexadecimal, Binary}
 use Rattle.smt_trees.specs.declared.reserved.Word.TheVariants.{As, Bang, Let, Underscore}
 use Rattle.smt_theory.specs.Words.{look_up}
 use Rattle.smt_theory.specs.declared.op.Op.{Op}
@@ -12,7 +12,7 @@ use Rattle.smt_theory.specs.declared.op.OpFault.{OpFault}
 use Rattle.smt_theory.specs.declared.theories.Theories.{Theories}
 use Rattle.smt_values.specs.Element.{Element, Abstract}
 use Rattle.smt_values.specs.KnownOperations.{known_step}
-use Rattle.smt_values.specs.Literals.{bin_element, hex_element, numeral_element}
+use Rattle.smt_values.specs.Literals.{bin_element, decimal_element, hex_element, numeral_element}
 use Rattle.smt_forms.specs.ElementNames.{qualified_symbol, sort_of_element}
 use Rattle.smt_forms.specs.Identifier.{Identifier, Plain, Indexed, applied, indexed, operator_of}
 use Rattle.smt_values.specs.Element.{Naming}
@@ -35,6 +35,7 @@ abbrev mutual
   pub known_of : KnownMeaning → List (List ℕ × Option Element) → Sexp → Option Element
   known_of m r (Atom Symbol x) = unwrap_or (look_up r x) (m.gives (Plain x) [])
   known_of m r (Atom Numeral digits) = numeral_element digits
+  known_of m r (Atom Decimal digits) = decimal_element digits
   known_of m r (Atom Hexadecimal digits) = hex_element digits
   known_of m r (Atom Binary digits) = bin_element digits
   known_of m r (Items (Cons (Reserved Underscore) parts)) = known_by (indexed parts) (λ f. m.gives f [])

@@ -21,7 +21,7 @@ Renaming = List ℕ → List ℕ
 abbrev pub IsInjective : Renaming → Type 0
 IsInjective g = (x y : List ℕ) → g x ≡ g y → x ≡ y
 
--- an element under its other name; truth values, integers and bit vectors stay
+-- an element under its other name; truth values, numbers and bit vectors stay
 abbrev pub renamed : Renaming → Element → Element
 renamed g (Abstract x) = Abstract (g x)
 renamed g e = e

@@ -54,6 +54,7 @@ use smt_names::laws::places_are_of_one_name;
 use smt_terms::laws::elements::items_that_tell_of_elements_are_set_aside;
 use smt_terms::laws::{items_are_well_sorted, repeated_items_are_set_aside, sorts_are_kept};
 use smt_theory::laws::{ranks_are_the_table, sorts_are_compared};
+use smt_values::laws::literals::{decimals_are_reals, decimals_are_their_digits};
 use smt_values::laws::{known_results_are_true, results_are_of_their_sorts};
 
 /// What is known of a term is its value in the structure that the definitions give (SMT-LIB 2.6, section
@@ -66,6 +67,7 @@ pub fn known_values_are_true()
         (value_over z definitions r term) }
 {
     known_results_are_true();
+    decimals_are_their_digits();
 }
 
 /// A well-sorted term has a value of its sort, over definitions that are well sorted and have different
@@ -81,6 +83,7 @@ pub fn well_sorted_terms_have_values()
 {
     ranks_are_the_table();
     results_are_of_their_sorts();
+    decimals_are_reals();
     sorts_are_compared();
 }
 

@@ -82,6 +82,7 @@ fn tell_lacking(page: &mut Page<'_>, part: Tree<'_>, theory: Theory) {
     put_tree(page, part);
     page.put(match theory {
         Theory::Integers => b" needs integers, which the logic lacks",
+        Theory::Reals => b" needs reals, which the logic lacks",
         Theory::BitVectors => b" needs bit vectors, which the logic lacks",
     })
 }

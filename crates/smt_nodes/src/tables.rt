@@ -27,7 +27,7 @@ use crate::op::NumberedOp;
 use crate::rows::{Ends, Stored};
 use crate::term_id::TermId;
 use smt_faults::Memory;
-use smt_theory::{LiteralKind, Op, PlainOp, number};
+use smt_theory::{LiteralKind, Op, PlainOp, literal_number};
 use std::alloc::Global;
 
 /// Not more arguments than these are added one by one.
@@ -303,7 +303,7 @@ impl Tables {
         ensures element { IfOk result (λ s. held_element s ≡ None) }
     {
         let count = self.push_digits(digits)?;
-        match number(kind.radix(), digits) {
+        match literal_number(kind, digits) {
             Some(number) if number <= MOST as u128 => {
                 Ok(Stored::Literal(kind, count, number as u32))
             }

@@ -15,6 +15,7 @@
 
 mod evaluation;
 mod parts;
+mod reals;
 mod show;
 mod trees;
 mod value_texts;

@@ -463,7 +463,7 @@ pub(crate) fn is_literal(term: Tree<'_>) -> bool {
         Tree::Symbol(name) => matches!(name, b"true" | b"false"),
         Tree::List(parts) => match parts.split_first() {
             Some((Tree::Symbol(b"-"), rest)) => match rest.split_first() {
-                Some((Tree::Numeral(_), rest)) => rest.split_first().is_none(),
+                Some((Tree::Numeral(_) | Tree::Decimal(_), rest)) => rest.split_first().is_none(),
                 _ => false,
             },
             _ => false,

@@ -1,35 +1,43 @@
 //! The texts of values, sorts and names, as SMT-LIB writes them (section 3.1, and the theories). This file knows no
 //! term.
 
-ghost use Rattle.std.specs.Prelude.{◌≡◌, ◌<◌, ◌≤◌, ◌*◌, ◌++◌, ◌^◌, IfOk, OnOk, false};
+ghost use Rattle.std.specs.Prelude.{◌≡◌, ◌<◌, ◌≤◌, ◌*◌, ◌++◌, ◌^◌, IfOk, OnOk, codes, false};
 ghost use Rattle.std.specs.Fmt.{digit_glyph};
 ghost use Rattle.smt_values.specs.Element.{element_of};
 ghost use Rattle.smt_terms.specs.Library.{element_names_of};
 ghost use Rattle.smt_reasons.specs.ValueTexts.{IsSymbol, IsTextOf, IsTextOfSort, digits_below, element_named};
-ghost use Rattle.smt_reasons.specs.ValueTexts.{text_of_bits, text_of_integer};
+ghost use Rattle.smt_reasons.specs.ValueTexts.{quotient_text, text_of_bits, text_of_fraction};
+ghost use Rattle.smt_reasons.specs.ValueTexts.{text_of_integer, text_of_real};
 
 use smt_bits::Bits;
 use smt_eval::Parts;
 use smt_faults::{Memory, TextFault};
 use smt_text::read_trees;
 use smt_theory::{Sort, SortKind};
-use smt_values::{ElementNumber, Value};
+use smt_values::{ElementNumber, Ratio, Value};
 use std::alloc::Global;
 
 /// The most bytes of a name that are looked at.
 const MOST: usize = 4096;
 
-/// The text of a value over these nodes; a bit vector in hexadecimal where its width allows. Of an element it is the
-/// name that its number has among those of the model's elements.
-pub(crate) fn value_text(alloc: Global, parts: Parts<'_>, value: &Value) -> Result<Vec<u8>, Memory>
+/// The text of a value over these nodes; a bit vector in hexadecimal where its width allows, an integer with `.0` where
+/// it is a real's. Of an element it is the name that its number has among those of the model's elements.
+pub(crate) fn value_text(
+    alloc: Global,
+    parts: Parts<'_>,
+    is_real: bool,
+    value: &Value,
+) -> Result<Vec<u8>, Memory>
     ensures { IfOk result (λ text. IsTextOf (element_names_of parts.entry.interpretation.now.definitions)
-        (element_of value.now) text.items) }
+        is_real (element_of value.now) text.items) }
 {
     match value {
         Value::Bool(true) => Ok(Vec::from_slice(alloc, b"true")?),
         Value::Bool(false) => Ok(Vec::from_slice(alloc, b"false")?),
         Value::Bits(bits) => bits_text(alloc, *bits),
+        Value::Int(number) if is_real => real_text(alloc, number.get()),
         Value::Int(number) => integer_text(alloc, number.get()),
+        Value::Ratio(ratio) => fraction_text(alloc, *ratio),
         Value::Abstract(number) => symbol_text(alloc, element_name(parts, *number)),
     }
 }
@@ -54,6 +62,7 @@ pub fn sort_text(alloc: Global, sort: Sort, name: &[u8]) -> Result<Vec<u8>, Memo
     match sort.kind() {
         SortKind::Bool => Ok(Vec::from_slice(alloc, b"Bool")?),
         SortKind::Int => Ok(Vec::from_slice(alloc, b"Int")?),
+        SortKind::Real => Ok(Vec::from_slice(alloc, b"Real")?),
         SortKind::Free(_) => symbol_text(alloc, name),
         SortKind::Bits(width) => {
             let text = format!(in alloc; "(_ BitVec {})", width.bits())?;
@@ -96,8 +105,45 @@ fn integer_text(alloc: Global, number: i128) -> Result<Vec<u8>, Memory>
     if number >= 0 {
         return Ok(Vec::from_slice(alloc, digits.as_bytes())?);
     }
+    negated(alloc, digits.as_bytes())
+}
+
+// The text of an integer as a real.
+fn real_text(alloc: Global, number: i128) -> Result<Vec<u8>, Memory>
+    ensures { IfOk result (λ text. text.items ≡ text_of_real number) }
+{
+    let digits = format!(in alloc; "{}.0", number.unsigned_abs())?;
+    if number >= 0 {
+        return Ok(Vec::from_slice(alloc, digits.as_bytes())?);
+    }
+    negated(alloc, digits.as_bytes())
+}
+
+// The text of a fraction.
+fn fraction_text(alloc: Global, ratio: Ratio) -> Result<Vec<u8>, Memory>
+    ensures { IfOk result (λ text. text.items ≡ text_of_fraction ratio.numerator ratio.denominator) }
+{
+    let numerator = ratio.numerator();
+    let quotient = quotient_text(alloc, numerator.unsigned_abs(), ratio.denominator())?;
+    if numerator >= 0 {
+        return Ok(quotient);
+    }
+    negated(alloc, quotient.as_slice())
+}
+
+fn quotient_text(alloc: Global, top: u128, below: u128) -> Result<Vec<u8>, Memory>
+    ensures { IfOk result (λ text. text.items ≡ quotient_text top below) }
+{
+    let text = format!(in alloc; "(/ {} {})", top, below)?;
+    Ok(Vec::from_slice(alloc, text.as_bytes())?)
+}
+
+// The minus sign applied to a text.
+fn negated(alloc: Global, digits: &[u8]) -> Result<Vec<u8>, Memory>
+    ensures { IfOk result (λ text. text.items ≡ codes "(- " ++ (digits.now ++ codes ")")) }
+{
     let mut text = Vec::from_slice(alloc, b"(- ")?;
-    text.extend_from_slice(digits.as_bytes())?;
+    text.extend_from_slice(digits)?;
     text.push(b')')?;
     Ok(text)
 }

@@ -1,6 +1,7 @@
 //! The lines on a smallest part: its text, its place, and the values in it. This file evaluates no term itself.
 
 use crate::parts::{Known, Part, Walk, is_literal};
+use crate::reals::is_real;
 use crate::show::{put_tree, text_of};
 use crate::trees::{each, tree_from};
 use crate::value_texts::{symbol_text, value_text};
@@ -10,8 +11,11 @@ use smt_remarks::Page;
 use smt_trees::{Tree, Word};
 use smt_values::{OpenReason, Reason, Value, why};
 
-/// Why an integer is open.
+/// Why a number is open.
 const TOO_LARGE: &str = "an integer below -2^127 or over 2^127 - 1";
+
+/// Why a real is open.
+const NO_ROOM: &str = "a fraction too large, or a step to it below -2^127 or over 2^127 - 1";
 
 /// What is said of a condition.
 const CONDITION: &str = "it decides which branch of an ite is taken";
@@ -53,8 +57,16 @@ fn reason(walk: &mut Walk<'_, '_>, part: Part<'_>) -> Option<&'static str> {
         return None;
     }
     let look = walk.look(part.node);
+    let too_large = match is_real(walk, part.term, part.scope) {
+        Ok(true) => NO_ROOM,
+        Ok(false) => TOO_LARGE,
+        Err(Memory) => {
+            walk.refuse();
+            return None;
+        }
+    };
     let Some(op) = look.op() else {
-        return Some(TOO_LARGE);
+        return Some(too_large);
     };
     let mut values = Vec::new(walk.alloc);
     if let Tree::List(parts) = part.term {
@@ -69,7 +81,7 @@ fn reason(walk: &mut Walk<'_, '_>, part: Part<'_>) -> Option<&'static str> {
     }
     match why(op, values.as_slice()) {
         Reason::Open(OpenReason::DivisionByZero) => Some("a division by zero"),
-        _ => Some(TOO_LARGE),
+        _ => Some(too_large),
     }
 }
 
@@ -262,7 +274,7 @@ fn tell_value<'a>(
     text: &[u8],
     value: Option<Value>,
 ) {
-    let Ok(value) = known_text(walk, value) else {
+    let Ok(value) = known_text(walk, next, value) else {
         return page.refuse();
     };
     match given_text(walk, next) {
@@ -272,9 +284,16 @@ fn tell_value<'a>(
     }
 }
 
-fn known_text(walk: &Walk<'_, '_>, value: Option<Value>) -> Result<Vec<u8>, Memory> {
+fn known_text(
+    walk: &Walk<'_, '_>,
+    seen: Seen<'_>,
+    value: Option<Value>,
+) -> Result<Vec<u8>, Memory> {
     match value {
-        Some(value) => value_text(walk.alloc, walk.work.evaluator.parts, &value),
+        Some(value) => {
+            let is_real = is_real(walk, seen.term, seen.scope)?;
+            value_text(walk.alloc, walk.work.evaluator.parts, is_real, &value)
+        }
         None => Ok(Vec::from_slice(walk.alloc, b"open")?),
     }
 }

@@ -6,8 +6,8 @@ use Rattle.std.proofs.lemmas.List.Elements.{All-head, All-tail}
 use Rattle.std.proofs.lemmas.Option.{slice_get_cases, slice_get_within}
 use Rattle.std.specs.List.{All}
 use Rattle.std.specs.Prelude.{bytes_eq}
-use Rattle.smt_trees.specs.Sexp.{Sexp, Atom, Reserved, Items, Nil, Cons, Numeral, Hexadecimal, Binary}
-use Rattle.smt_trees.specs.Sexp.{Symbol}
+use Rattle.smt_trees.specs.Sexp.{Sexp, Atom, Reserved, Items, Nil, Cons, Numeral, Decimal, Hexadecimal}
+use Rattle.smt_trees.specs.Sexp.{Binary, Symbol}
 use Rattle.smt_trees.specs.declared.reserved.Word.TheVariants.{As, Bang, Let, Underscore}
 use Rattle.smt_theory.specs.Operators.{is_plain_operator}
 use Rattle.smt_theory.specs.Words.{look_up}
@@ -158,6 +158,8 @@ denotes_within t slots next around i (Atom Symbol x) d =
     row_within t.rows i around (symbol_node t x (look_up slots x)) d.0
 denotes_within t slots next around i (Atom Numeral digits) d =
     row_within t.rows i around (Some (node.Literal literal.Numeral digits)) d.0
+denotes_within t slots next around i (Atom Decimal digits) d =
+    row_within t.rows i around (Some (node.Literal literal.Decimal digits)) d.0
 denotes_within t slots next around i (Atom Hexadecimal digits) d =
     row_within t.rows i around (Some (node.Literal literal.Hexadecimal digits)) d.0
 denotes_within t slots next around i (Atom Binary digits) d =

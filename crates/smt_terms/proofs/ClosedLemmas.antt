@@ -137,7 +137,7 @@ mutual
   closed-sort names inner outer (Atom Numeral x) sort u unused h = h
   closed-sort names inner outer (Atom Hexadecimal x) sort u unused h = h
   closed-sort names inner outer (Atom Binary x) sort u unused h = h
-  closed-sort names inner outer (Atom sexp.Decimal x) sort u unused h = cc
+  closed-sort names inner outer (Atom sexp.Decimal x) sort u unused h = h
   closed-sort names inner outer (Atom sexp.Text x) sort u unused h = cc
   closed-sort names inner outer (Atom Keyword x) sort u unused h = cc
   closed-sort names inner outer (Reserved word) sort u unused h = cc

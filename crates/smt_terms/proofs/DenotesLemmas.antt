@@ -3,8 +3,8 @@ use Rattle.std.proofs.Common.{◌≡◌, ℕ, zero, suc, ◌+◌, Bool, true, fa
 use Rattle.std.proofs.Common.{length, slice_get, Option, Some, None, option_map, Result, Ok, Err, refl, ap, sym, ◌∙◌, subst}
 use Rattle.std.proofs.Common.{◌≤◌, arith}
 use Rattle.std.specs.Prelude.{bytes_eq}
-use Rattle.smt_trees.specs.Sexp.{Sexp, Sexps, Atom, Reserved, Items, Nil, Cons, Numeral, Hexadecimal, Binary}
-use Rattle.smt_trees.specs.Sexp.{Symbol}
+use Rattle.smt_trees.specs.Sexp.{Sexp, Sexps, Atom, Reserved, Items, Nil, Cons, Numeral, Decimal, Hexadecimal}
+use Rattle.smt_trees.specs.Sexp.{Binary, Symbol}
 use Rattle.smt_trees.specs.declared.reserved.Word.TheVariants.{As, Bang, Let, Underscore}
 use Rattle.smt_theory.specs.Operators.{op_by}
 use Rattle.smt_theory.specs.Words.{look_up}
@@ -163,6 +163,8 @@ module _ (t u : Table) (longer : IsLonger t u) where
         (symbol_kept x (look_up slots x)) d
     denotes_kept slots next around i (Atom Numeral digits) d =
         is_kept i around (Some (node.Literal literal.Numeral digits)) d
+    denotes_kept slots next around i (Atom Decimal digits) d =
+        is_kept i around (Some (node.Literal literal.Decimal digits)) d
     denotes_kept slots next around i (Atom Hexadecimal digits) d =
         is_kept i around (Some (node.Literal literal.Hexadecimal digits)) d
     denotes_kept slots next around i (Atom Binary digits) d = is_kept i around (Some (node.Literal literal.Binary digits)) d

@@ -3,8 +3,8 @@ use Rattle.std.proofs.Common.{◌≡◌, ◌<◌, ℕ, zero, suc, ◌+◌, List,
 use Rattle.std.proofs.Common.{Some, refl, sym, subst, arith}
 use Rattle.std.specs.List.{All}
 use Rattle.std.proofs.lemmas.List.Elements.{All-head, All-tail}
-use Rattle.smt_trees.specs.Sexp.{Sexp, Sexps, Atom, Reserved, Items, Nil, Cons, Numeral, Hexadecimal, Binary}
-use Rattle.smt_trees.specs.Sexp.{Symbol}
+use Rattle.smt_trees.specs.Sexp.{Sexp, Sexps, Atom, Reserved, Items, Nil, Cons, Numeral, Decimal, Hexadecimal}
+use Rattle.smt_trees.specs.Sexp.{Binary, Symbol}
 use Rattle.smt_trees.specs.declared.reserved.Word.TheVariants.{As, Bang, Let, Underscore}
 use Rattle.smt_forms.specs.Labels.{labels_among}
 use Rattle.smt_nodes.specs.Node as node
@@ -65,6 +65,7 @@ module _ (n : ℕ) (t : Table) where
         → Denotes (first_rows n t) slots next around i term
     denotes_left slots next around i (Atom Symbol x) within d = is_left i around _ within d
     denotes_left slots next around i (Atom Numeral digits) within d = is_left i around _ within d
+    denotes_left slots next around i (Atom Decimal digits) within d = is_left i around _ within d
     denotes_left slots next around i (Atom Hexadecimal digits) within d = is_left i around _ within d
     denotes_left slots next around i (Atom Binary digits) within d = is_left i around _ within d
     denotes_left slots next around i (Items (Cons (Reserved Underscore) parts)) within d =

@@ -25,7 +25,7 @@ use Rattle.smt_forms.specs.Identifier.{Identifier, Plain, Indexed, applied, inde
 use Rattle.smt_terms.specs.Labels.{Labels, Unread, with_labels}
 use Rattle.smt_forms.specs.Labels.{labels_among, labels_in, labels_in_bindings}
 use Rattle.smt_terms.specs.Signature.{Names, Rank, behind, unlabelled}
-use Rattle.smt_terms.specs.SortTrees.{bit_vectors, integers, sort_named}
+use Rattle.smt_terms.specs.SortTrees.{bit_vectors, numerals, reals, sort_named}
 use Rattle.smt_terms.specs.WellSorted.{Keeps, KeepsElements}
 use Rattle.smt_faults.specs.declared.term_flaw.TermFlaw.{TermFlaw}
 use Rattle.smt_faults.specs.declared.term_flaw.TermFlaw.TheVariants.{BoundTwice, Form, NotFresh, Unsupported}
@@ -249,12 +249,12 @@ mutual
       → sort_in names scope t ≡ Ok sort → sort_in more scope t ≡ Ok sort
   kept-sort names more keeps scope (Atom Symbol x) sort h =
       kept-symbol names more keeps x (look_up scope x) sort h
-  kept-sort names more keeps scope (Atom Numeral x) sort h = ap integers keeps.theories ∙ h
+  kept-sort names more keeps scope (Atom Numeral x) sort h = ap numerals keeps.theories ∙ h
   kept-sort names more keeps scope (Atom Hexadecimal x) sort h =
       ap (λ theories. bit_vectors theories (width_of (4 * length x))) keeps.theories ∙ h
   kept-sort names more keeps scope (Atom Binary x) sort h =
       ap (λ theories. bit_vectors theories (width_of (length x))) keeps.theories ∙ h
-  kept-sort names more keeps scope (Atom sexp.Decimal x) sort h = cc
+  kept-sort names more keeps scope (Atom sexp.Decimal x) sort h = ap reals keeps.theories ∙ h
   kept-sort names more keeps scope (Atom sexp.Text x) sort h = cc
   kept-sort names more keeps scope (Atom Keyword x) sort h = cc
   kept-sort names more keeps scope (Reserved word) sort h = cc

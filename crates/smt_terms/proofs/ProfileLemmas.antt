@@ -2,6 +2,7 @@
 use Rattle.std.proofs.Common.{◌≡◌, ℕ, Bool, true, false, cond, not, ◌&&◌, ◌||◌, List, [], ◌∷◌, ◌++◌, map}
 use Rattle.std.proofs.Common.{Option, Some, None, is_some, Result, Ok, Err, refl, ap, sym, ◌∙◌, subst}
 use Rattle.std.specs.Option.{option_or}
+use Rattle.std.specs.Prelude.{bytes_eq, codes}
 use Rattle.smt_trees.specs.Sexp as sexp
 use Rattle.smt_trees.specs.Sexp.{Sexp, Sexps, Atom, Reserved, Items, Nil, Cons, Symbol, Keyword, Numeral}
 use Rattle.smt_trees.specs.Sexp.{Hexadecimal, Binary}
@@ -9,7 +10,8 @@ use Rattle.smt_trees.specs.declared.reserved.Word.TheVariants.{As, Bang, Let, Un
 use Rattle.smt_theory.specs.Operators.{is_plain_operator}
 use Rattle.smt_theory.specs.Sort.{is_same_sort}
 use Rattle.smt_theory.specs.Words.{look_up, result_and_then}
-use Rattle.smt_theory.specs.Sort.{Sort}
+use Rattle.smt_theory.specs.Sort.{Sort, Boolean, Real}
+use Rattle.smt_theory.specs.declared.theories.Theories.{Theories}
 use Rattle.smt_forms.specs.Bindings.{are_attributes, are_bindings}
 use Rattle.smt_forms.specs.Identifier.{Identifier, Plain, Indexed, applied, indexed}
 use Rattle.smt_forms.specs.ItemForm.{ItemForm}
@@ -26,9 +28,12 @@ use Rattle.smt_terms.specs.Items.{form_in, has_rank_of, is_defined_in, item_in, 
 use Rattle.smt_terms.specs.Repeated.{widened}
 use Rattle.smt_terms.specs.Signature.{Entry, Names, Rank, Signature, behind, declared_named, entry_named, names_of}
 use Rattle.smt_terms.specs.Signature.{ranks_of, sort_names_of}
+use Rattle.smt_terms.specs.SortTrees as trees
 use Rattle.smt_terms.specs.SortTrees.{SortNames, sort_named}
+use Rattle.smt_terms.specs.declared.named_sort.NamedSort.{NamedSort}
 use Rattle.smt_faults.specs.declared.term_flaw.TermFlaw.{TermFlaw}
 use Rattle.smt_faults.specs.declared.term_flaw.TermFlaw.TheVariants.{BoundTwice, Form, IllSorted, NotFresh}
+use Rattle.smt_faults.specs.declared.term_flaw.TermFlaw.TheVariants.{Unknown, Unsupported}
 use Rattle.smt_terms.proofs.CheckerLemmas.{Scope}
 use Rattle.smt_terms.proofs.ItemLemmas.{is_named, item_behind}
 use Rattle.smt_terms.proofs.ItemSortLemmas.{no_fault}
@@ -48,6 +53,39 @@ same-steps : {A B : Type 0} (r s : Result A TermFlaw) (next more : A → Result 
     → ((x : A) → next x ≡ more x) → result_and_then r next ≡ result_and_then s more
 same-steps (Ok x) s next more e h = h x ∙ ap (λ q. result_and_then q more) e
 same-steps (Err f) s next more e h = ap (λ q. result_and_then q more) e
+
+-- ## Sorts
+
+-- reals that there are without the wide profile are there in it too
+wide-reals : (theories : Theories) (b : Bool) (sort : Sort)
+    → cond b (Ok Real) (Err (cond theories.wide Unknown Unsupported)) ≡ Ok sort
+    → cond b (Ok Real) (Err Unknown) ≡ Ok sort
+wide-reals theories true sort h = h
+wide-reals theories false sort h = cc
+
+wide-word : (theories : Theories) (bools ints reals strings : Bool) (sort : Sort)
+    → cond bools (Ok Boolean) (cond ints (trees.integers theories) (cond reals (trees.reals theories)
+    (cond strings (Err Unsupported) (Err Unknown)))) ≡ Ok sort
+    → cond bools (Ok Boolean) (cond ints (trees.integers theories)
+    (cond reals (trees.reals (record theories { wide = true }))
+    (cond strings (Err Unsupported) (Err Unknown)))) ≡ Ok sort
+wide-word theories true ints reals strings sort h = h
+wide-word theories false true reals strings sort h = h
+wide-word theories false false true strings sort h = wide-reals theories theories.reals sort h
+wide-word theories false false false strings sort h = h
+
+-- a tree that names a sort names it in the wide profile too
+wide-named : (names : SortNames) (t : Sexp) (sort : Sort) → sort_named names t ≡ Ok sort
+    → sort_named (wide_sorts names) t ≡ Ok sort
+wide-named names (Atom Symbol x) sort h = by (look_up names.abbreviations x) h
+  where
+    by : (o : Option NamedSort) → trees.sort_of_symbol names.theories x o ≡ Ok sort
+        → trees.sort_of_symbol (record names.theories { wide = true }) x o ≡ Ok sort
+    by None g =
+        wide-word names.theories (bytes_eq x (codes "Bool")) (bytes_eq x (codes "Int"))
+        (bytes_eq x (codes "Real")) (bytes_eq x (codes "String")) sort g
+    by (Some named) g = g
+wide-named names _ sort h = h
 
 -- ## Terms
 
@@ -107,7 +145,8 @@ mutual
   wide-sort names elements keeps refused scope (Atom Numeral x) sort h = h
   wide-sort names elements keeps refused scope (Atom Hexadecimal x) sort h = h
   wide-sort names elements keeps refused scope (Atom Binary x) sort h = h
-  wide-sort names elements keeps refused scope (Atom sexp.Decimal x) sort h = cc
+  wide-sort names elements keeps refused scope (Atom sexp.Decimal x) sort h =
+      wide-reals names.theories names.theories.reals sort h
   wide-sort names elements keeps refused scope (Atom sexp.Text x) sort h = cc
   wide-sort names elements keeps refused scope (Atom Keyword x) sort h = cc
   wide-sort names elements keeps refused scope (Reserved word) sort h = cc
@@ -196,21 +235,19 @@ mutual
 
 -- ## Items
 
-same-parameters : (sorts : SortNames) (earlier : Scope) (ps : List (List ℕ × Sexp))
-    → parameters_named (wide_sorts sorts) earlier ps ≡ parameters_named sorts earlier ps
-same-parameters sorts earlier [] = refl
-same-parameters sorts earlier (p ∷ ps) =
-    same-steps (sort_named (wide_sorts sorts) p.1) (sort_named sorts p.1)
-    (λ s. cond (is_bound earlier p.0) (Err BoundTwice)
-    (parameters_named (wide_sorts sorts) (earlier ++ (p.0, s) ∷ []) ps))
+wide-parameters : (sorts : SortNames) (earlier : Scope) (ps : List (List ℕ × Sexp)) (qs : Scope)
+    → parameters_named sorts earlier ps ≡ Ok qs → parameters_named (wide_sorts sorts) earlier ps ≡ Ok qs
+wide-parameters sorts earlier [] qs h = h
+wide-parameters sorts earlier (p ∷ ps) qs h =
+    kept-steps (sort_named sorts p.1) (sort_named (wide_sorts sorts) p.1)
     (λ s. cond (is_bound earlier p.0) (Err BoundTwice)
     (parameters_named sorts (earlier ++ (p.0, s) ∷ []) ps))
-    (same-named p.1)
-    (λ s. ap (cond (is_bound earlier p.0) (Err BoundTwice))
-    (same-parameters sorts (earlier ++ (p.0, s) ∷ []) ps))
-  where
-    same-named : (t : Sexp) → sort_named (wide_sorts sorts) t ≡ sort_named sorts t
-    same-named t = refl
+    (λ s. cond (is_bound earlier p.0) (Err BoundTwice)
+    (parameters_named (wide_sorts sorts) (earlier ++ (p.0, s) ∷ []) ps)) qs
+    (wide-named sorts p.1)
+    (λ s. kept-else (is_bound earlier p.0) (parameters_named sorts (earlier ++ (p.0, s) ∷ []) ps)
+    (parameters_named (wide_sorts sorts) (earlier ++ (p.0, s) ∷ []) ps) BoundTwice qs
+    (wide-parameters sorts (earlier ++ (p.0, s) ∷ []) ps qs)) h
 
 -- a definition stays where elements may be named
 wide-definition : (names : Names) (elements : Option ElementNames) (x : List ℕ) (ps : Scope) (sort : Sort) (body : Sexp)
@@ -254,12 +291,12 @@ wide-form script earlier form e narrow apart h =
     (λ s. cond (not (fits ps s)) (Err IllSorted) (definition_in names form.name ps s form.body)))
     (λ ps. result_and_then (sort_named (sort_names_of (widened script)) form.sort)
     (λ s. cond (not (fits ps s)) (Err IllSorted) (definition_in wide form.name ps s form.body))) e
-    (λ ps is. same-parameters (sort_names_of script) [] form.parameters ∙ is)
+    (λ ps. wide-parameters (sort_names_of script) [] form.parameters ps)
     (λ ps. kept-steps (sort_named (sort_names_of script) form.sort)
     (sort_named (sort_names_of (widened script)) form.sort)
     (λ s. cond (not (fits ps s)) (Err IllSorted) (definition_in names form.name ps s form.body))
     (λ s. cond (not (fits ps s)) (Err IllSorted) (definition_in wide form.name ps s form.body)) e
-    (λ s is. is)
+    (λ s. wide-named (sort_names_of script) form.sort s)
     (λ s. kept-else (not (fits ps s)) (definition_in names form.name ps s form.body)
     (definition_in wide form.name ps s form.body) IllSorted e
     (wide-definition names (item_elements (widened script)) form.name ps s form.body e

@@ -1,12 +1,13 @@
 -- What is to blame where a term, a declaration, a definition or an item of a model is refused (SMT-LIB 2.6, sections
 -- 3.5, 3.6, 4.2.3 and 4.2.6): a fact on a name or a part, over the names in force. That it is the first such part, in
 -- the order in which parts are checked, is not said here.
-use Rattle.std.specs.Prelude.{◌≡◌, ◌⊎◌, ◌+◌, ◌-◌, ◌*◌, ◌==◌, ◌&&◌, ℕ, List, [], ◌∷◌, Bool, true, false, not}
+use Rattle.std.specs.Prelude.{◌≡◌, ◌⊎◌, ◌+◌, ◌-◌, ◌*◌, ◌==◌, ◌&&◌, ◌||◌, ℕ, List, [], ◌∷◌, Bool, true, false, not}
 use Rattle.std.specs.Prelude.{Option, Some, None, Result, Ok, Err, is_some, length, option_map, option_and_then}
 use Rattle.std.specs.Prelude.{slice_get, if◌then◌else◌, IfOk, IfSome}
 use Rattle.smt_faults.specs.declared.memory.Memory.{Memory}
 use Rattle.std.specs.List.{position, zip}
-use Rattle.smt_trees.specs.Sexp.{Sexp, Sexps, Atom, Reserved, Items, Nil, Cons, Binary, Hexadecimal, Numeral, Symbol}
+use Rattle.smt_trees.specs.Sexp.{Sexp, Sexps, Atom, Reserved, Items, Nil, Cons, Binary, Decimal, Hexadecimal}
+use Rattle.smt_trees.specs.Sexp.{Numeral, Symbol}
 use Rattle.smt_trees.specs.View.{sexp_of}
 use Rattle.smt_trees.specs.declared.reserved.Word.TheVariants.{Underscore}
 use Rattle.smt_theory.specs.Misfits.{argument, misfit_of}
@@ -33,12 +34,12 @@ use Rattle.smt_terms.specs.Elements.{element_sort}
 use Rattle.smt_terms.specs.Freshness.{is_defined_before, is_sort_taken, is_taken}
 use Rattle.smt_terms.specs.Items.{is_set_aside, told_item}
 use Rattle.smt_terms.specs.Signature.{Names, Rank, Signature, names_of, sort_names_of}
-use Rattle.smt_terms.specs.SortTrees.{SortNames, bit_vectors, integers, sort_named}
+use Rattle.smt_terms.specs.SortTrees.{SortNames, bit_vectors, numerals, reals, sort_named}
 use Rattle.smt_terms.specs.declared.blame.Blame.{Blame}
 use Rattle.smt_terms.specs.declared.blame.Blame.TheVariants.{Unknown, Lacks, Twice, Label, InUse, Variable, Misfit}
 use Rattle.smt_terms.specs.declared.blame.Blame.TheVariants.{Arity, Sorts, Whole, Parameter, Outcome, Parameters}
 use Rattle.smt_terms.specs.declared.blame.Theory.{Theory}
-use Rattle.smt_terms.specs.declared.blame.Theory.TheVariants.{Integers, BitVectors}
+use Rattle.smt_terms.specs.declared.blame.Theory.TheVariants.{Integers, Reals, BitVectors}
 
 -- ---- unknown names
 
@@ -70,7 +71,8 @@ names_no_sort sorts theories tree = is_unknown_sort (sort_named (record sorts { 
 
 -- whether a tree is a literal of none of these theories
 abbrev pub is_unknown_literal : Theories → Sexp → Bool
-is_unknown_literal theories (Atom Numeral digits) = is_unknown_sort (integers theories)
+is_unknown_literal theories (Atom Numeral digits) = is_unknown_sort (numerals theories)
+is_unknown_literal theories (Atom Decimal digits) = is_unknown_sort (reals theories)
 is_unknown_literal theories (Atom Hexadecimal digits) =
     is_unknown_sort (bit_vectors theories (width_of (4 * length digits)))
 is_unknown_literal theories (Atom Binary digits) =
@@ -84,9 +86,10 @@ sort_word (Items (Cons (Atom Symbol x) args)) = Some x
 sort_word (Items (Cons (Reserved Underscore) (Cons (Atom Symbol x) indexes))) = Some x
 sort_word _ = None
 
--- these theories with one more
+-- these theories with one more: the profile Base never has reals
 abbrev pub with_theory : Theory → Theories → Theories
 with_theory Integers theories = record theories { ints = true }
+with_theory Reals theories = record theories { reals = theories.reals || theories.wide }
 with_theory BitVectors theories = record theories { bits = true }
 
 -- ---- parts

@@ -1,5 +1,5 @@
--- SMT-LIB 2.6, sections 3.6 and 5.2: the sort of a term, or its first fault. That decimals and strings are
--- not supported as terms is this project's choice, and so is the order of the faults.
+-- SMT-LIB 2.6, sections 3.6 and 5.2: the sort of a term, or its first fault. That strings are not supported as terms,
+-- nor decimals in the profile Base, is this project's choice, and so is the order of the faults.
 use Rattle.std.specs.Prelude.{ℕ, ◌*◌, List, [], ◌∷◌, ◌++◌, Option, Some, None, Result, Ok, Err}
 use Rattle.std.specs.Prelude.{length, if◌then◌else◌}
 use Rattle.std.specs.Option.{option_or}
@@ -24,7 +24,7 @@ use Rattle.smt_forms.specs.Variables.{uses_variable}
 use Rattle.smt_forms.specs.Labels.{labels_among, labels_in, labels_in_bindings}
 use Rattle.smt_terms.specs.Freshness.{NewLabel, NewVariable, where_fresh}
 use Rattle.smt_terms.specs.Signature.{Names, Rank, behind}
-use Rattle.smt_terms.specs.SortTrees.{bit_vectors, integers}
+use Rattle.smt_terms.specs.SortTrees.{bit_vectors, numerals, reals}
 use Rattle.smt_faults.specs.declared.term_flaw.TermFlaw.{TermFlaw}
 use Rattle.smt_faults.specs.declared.term_flaw.TermFlaw.TheVariants.{Form, Unsupported, Unknown, IllSorted}
 use Rattle.smt_faults.specs.declared.term_flaw.TermFlaw.TheVariants.{Index, Label}
@@ -104,10 +104,10 @@ flaw_of_labels names scope term (x ∷ xs) =
 abbrev mutual
   pub sort_in : Names → List (List ℕ × Sort) → Sexp → Result Sort TermFlaw
   sort_in names scope (Atom Symbol x) = sort_of_symbol names x (look_up scope x)
-  sort_in names scope (Atom Numeral digits) = integers names.theories
+  sort_in names scope (Atom Numeral digits) = numerals names.theories
   sort_in names scope (Atom Hexadecimal digits) = bit_vectors names.theories (width_of (4 * length digits))
   sort_in names scope (Atom Binary digits) = bit_vectors names.theories (width_of (length digits))
-  sort_in names scope (Atom sexp.Decimal bytes) = Err Unsupported
+  sort_in names scope (Atom sexp.Decimal digits) = reals names.theories
   sort_in names scope (Atom sexp.Text bytes) = Err Unsupported
   sort_in names scope (Atom Keyword x) = Err Form
   sort_in names scope (Reserved word) = Err Form

@@ -1,8 +1,8 @@
 -- SMT-LIB 2.6, section 3.6: when a node of a table stands for a term. Nothing here knows a sort or a value.
 use Rattle.std.specs.Prelude.{◌≡◌, ℕ, ◌+◌, ◌<◌, List, [], ◌∷◌, ◌++◌, ◌==◌, length, map, slice_get, false}
 use Rattle.std.specs.Prelude.{Option, Some, None, option_map, Result, Ok, Err, if◌then◌else◌}
-use Rattle.smt_trees.specs.Sexp.{Sexp, Sexps, Atom, Reserved, Items, Nil, Cons, Numeral, Hexadecimal, Binary}
-use Rattle.smt_trees.specs.Sexp.{Symbol}
+use Rattle.smt_trees.specs.Sexp.{Sexp, Sexps, Atom, Reserved, Items, Nil, Cons, Numeral, Decimal, Hexadecimal}
+use Rattle.smt_trees.specs.Sexp.{Binary, Symbol}
 use Rattle.smt_trees.specs.declared.reserved.Word.TheVariants.{As, Bang, Let, Underscore}
 use Rattle.smt_theory.specs.Operators.{op_by}
 use Rattle.smt_theory.specs.Words.{look_up}
@@ -136,6 +136,8 @@ abbrev mutual
   Denotes t slots next around i (Atom Symbol x) = IsNode t around i (symbol_node t x (look_up slots x))
   Denotes t slots next around i (Atom Numeral digits) =
       IsNode t around i (Some (node.Literal literal.Numeral digits))
+  Denotes t slots next around i (Atom Decimal digits) =
+      IsNode t around i (Some (node.Literal literal.Decimal digits))
   Denotes t slots next around i (Atom Hexadecimal digits) =
       IsNode t around i (Some (node.Literal literal.Hexadecimal digits))
   Denotes t slots next around i (Atom Binary digits) = IsNode t around i (Some (node.Literal literal.Binary digits))

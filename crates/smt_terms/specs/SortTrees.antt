@@ -1,12 +1,12 @@
 -- SMT-LIB 2.6, section 3.5: the sort that a tree names, which may be an abbreviation (section 4.2.3), or its
 -- first fault. Which sorts are not supported, and which fault is told, is this project's choice.
-use Rattle.std.specs.Prelude.{ℕ, List, [], ◌∷◌, Bool, true, false, not, ◌||◌, Option, Some, None, is_some}
+use Rattle.std.specs.Prelude.{ℕ, List, [], ◌∷◌, Bool, true, false, not, Option, Some, None, is_some}
 use Rattle.std.specs.Prelude.{option_map, Result, Ok, Err, ok_or, bytes_eq, codes, if◌then◌else◌}
 use Rattle.std.specs.Str.Parse.{digits_value}
 use Rattle.smt_trees.specs.Sexp.{Sexp, Sexps, Atom, Reserved, Items, Nil, Cons, Numeral, Symbol}
 use Rattle.smt_trees.specs.declared.reserved.Word.TheVariants.{Underscore}
 use Rattle.smt_theory.specs.Sort.{Sort}
-use Rattle.smt_theory.specs.Sort.{Boolean, Int, Bits}
+use Rattle.smt_theory.specs.Sort.{Boolean, Int, Real, Bits}
 use Rattle.smt_theory.specs.declared.theories.Theories.{Theories}
 use Rattle.smt_theory.specs.Width.{width_of}
 use Rattle.smt_theory.specs.Words.{look_up, result_and_then}
@@ -18,11 +18,20 @@ use Rattle.smt_faults.specs.declared.term_flaw.TermFlaw.TheVariants.{Form, Unsup
 abbrev pub integers : Theories → Result Sort TermFlaw
 integers theories = if theories.ints then Ok Int else Err Unknown
 
+-- `Real` and decimals are not supported in the profile Base
+abbrev pub reals : Theories → Result Sort TermFlaw
+reals theories = if theories.reals then Ok Real else Err (if theories.wide then Unknown else Unsupported)
+
+-- the sort of numerals: without integers they are reals
+abbrev pub numerals : Theories → Result Sort TermFlaw
+numerals theories = if theories.ints then Ok Int else if theories.reals then Ok Real else Err Unknown
+
 -- the sort of a symbol that abbreviates none
 abbrev pub sort_of_word : Theories → List ℕ → Result Sort TermFlaw
 sort_of_word theories name =
     if bytes_eq name (codes "Bool") then Ok Boolean else if bytes_eq name (codes "Int") then integers theories
-    else if bytes_eq name (codes "Real") || bytes_eq name (codes "String") then Err Unsupported
+    else if bytes_eq name (codes "Real") then reals theories
+    else if bytes_eq name (codes "String") then Err Unsupported
     else Err Unknown
 
 -- the sort of a symbol, by what it stands for

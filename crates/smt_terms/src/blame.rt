@@ -79,5 +79,7 @@ pub enum Blame<'t> {
 #[derive(Clone, Copy)]
 pub enum Theory {
     Integers,
+    /// Only in the wide profile.
+    Reals,
     BitVectors,
 }

@@ -4,11 +4,12 @@ pub mod elements;
 pub mod first_faults;
 
 ghost use Rattle.std.specs.List.{All};
-ghost use Rattle.std.specs.Prelude.{◌≡◌, ◌≢◌, ◌<◌, ◌↔◌, ◌⊎◌, ◌∷◌, ◌++◌, ℕ, List, [], Some, None, true, false, Ok};
+ghost use Rattle.std.specs.Prelude.{◌≡◌, ◌≢◌, ◌<◌, ◌↔◌, ◌⊎◌, ◌∷◌, ◌++◌, ℕ, List, [], Some, None, true, false, Ok, Err};
 ghost use Rattle.std.specs.Prelude.{bytes_eq, length};
-ghost use Rattle.smt_trees.specs.Sexp.{Sexp, Sexps};
+ghost use Rattle.smt_trees.specs.Sexp.{Sexp, Sexps, Atom, Decimal, Numeral};
 ghost use Rattle.smt_nodes.specs.Node.{Row};
-ghost use Rattle.smt_theory.specs.Sort.{Sort};
+ghost use Rattle.smt_theory.specs.Sort.{Sort, Int, Real};
+ghost use Rattle.smt_faults.specs.declared.term_flaw.TermFlaw.TheVariants.{Unknown, Unsupported};
 ghost use Rattle.smt_theory.specs.declared.theories.Theories.{Theories};
 ghost use Rattle.smt_terms.specs.Checking.{sort_in};
 ghost use Rattle.smt_terms.specs.Assertions.{asserted_in};
@@ -80,6 +81,23 @@ pub fn items_are_the_same_in_the_wide_profile()
     ensures { (script : Signature) (earlier : List Entry) (tree : Sexp) (e : Entry)
         → item_in script earlier tree ≡ Ok (Some e) → is_element_name (widened script) e.name ≡ false
         → item_in (widened script) earlier tree ≡ Ok (Some e) }
+{}
+
+/// A numeral is an integer where there are integers, and otherwise a real. A decimal is a real; where there are no
+/// reals, it is unknown in the wide profile, and not supported without it. This is a choice of this project.
+pub fn literals_are_integers_or_reals()
+    ensures integer { (names : Names) (scope : List (List ℕ × Sort)) (digits : List ℕ) → names.theories.ints ≡ true
+        → sort_in names scope (Atom Numeral digits) ≡ Ok Int }
+    ensures real { (names : Names) (scope : List (List ℕ × Sort)) (digits : List ℕ) → names.theories.ints ≡ false
+        → names.theories.reals ≡ true → sort_in names scope (Atom Numeral digits) ≡ Ok Real }
+    ensures decimal { (names : Names) (scope : List (List ℕ × Sort)) (digits : List ℕ)
+        → names.theories.reals ≡ true → sort_in names scope (Atom Decimal digits) ≡ Ok Real }
+    ensures unknown { (names : Names) (scope : List (List ℕ × Sort)) (digits : List ℕ)
+        → names.theories.reals ≡ false → names.theories.wide ≡ true
+        → sort_in names scope (Atom Decimal digits) ≡ Err Unknown }
+    ensures unsupported { (names : Names) (scope : List (List ℕ × Sort)) (digits : List ℕ)
+        → names.theories.reals ≡ false → names.theories.wide ≡ false
+        → sort_in names scope (Atom Decimal digits) ≡ Err Unsupported }
 {}
 
 /// A term keeps its sort over more names, if none of them hides an operator and labels are left out of account.

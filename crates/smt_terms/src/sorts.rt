@@ -45,8 +45,8 @@ impl SortNames {
         }
     }
 
-    /// The sort that a tree names, or what is wrong with it: `Form`, `Unsupported` for a sort of the standard,
-    /// `Unknown`, or `Index` for a width of bit vectors out of range.
+    /// The sort that a tree names, or what is wrong with it: `Form`, `Unsupported` for a sort of the standard that the
+    /// profile lacks, `Unknown`, or `Index` for a width of bit vectors out of range.
     pub(crate) fn sort_of(&self, tree: Tree<'_>) -> Result<Sort, TermFlaw>
         ensures { result ≡ sort_named (sort_names self.now) (sexp_of tree.entry) }
     {
@@ -200,7 +200,9 @@ fn sort_of_word(theories: Theories, name: &[u8]) -> Result<Sort, TermFlaw>
         Ok(Sort::bool())
     } else if is_named(name, b"Int") {
         integers(theories)
-    } else if is_named(name, b"Real") || is_named(name, b"String") {
+    } else if is_named(name, b"Real") {
+        reals(theories)
+    } else if is_named(name, b"String") {
         Err(TermFlaw::Unsupported)
     } else {
         Err(TermFlaw::Unknown)
@@ -212,6 +214,32 @@ fn integers(theories: Theories) -> Result<Sort, TermFlaw>
 {
     if theories.ints {
         Ok(Sort::int())
+    } else {
+        Err(TermFlaw::Unknown)
+    }
+}
+
+/// The sort `Real`, where there are reals.
+pub(crate) fn reals(theories: Theories) -> Result<Sort, TermFlaw>
+    ensures { result ≡ sorts.reals theories }
+{
+    if theories.reals {
+        Ok(Sort::real())
+    } else if theories.wide {
+        Err(TermFlaw::Unknown)
+    } else {
+        Err(TermFlaw::Unsupported)
+    }
+}
+
+/// The sort of numerals.
+pub(crate) fn numerals(theories: Theories) -> Result<Sort, TermFlaw>
+    ensures { result ≡ sorts.numerals theories }
+{
+    if theories.ints {
+        Ok(Sort::int())
+    } else if theories.reals {
+        Ok(Sort::real())
     } else {
         Err(TermFlaw::Unknown)
     }

@@ -3,7 +3,7 @@ use Rattle.std.proofs.Common.{◌≡◌, ℕ, ◌<◌, ◌≤◌, ◌^◌, ◌++
 use Rattle.std.proofs.Common.{Option, Some, None, Result, Ok, nat_lt, nat_le, refl, sym, subst}
 use Rattle.std.proofs.Common.{rules}
 use Rattle.std.specs.Prelude.{IsTrue, bytes_eq, codes, option_map, ok_or}
-use Rattle.std.specs.Option.{option_and_then, option_or}
+use Rattle.std.specs.Option.{option_and_then}
 use Rattle.std.specs.Str.Parse.{digits_value}
 use Rattle.std.proofs.Math.Pow.{pow_mono}
 use Rattle.std.proofs.lemmas.Slice.Eq.{bytes_eq-Decides}
@@ -36,7 +36,7 @@ use Rattle.smt_theory.specs.declared.op.BitsOp.TheVariants.{RotateLeft, RotateRi
 use Rattle.smt_theory.specs.declared.op.BitsUnary.TheVariants.{Not, Negate}
 use Rattle.smt_theory.specs.declared.op.Op.TheVariants.{Bits}
 use Rattle.smt_theory.specs.declared.op.OpFault.{OpFault}
-use Rattle.smt_theory.specs.declared.op.OpFault.TheVariants.{Unknown, Index as WrongIndex}
+use Rattle.smt_theory.specs.declared.op.OpFault.TheVariants.{Index as WrongIndex}
 use Rattle.smt_theory.specs.declared.theories.Theories.{Theories}
 
 -- a number that fits no word is no constant's
@@ -210,11 +210,7 @@ indexed_bits-own symbol indexes op =
 plain_found : (theories : Theories) (symbol : List ℕ) (op : BitsOp) → IsTrue theories.bits
     → core_named symbol ≡ None → ints_named symbol ≡ None → bits_named symbol ≡ Some op
     → op_by theories symbol [] ≡ Ok (Bits op)
-plain_found theories symbol op here core ints is = rw (core, ints, here, is) (by theories.ints)
-  where
-    by : (b : Bool) → ok_or (option_or (cond b None None) (Some (Bits op))) Unknown ≡ Ok (Bits op)
-    by true = refl
-    by false = refl
+plain_found theories symbol op here core ints is = rw (core, ints, here, is) refl
 
 indexed_found : (theories : Theories) (symbol : List ℕ) (i : IndexView) (indexes : List IndexView)
     (op : BitsOp) → IsTrue theories.bits → bytes_eq symbol (codes "divisible") ≡ false

@@ -1,11 +1,13 @@
 -- Digits are read from the left.
-use Rattle.std.proofs.Common.{◌≡◌, ℕ, ◌+◌, ◌*◌, ◌^◌, ◌<◌, ◌≤◌, Bool, true, false, cond, List, [], ◌∷◌, Some}
+use Rattle.std.proofs.Common.{◌≡◌, ◌==◌, not, ℕ, ◌+◌, ◌*◌, ◌^◌, ◌<◌, ◌≤◌, Bool, true, false, cond, List, [], ◌∷◌, Some}
 use Rattle.std.proofs.Common.{None, length, drop, get_or, nat_lt, refl, suc, sym, ap, ◌∙◌, add-one, drop-cons}
 use Rattle.std.proofs.Common.{arith, rules}
 use Rattle.std.proofs.Math.Nat.{mul-le-mul_left, pow-le-pow_right}
 use Rattle.std.proofs.lemmas.Bool.Decides.{nat_tests}
 use Rattle.std.specs.Char.{digit_value}
 use Rattle.std.specs.Str.Parse.{digits_value_after}
+use Rattle.std.specs.List.{filter}
+use Rattle.smt_theory.specs.Literals.{is_figure}
 use Rattle.smt_theory.specs.Numbers.{below_word}
 
 -- one digit more
@@ -56,3 +58,25 @@ pub small_fits : (n i : ℕ) → n + 3 ≤ 3 * 16 ^ i → i ≤ 15 → n < 2 ^ 6
 small_fits n i small few =
     let most : 16 ^ i ≤ 16 ^ 15 = pow-le-pow_right (omega arith) few in
     omega (arith, most, small)
+
+-- ---- a decimal
+
+-- where a byte is the point, it is left out
+pub point_at : (value : ℕ) (bytes : List ℕ) (i : ℕ) → i < length bytes → (get_or bytes i 0 == 46) ≡ true
+    → digits_value_after 10 value (filter is_figure (drop i bytes))
+    ≡ digits_value_after 10 value (filter is_figure (drop (i + 1) bytes))
+point_at value bytes i below point =
+    ap (λ xs. digits_value_after 10 value (filter is_figure xs))
+    (drop-cons bytes i 0 below ∙ ap (λ n. get_or bytes i 0 ∷ drop n bytes) (sym (add-one i)))
+    ∙ ap (λ b. digits_value_after 10 value (cond (not b) (get_or bytes i 0 ∷ filter is_figure (drop (i + 1) bytes))
+    (filter is_figure (drop (i + 1) bytes)))) point
+
+-- else it is a digit more
+pub figure_at : (value : ℕ) (bytes : List ℕ) (i : ℕ) → i < length bytes → (get_or bytes i 0 == 46) ≡ false
+    → digits_value_after 10 value (filter is_figure (drop i bytes))
+    ≡ digits_value_after 10 (value * 10 + digit_value (get_or bytes i 0)) (filter is_figure (drop (i + 1) bytes))
+figure_at value bytes i below figure =
+    ap (λ xs. digits_value_after 10 value (filter is_figure xs))
+    (drop-cons bytes i 0 below ∙ ap (λ n. get_or bytes i 0 ∷ drop n bytes) (sym (add-one i)))
+    ∙ ap (λ b. digits_value_after 10 value (cond (not b) (get_or bytes i 0 ∷ filter is_figure (drop (i + 1) bytes))
+    (filter is_figure (drop (i + 1) bytes)))) figure

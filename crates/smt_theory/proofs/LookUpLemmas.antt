@@ -2,7 +2,9 @@
 use Rattle.std.proofs.Common.{◌≡◌, ◌⊎◌, inl, inr, ℕ, Bool, true, false, cond, List, [], ◌∷◌, Option, Some}
 use Rattle.std.proofs.Common.{None, Ok, refl, ap, ◌∙◌, subst}
 use Rattle.std.specs.Prelude.{IsTrue, bytes_eq, find, option_map, ok_or}
+use Rattle.std.specs.Bool.{then_some}
 use Rattle.std.specs.Option.{option_or}
+use Rattle.smt_theory.specs.Words.{if_passes}
 use Rattle.std.proofs.lemmas.Slice.Eq.{bytes_eq-Decides}
 
 -- each element has the property
@@ -37,6 +39,15 @@ pub when-some : {A : Type 0} (b : Bool) (o : Option A) (x : A) → cond b o None
     → IsTrue b × (o ≡ Some x)
 when-some true o x h = (refl, h)
 when-some false o x h = cc
+
+pub passes-some : {A : Type 0} (test : A → Bool) (o : Option A) (x : A) → if_passes test o ≡ Some x
+    → IsTrue (test x) × (o ≡ Some x)
+passes-some test None x h = cc
+passes-some test (Some y) x h = by (test y) (λ e. e) h
+  where
+    by : (b : Bool) → (b ≡ true → test y ≡ true) → then_some b y ≡ Some x → IsTrue (test x) × (Some y ≡ Some x)
+    by true e h = (let is : y ≡ x = cc in subst (λ z. IsTrue (test z)) is (e refl), h)
+    by false e h = cc
 
 pub ok_or-Ok : {A F : Type 0} (o : Option A) (fault : F) (x : A) → ok_or o fault ≡ Ok x → o ≡ Some x
 ok_or-Ok None fault x h = cc

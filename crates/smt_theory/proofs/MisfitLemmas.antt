@@ -1,24 +1,28 @@
 -- Why an operator has no rank is told exactly where it has none.
-use Rattle.std.proofs.Common.{◌≡◌, ◌↔◌, ℕ, Bool, true, false, not, cond, List, [], ◌∷◌, Option}
-use Rattle.std.proofs.Common.{Some, None, length, map, nat_lt, nat_le, option_map, refl, sym, ap, subst, ◌∙◌}
+use Rattle.std.proofs.Common.{◌≡◌, ◌↔◌, inl, inr, ℕ, Bool, true, false, not, cond, ◌&&◌, List, [], ◌∷◌, Option}
+use Rattle.std.proofs.Common.{Some, None, is_some, length, map, nat_lt, nat_le, option_map, refl, sym, ap, subst, ◌∙◌}
 use Rattle.std.proofs.Common.{arith, rules}
 use Rattle.std.specs.List.{list_all, position, position_or_len}
 use Rattle.std.specs.Option.{option_or}
 use Rattle.std.proofs.lemmas.List.{length-map}
 use Rattle.std.proofs.lemmas.List.Sums.{AllPass-from_list_all, position_or_len_is}
-use Rattle.smt_theory.specs.Misfits.{argument, argument_misfit, counts_of, first_other, first_other_width}
+use Rattle.smt_theory.specs.Misfits.{argument, argument_misfit, counts_of, first_no_number, first_other}
+use Rattle.smt_theory.specs.Misfits.{first_other_width}
 use Rattle.smt_theory.specs.Misfits.{is_bits, misfit_by, unless_ranked}
-use Rattle.smt_theory.specs.Shapes.{AreOf, HasShape, counts, rank_by, takes_count}
-use Rattle.smt_theory.specs.Sort.{Sort, Boolean, Bits, is_same_sort}
+use Rattle.smt_theory.specs.Shapes.{AreNumbers, AreOf, HasShape, IsNumber, all_are, branch_sort, counts, rank_by}
+use Rattle.smt_theory.specs.Shapes.{takes_count}
+use Rattle.std.specs.Bool.{then_some}
+use Rattle.smt_theory.specs.Sort.{Sort, Boolean, Int, Real, Bits, is_number, is_same_sort}
 use Rattle.smt_theory.specs.declared.misfits.RankFlaw.{RankFlaw}
 use Rattle.smt_theory.specs.declared.misfits.RankFlaw.TheVariants.{Argument}
 use Rattle.smt_theory.specs.declared.misfits.Wanted.TheVariants.{Only, AnyBits}
 use Rattle.smt_theory.specs.declared.shapes.Arity.{Arity}
 use Rattle.smt_theory.specs.declared.shapes.Arity.TheVariants.{Several}
 use Rattle.smt_theory.specs.declared.shapes.Shape.{Shape}
-use Rattle.smt_theory.specs.declared.shapes.Shape.TheVariants.{Constant, Uniform, Alike, Choice, Vectors, Joined}
-use Rattle.smt_theory.specs.declared.shapes.Shape.TheVariants.{OutOfRange}
-use Rattle.smt_theory.proofs.RankLemmas.{are_of-Decides, both, first_is, is_same_sort-Decides, nat_le-Decides}
+use Rattle.smt_theory.specs.declared.shapes.Shape.TheVariants.{Constant, Uniform, Calculated, Numbers, Alike}
+use Rattle.smt_theory.specs.declared.shapes.Shape.TheVariants.{Choice, Vectors, Joined, OutOfRange}
+use Rattle.smt_theory.proofs.RankLemmas.{are_numbers-Decides, are_of-Decides, both, first_is, is_same_sort-Decides}
+use Rattle.smt_theory.proofs.RankLemmas.{is_number-Decides, nat_le-Decides}
 use Rattle.smt_theory.proofs.RankLemmas.{shape-row}
 
 -- ---- each argument fits
@@ -56,6 +60,63 @@ of_first arity sort first args h =
 is_same_self : (sort : Sort) → is_same_sort sort sort ≡ true
 is_same_self sort = (is_same_sort-Decides sort sort).1 refl
 
+-- arguments of a number's sort are numbers
+same_are_numbers : (sort : Sort) (args : List Sort) → is_number sort ≡ true → all_are sort args ≡ true
+    → list_all is_number args ≡ true
+same_are_numbers sort [] number h = refl
+same_are_numbers sort (a ∷ args) number h =
+    let passed = both (is_same_sort a sort) (all_are sort args) h in
+    let here : is_number a ≡ true = ap is_number ((is_same_sort-Decides a sort).0 passed.0) ∙ number in
+    rw here (same_are_numbers sort args number passed.1)
+
+numbers_fit : (arity : Arity) (sort : Sort) (args : List Sort) → AreNumbers arity args
+    → (takes_count (counts arity) (length args) ≡ true) × (first_no_number sort args ≡ None)
+numbers_fit arity sort args h =
+    let passed = both _ _ ((are_numbers-Decides arity args).1 h) in
+    (passed.0, ap (option_map (argument (Only sort))) (none_other is_number args passed.1))
+
+-- so many of a number's sort
+same_fit : (arity : Arity) (own sort : Sort) (args : List Sort) → is_number own ≡ true → AreOf arity own args
+    → (takes_count (counts arity) (length args) ≡ true) × (first_no_number sort args ≡ None)
+same_fit arity own sort args number h =
+    let passed = both _ _ ((are_of-Decides arity own args).1 h) in
+    (passed.0, ap (option_map (argument (Only sort))) (none_other is_number args (same_are_numbers own args number passed.1)))
+
+-- of two or more arguments of one sort
+alike_fit : (sort a : Sort) (args : List Sort) → AreOf Several sort (a ∷ args) → Fits Alike (a ∷ args)
+alike_fit sort a args h =
+    ((none_but Several sort (a ∷ args) h).0, by (is_number a) (λ e. e))
+  where
+    own : AreOf Several a (a ∷ args)
+    own = subst (λ s. AreOf Several s (a ∷ args)) (sym (first_is Several sort a args h)) h
+
+    by : (b : Bool) → (b ≡ true → is_number a ≡ true)
+        → cond b (first_no_number a (a ∷ args)) (first_other a (a ∷ args)) ≡ None
+    by true number = (same_fit Several a a (a ∷ args) (number refl) own).1
+    by false number = of_first Several sort a args h
+
+numbers_alike : (a : Sort) (args : List Sort) → AreNumbers Several (a ∷ args) → Fits Alike (a ∷ args)
+numbers_alike a args h =
+    let fit = numbers_fit Several a (a ∷ args) h in
+    let passed = both _ _ ((are_numbers-Decides Several (a ∷ args)).1 h) in
+    let first = both (is_number a) (list_all is_number args) passed.1 in
+    (fit.0, ap (λ b. cond b (first_no_number a (a ∷ args)) (first_other a (a ∷ args))) first.0 ∙ fit.1)
+
+-- two branches that a choice takes
+same_branch : (sort : Sort) → is_some (branch_sort sort sort) ≡ true
+same_branch sort = ap (λ b. is_some (cond b (Some sort) (then_some (is_number sort && is_number sort) Real)))
+    (is_same_self sort)
+
+mixed_branch : (a b : Sort) → IsNumber a → IsNumber b → is_some (branch_sort a b) ≡ true
+mixed_branch a b x y = by (is_same_sort a b) (is_number a) (is_number b) ((is_number-Decides a).1 x)
+    ((is_number-Decides b).1 y)
+  where
+    by : (same p q : Bool) → p ≡ true → q ≡ true → is_some (cond same (Some a) (then_some (p && q) Real)) ≡ true
+    by true p q h i = refl
+    by false true true h i = refl
+    by false true false h i = cc
+    by false false q h i = cc
+
 -- bit vectors are bit vectors
 all_bits : (widths : List ℕ) → list_all is_bits (map Bits widths) ≡ true
 all_bits [] = refl
@@ -73,12 +134,20 @@ width_fits arity m (a ∷ args) h =
 fits : (shape : Shape) (args : List Sort) (sort : Sort) → HasShape shape args sort → Fits shape args
 fits (Constant given) args sort h = subst (Fits (Constant given)) (sym h.0) (refl, refl)
 fits (Uniform arity of given) args sort h = none_but arity of args h.0
-fits Alike [] sort h = absurd (omega (arith, h.0.1.0))
+fits (Calculated arity) args sort h = elim h [
+  | inl a ↦ same_fit arity Int _ args refl a.0
+  | inr n ↦ numbers_fit arity _ args n.0
+]
+fits (Numbers arity given) args sort h = numbers_fit arity _ args h.0
+fits Alike [] sort h = absurd (elim h.0 [ inl a ↦ omega (arith, a.1.0) | inr n ↦ omega (arith, n.0) ])
 fits Alike (a ∷ args) sort h =
-    ((none_but Several h.0.0 (a ∷ args) h.0.1).0, of_first Several h.0.0 a args h.0.1)
-fits Choice args sort h =
-    subst (Fits Choice) (sym h)
-    (refl, ap (λ b. cond (not b) (Some (Argument 2 (Only sort))) None) (is_same_self sort))
+    elim h.0 [ inl one ↦ alike_fit one.0 a args one.1 | inr n ↦ numbers_alike a args n ]
+fits Choice args sort h = elim h [
+  | inl is ↦ subst (Fits Choice) (sym is)
+      (refl, ap (λ b. cond (not b) (Some (Argument 2 (Only sort))) None) (same_branch sort))
+  | inr m ↦ subst (Fits Choice) (sym m.2)
+      (refl, ap (λ b. cond (not b) (Some (Argument 2 (Only m.0))) None) (mixed_branch m.0 m.1 m.3.0 m.3.1))
+]
 fits (Vectors arity made) args sort h =
     ((none_but arity (Bits h.0) args h.1).0, width_fits arity h.0 args h.1)
 fits Joined args sort h =

@@ -1,5 +1,5 @@
 -- Why no operator is found: none has the name, or none with that name has the indexes.
-use Rattle.std.proofs.Common.{◌≡◌, ◌≢◌, ◌⊎◌, inl, inr, ℕ, ◌++◌, Bool, true, false, cond, ◌&&◌, List, [], ◌∷◌}
+use Rattle.std.proofs.Common.{◌≡◌, ◌≢◌, ◌⊎◌, inl, inr, ℕ, ◌++◌, Bool, true, false, cond, ◌&&◌, ◌||◌, List, [], ◌∷◌}
 use Rattle.std.proofs.Common.{Option, Some, None, Result, Ok, Err, refl, sym, ap}
 use Rattle.std.specs.Prelude.{IsTrue, bytes_eq, codes, ok_or}
 use Rattle.std.proofs.lemmas.Slice.Eq.{bytes_eq-Decides}
@@ -10,7 +10,7 @@ use Rattle.smt_theory.specs.Bits.{indexed_bits, indexed_constant, repeat_by}
 use Rattle.smt_theory.specs.Index.{IndexView}
 use Rattle.smt_theory.specs.Numbers.{is_numeral}
 use Rattle.smt_theory.specs.Operators.{IsIndexedName, IsNameOf, IsOfTheories, IsOperatorBy, IsOperatorOf}
-use Rattle.smt_theory.specs.Operators.{IsPlainName, indexed_op, indexes_of, op_by, plain_op}
+use Rattle.smt_theory.specs.Operators.{has_ints_op, IsPlainName, indexed_op, indexes_of, op_by, plain_op}
 use Rattle.smt_theory.specs.Ints.{divisible_by}
 use Rattle.smt_theory.specs.Words.{result_and_then}
 use Rattle.smt_theory.specs.declared.op.BitsOp.{BitsOp}
@@ -19,7 +19,7 @@ use Rattle.smt_theory.specs.declared.op.BitsOp.TheVariants.{Comparison as BitsCo
 use Rattle.smt_theory.specs.declared.op.BitsOp.TheVariants.{ZeroExtend, SignExtend, RotateLeft, RotateRight}
 use Rattle.smt_theory.specs.declared.op.IntsOp.TheVariants.{Arithmetic, Comparison, Mod, Abs, Divisible}
 use Rattle.smt_theory.specs.declared.op.Op.{Op}
-use Rattle.smt_theory.specs.declared.op.Op.TheVariants.{Core, Ints, Bits}
+use Rattle.smt_theory.specs.declared.op.Op.TheVariants.{Core, Ints, Reals, Bits}
 use Rattle.smt_theory.specs.declared.op.OpFault.{OpFault}
 use Rattle.smt_theory.specs.declared.op.OpFault.TheVariants.{Unknown, Index as WrongIndex}
 use Rattle.smt_theory.specs.declared.theories.Theories.{Theories}
@@ -31,7 +31,8 @@ of_theories theories (Ints (Arithmetic op)) h = h
 of_theories theories (Ints (Comparison op)) h = h
 of_theories theories (Ints Mod) h = h
 of_theories theories (Ints Abs) h = h
-of_theories theories (Ints (Divisible n)) h = h.0
+of_theories theories (Ints (Divisible n)) h = rw h.0 refl
+of_theories theories (Reals op) h = h
 of_theories theories (Bits op) h = h.0
 
 plain_in_range : (op : BitsOp) → bits_indexes op ≡ [] → AreInRange op
@@ -57,6 +58,7 @@ plain_of theories (Ints (Comparison op)) h e = h
 plain_of theories (Ints Mod) h e = h
 plain_of theories (Ints Abs) h e = h
 plain_of theories (Ints (Divisible n)) h e = cc
+plain_of theories (Reals op) h e = h
 plain_of theories (Bits op) h e = (h, plain_in_range op e)
 
 -- ---- without indexes
@@ -127,6 +129,15 @@ bits_named_made theories symbol (Binary op) indexes here h some = absurd (some r
 bits_named_made theories symbol (BitsComparison op) indexes here h some = absurd (some refl)
 bits_named_made theories symbol Comp indexes here h some = absurd (some refl)
 
+-- `divisible` is there with Ints alone
+with_ints : (theories : Theories) (n : ℕ) → IsTrue (has_ints_op theories (Divisible n)) → IsTrue theories.ints
+with_ints theories n h = by theories.ints theories.reals h
+  where
+    by : (ints reals : Bool) → (ints || reals && false) ≡ true → ints ≡ true
+    by true reals h = refl
+    by false true h = cc
+    by false false h = cc
+
 named_made : (theories : Theories) (symbol : List ℕ) (indexes : List IndexView)
     → IsIndexedName theories symbol → Made (indexed_op theories symbol indexes)
 named_made theories symbol indexes name = by name.0 name.1 name.2 name.3
@@ -138,7 +149,8 @@ named_made theories symbol indexes name = by name.0 name.1 name.2 name.3
     by (Ints (Comparison op)) of is some = absurd (some refl)
     by (Ints Mod) of is some = absurd (some refl)
     by (Ints Abs) of is some = absurd (some refl)
-    by (Ints (Divisible n)) of is some = rw (is, of) (divisible_by indexes, refl)
+    by (Ints (Divisible n)) of is some = rw (is, with_ints theories n of) (divisible_by indexes, refl)
+    by (Reals op) of is some = absurd (some refl)
     by (Bits op) of is some = bits_named_made theories symbol op indexes of is some
 
 -- ---- any other name is unknown
@@ -193,7 +205,7 @@ told theories symbol indexes = by theories.ints (bytes_eq symbol (codes "divisib
         → IsTold theories symbol
         (cond (ints && named) (ok_or (divisible_by indexes) WrongIndex)
         (cond bits (result_and_then (indexed_bits symbol indexes) (λ op. Ok (Bits op))) (Err Unknown)))
-    by true true bits i n b = inr (Ints (Divisible 0), i refl, n refl, λ e. cc)
+    by true true bits i n b = inr (Ints (Divisible 0), rw (i refl) refl, n refl, λ e. cc)
     by true false bits i n b = or_bits bits b
     by false named bits i n b = or_bits bits b
 

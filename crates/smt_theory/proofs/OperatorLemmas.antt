@@ -1,21 +1,26 @@
 -- Operators are found by their own names and indexes, and by no others.
-use Rattle.std.proofs.Common.{◌≡◌, inl, inr, ℕ, ◌<◌, Bool, true, false, cond, ◌&&◌, List, [], ◌∷◌, Option}
+use Rattle.std.proofs.Common.{◌≡◌, inl, inr, ℕ, ◌<◌, Bool, true, false, cond, ◌&&◌, ◌||◌, List, [], ◌∷◌, Option}
 use Rattle.std.proofs.Common.{Some, None, Result, Ok, Err, length, map, nat_eq, nat_lt, refl, sym, subst}
 use Rattle.std.proofs.Common.{rules}
 use Rattle.std.specs.Prelude.{IsTrue, bytes_eq, codes, option_map, ok_or}
+use Rattle.std.specs.Option.{option_or}
+use Rattle.smt_theory.specs.declared.op.RealsOp.{RealsOp}
+use Rattle.smt_theory.specs.declared.op.RealsOp.TheVariants.{Divide, ToReal, ToInt, IsInt}
 use Rattle.std.proofs.lemmas.Slice.Eq.{bytes_eq-Decides}
 use Rattle.smt_theory.proofs.BitsOperatorLemmas.{bits_found, indexed_bits-own}
-use Rattle.smt_theory.proofs.LookUpLemmas.{Each, find_named, map-some, ok_or-Ok, option_or-some, when-some}
+use Rattle.smt_theory.proofs.LookUpLemmas.{Each, find_named, map-some, ok_or-Ok, option_or-some, passes-some}
+use Rattle.smt_theory.proofs.LookUpLemmas.{when-some}
 use Rattle.smt_theory.specs.Bits.{AreInRange, IsBitsName, bits_indexes, bits_name, bits_named}
 use Rattle.smt_theory.specs.Bits.{bits_plain, indexed_bits}
 use Rattle.smt_theory.specs.Core.{core_name, core_plain, core_named}
 use Rattle.smt_theory.specs.Ints.{ints_name, ints_plain, ints_named}
-use Rattle.smt_theory.specs.Operators.{plain_op, indexed_op, op_by, indexes_of, IsNameOf}
+use Rattle.smt_theory.specs.Operators.{plain_op, indexed_op, op_by, indexes_of, has_ints_op, IsNameOf}
+use Rattle.smt_theory.specs.Reals.{has_reals_op, is_of_reals, reals_name, reals_named, reals_plain}
 use Rattle.smt_theory.specs.Ints.{divisible_by}
 use Rattle.smt_theory.specs.Operators.{IsOperatorOf}
 use Rattle.smt_theory.specs.Index.{IndexView, index_view}
 use Rattle.smt_theory.specs.Index.{Number, Large, Name}
-use Rattle.smt_theory.specs.Words.{result_and_then}
+use Rattle.smt_theory.specs.Words.{if_passes, result_and_then}
 use Rattle.smt_theory.specs.declared.index.Index.{Index}
 use Rattle.smt_theory.specs.declared.op.Arithmetic.TheVariants.{Minus, Plus, Times, Div}
 use Rattle.smt_theory.specs.declared.op.BitsOp.{BitsOp}
@@ -26,7 +31,7 @@ use Rattle.smt_theory.specs.declared.op.CoreOp.TheVariants.{Distinct, Ite}
 use Rattle.smt_theory.specs.declared.op.IntsOp.{IntsOp}
 use Rattle.smt_theory.specs.declared.op.IntsOp.TheVariants.{Arithmetic, Comparison, Mod, Abs, Divisible}
 use Rattle.smt_theory.specs.declared.op.Op.{Op}
-use Rattle.smt_theory.specs.declared.op.Op.TheVariants.{Core, Ints, Bits}
+use Rattle.smt_theory.specs.declared.op.Op.TheVariants.{Core, Ints, Reals, Bits}
 use Rattle.smt_theory.specs.declared.op.OpFault.{OpFault}
 use Rattle.smt_theory.specs.declared.op.OpFault.TheVariants.{Unknown, Index as WrongIndex}
 use Rattle.smt_theory.specs.declared.theories.Theories.{Theories}
@@ -42,9 +47,10 @@ op_by_indexed theories symbol (index ∷ indexes) h = refl
 abbrev IsFound : Theories → List ℕ → List IndexView → Op → Type 0
 IsFound theories symbol indexes op = IsOperatorOf theories op × IsNameOf op symbol × (indexes ≡ indexes_of op)
 
--- a plain operator of Ints has no indexes, and is one wherever that theory is
+-- a plain operator of Ints has no indexes, and is one wherever it is there
 abbrev IsPlain : Theories → IntsOp → Type 0
-IsPlain theories op = (indexes_of (Ints op) ≡ []) × (IsTrue theories.ints → IsOperatorOf theories (Ints op))
+IsPlain theories op =
+    (indexes_of (Ints op) ≡ []) × (IsTrue (has_ints_op theories op) → IsOperatorOf theories (Ints op))
 
 each_plain : (theories : Theories) → Each (IsPlain theories) ints_plain
 each_plain theories = search rules
@@ -56,13 +62,24 @@ core_own theories symbol op h =
     subst (λ op. IsFound theories symbol [] op) found.2
     (tt, (find_named core_name (λ _. Unit {0}) symbol core_plain found.0 (search rules) found.1).0, refl)
 
-ints_own : (theories : Theories) (symbol : List ℕ) (op : Op) → IsTrue theories.ints
-    → option_map Ints (ints_named symbol) ≡ Some op → IsFound theories symbol [] op
-ints_own theories symbol op ints h =
-    let found = map-some Ints (ints_named symbol) op h in
-    let own = find_named ints_name (IsPlain theories) symbol ints_plain found.0 (each_plain theories) found.1
+ints_own : (theories : Theories) (symbol : List ℕ) (op : Op)
+    → option_map Ints (if_passes (has_ints_op theories) (ints_named symbol)) ≡ Some op
+    → IsFound theories symbol [] op
+ints_own theories symbol op h =
+    let found = map-some Ints (if_passes (has_ints_op theories) (ints_named symbol)) op h in
+    let passed = passes-some (has_ints_op theories) (ints_named symbol) found.0 found.1 in
+    let own = find_named ints_name (IsPlain theories) symbol ints_plain found.0 (each_plain theories) passed.1
     in
-    subst (λ op. IsFound theories symbol [] op) found.2 (own.1.1 ints, own.0, sym own.1.0)
+    subst (λ op. IsFound theories symbol [] op) found.2 (own.1.1 passed.0, own.0, sym own.1.0)
+
+reals_own : (theories : Theories) (symbol : List ℕ) (op : Op)
+    → option_map Reals (if_passes (has_reals_op theories) (reals_named symbol)) ≡ Some op
+    → IsFound theories symbol [] op
+reals_own theories symbol op h =
+    let found = map-some Reals (if_passes (has_reals_op theories) (reals_named symbol)) op h in
+    let passed = passes-some (has_reals_op theories) (reals_named symbol) found.0 found.1 in
+    let own = find_named reals_name (λ _. Unit {0}) symbol reals_plain found.0 (search rules) passed.1 in
+    subst (λ op. IsFound theories symbol [] op) found.2 (passed.0, own.0, refl)
 
 -- a plain operator on bit vectors is in range without indexes
 abbrev IsPlainBits : BitsOp → Type 0
@@ -85,11 +102,13 @@ plain_own theories symbol op h =
     elim (option_or-some (option_map Core (core_named symbol)) _ op
     (ok_or-Ok (plain_op theories symbol) Unknown op h)) [
       | inl e ↦ core_own theories symbol op e
-      | inr e ↦ elim (option_or-some (cond theories.ints (option_map Ints (ints_named symbol)) None) _ op e) [
-        | inl e ↦ (let own = when-some theories.ints (option_map Ints (ints_named symbol)) op e
-            in ints_own theories symbol op own.0 own.1)
-        | inr e ↦ (let own = when-some theories.bits (option_map Bits (bits_named symbol)) op e
-            in bits_own theories symbol op own.0 own.1)
+      | inr e ↦ elim (option_or-some (option_map Ints (if_passes (has_ints_op theories) (ints_named symbol))) _ op e) [
+        | inl e ↦ ints_own theories symbol op e
+        | inr e ↦ elim (option_or-some (cond theories.bits (option_map Bits (bits_named symbol)) None) _ op e) [
+          | inl e ↦ (let own = when-some theories.bits (option_map Bits (bits_named symbol)) op e
+              in bits_own theories symbol op own.0 own.1)
+          | inr e ↦ reals_own theories symbol op e
+        ]
       ]
     ]
 
@@ -183,9 +202,36 @@ ints_found theories (Comparison Greater) h = rw h refl
 ints_found theories (Divisible n) h =
     let positive : nat_lt 0 n ≡ true = (let below = h.1 in search rules) in rw (h.0, positive) refl
 
+reals_found : (theories : Theories) (op : RealsOp) → IsOperatorOf theories (Reals op)
+    → op_by theories (reals_name op) [] ≡ Ok (Reals op)
+reals_found theories Divide h = by theories.ints theories.bits
+  where
+    by : (ints bits : Bool) → ok_or (option_or (option_map Ints (if_passes (λ op. ints || theories.reals && is_of_reals op) None))
+        (option_or (cond bits None None) (option_map Reals (if_passes (has_reals_op theories) (Some Divide))))) Unknown ≡ Ok (Reals Divide)
+    by true true = rw h refl
+    by true false = rw h refl
+    by false true = rw h refl
+    by false false = rw h refl
+reals_found theories ToReal h = by theories.bits
+  where
+    by : (bits : Bool) → ok_or (option_or (cond bits None None) (option_map Reals (if_passes (has_reals_op theories) (Some ToReal)))) Unknown ≡ Ok (Reals ToReal)
+    by true = rw h refl
+    by false = rw h refl
+reals_found theories ToInt h = by theories.bits
+  where
+    by : (bits : Bool) → ok_or (option_or (cond bits None None) (option_map Reals (if_passes (has_reals_op theories) (Some ToInt)))) Unknown ≡ Ok (Reals ToInt)
+    by true = rw h refl
+    by false = rw h refl
+reals_found theories IsInt h = by theories.bits
+  where
+    by : (bits : Bool) → ok_or (option_or (cond bits None None) (option_map Reals (if_passes (has_reals_op theories) (Some IsInt)))) Unknown ≡ Ok (Reals IsInt)
+    by true = rw h refl
+    by false = rw h refl
+
 pub op_by-name : (theories : Theories) (symbol : List ℕ) (indexes : List IndexView) (op : Op)
     → IsOperatorOf theories op × IsNameOf op symbol × (indexes ≡ indexes_of op)
     → op_by theories symbol indexes ≡ Ok op
 op_by-name theories symbol indexes (Core op) h = rw (h.1, h.2) (core_found theories op)
 op_by-name theories symbol indexes (Ints op) h = rw (h.1, h.2) (ints_found theories op h.0)
+op_by-name theories symbol indexes (Reals op) h = rw (h.1, h.2) (reals_found theories op h.0)
 op_by-name theories symbol indexes (Bits op) h = rw h.2 (bits_found theories symbol op h.0.0 h.0.1 h.1)

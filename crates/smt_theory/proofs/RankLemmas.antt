@@ -1,41 +1,52 @@
 -- Tests of sorts, and the ranks that are computed beside the table, shape by shape.
-use Rattle.std.proofs.Common.{◌≡◌, ◌↔◌, ℕ, ◌+◌, ◌-◌, ◌*◌, ◌<◌, ◌≤◌, ◌==◌, Bool, true, false, cond, ◌&&◌, List, []}
-use Rattle.std.proofs.Common.{◌∷◌, Option, Some, None, length, map, get_or, nat_lt, nat_le, option_map, refl, sym}
+use Rattle.std.proofs.Common.{◌≡◌, ◌↔◌, ◌⊎◌, inl, inr, ℕ, ◌+◌, ◌-◌, ◌*◌, ◌<◌, ◌≤◌, ◌==◌, Bool, true, false, cond, ◌&&◌, ◌||◌, List}
+use Rattle.std.proofs.Common.{[], ◌∷◌, Option, Some, None, length, map, get_or, nat_lt, nat_le, option_map, refl, sym}
 use Rattle.std.proofs.Common.{ap, ◌∙◌, subst, arith, rules}
 use Rattle.std.specs.Prelude.{All}
 use Rattle.std.specs.Bool.{Decides, then_some}
-use Rattle.std.specs.List.{sum}
+use Rattle.std.specs.List.{list_all, sum}
 use Rattle.std.specs.Option.{option_and_then}
 use Rattle.std.proofs.lemmas.Bool.Decides.{Decides-eqb}
 use Rattle.std.proofs.lemmas.List.Sums.{AllPass-from_list_all, list_all-from_AllPass, sum_by-cons}
 use Rattle.std.proofs.lemmas.Slice.Eq.{slice_eq-Decides}
-use Rattle.smt_theory.specs.Shapes.{AreOf, HasShape, IsMade, all_are, are_alike, are_exactly, are_of, choice_rank}
+use Rattle.smt_theory.specs.Shapes.{AreNumbers, AreOf, HasShape, IsCount, IsMade, IsNumber, all_are, are_alike}
+use Rattle.smt_theory.specs.Shapes.{are_exactly, are_numbers, are_of, calculated_rank, choice_rank, counts}
+use Rattle.smt_theory.specs.Shapes.{takes_count}
 use Rattle.smt_theory.specs.Shapes.{common_width, joined_width, made_by, rank_by, slice_width, times_width}
 use Rattle.smt_theory.specs.Shapes.{width_behind, within_limit}
-use Rattle.smt_theory.specs.Sort.{Sort, Boolean, Int, Bits, Free, is_same_sort}
+use Rattle.smt_theory.specs.Sort.{Sort, Boolean, Int, Real, Bits, Free, is_number, is_same_sort}
 use Rattle.smt_theory.specs.declared.shapes.Arity.{Arity}
 use Rattle.smt_theory.specs.declared.shapes.Arity.TheVariants.{One, Two, OneOrMore, Several}
 use Rattle.smt_theory.specs.declared.shapes.Made.{Made}
 use Rattle.smt_theory.specs.declared.shapes.Made.TheVariants.{Same, Given, Slice, Times, Longer}
 use Rattle.smt_theory.specs.declared.shapes.Shape.{Shape}
-use Rattle.smt_theory.specs.declared.shapes.Shape.TheVariants.{Constant, Uniform, Alike, Choice, Vectors, Joined}
-use Rattle.smt_theory.specs.declared.shapes.Shape.TheVariants.{OutOfRange}
+use Rattle.smt_theory.specs.declared.shapes.Shape.TheVariants.{Constant, Uniform, Calculated, Numbers, Alike}
+use Rattle.smt_theory.specs.declared.shapes.Shape.TheVariants.{Choice, Vectors, Joined, OutOfRange}
 
 pub is_same_sort-Decides : (a b : Sort) → Decides (is_same_sort a b) (a ≡ b)
 is_same_sort-Decides Boolean Boolean = (λ _. refl, λ _. refl)
 is_same_sort-Decides Boolean Int = (λ h. cc, λ h. cc)
+is_same_sort-Decides Boolean Real = (λ h. cc, λ h. cc)
 is_same_sort-Decides Boolean (Bits n) = (λ h. cc, λ h. cc)
 is_same_sort-Decides Boolean (Free n) = (λ h. cc, λ h. cc)
 is_same_sort-Decides Int Boolean = (λ h. cc, λ h. cc)
 is_same_sort-Decides Int Int = (λ _. refl, λ _. refl)
+is_same_sort-Decides Int Real = (λ h. cc, λ h. cc)
 is_same_sort-Decides Int (Bits n) = (λ h. cc, λ h. cc)
 is_same_sort-Decides Int (Free n) = (λ h. cc, λ h. cc)
+is_same_sort-Decides Real Boolean = (λ h. cc, λ h. cc)
+is_same_sort-Decides Real Int = (λ h. cc, λ h. cc)
+is_same_sort-Decides Real Real = (λ _. refl, λ _. refl)
+is_same_sort-Decides Real (Bits n) = (λ h. cc, λ h. cc)
+is_same_sort-Decides Real (Free n) = (λ h. cc, λ h. cc)
 is_same_sort-Decides (Bits m) Boolean = (λ h. cc, λ h. cc)
 is_same_sort-Decides (Bits m) Int = (λ h. cc, λ h. cc)
+is_same_sort-Decides (Bits m) Real = (λ h. cc, λ h. cc)
 is_same_sort-Decides (Bits m) (Bits n) = (λ h. ap Bits ((Decides-eqb m n).0 h), λ h. (Decides-eqb m n).1 (cc))
 is_same_sort-Decides (Bits m) (Free n) = (λ h. cc, λ h. cc)
 is_same_sort-Decides (Free m) Boolean = (λ h. cc, λ h. cc)
 is_same_sort-Decides (Free m) Int = (λ h. cc, λ h. cc)
+is_same_sort-Decides (Free m) Real = (λ h. cc, λ h. cc)
 is_same_sort-Decides (Free m) (Bits n) = (λ h. cc, λ h. cc)
 is_same_sort-Decides (Free m) (Free n) = (λ h. ap Free ((Decides-eqb m n).0 h), λ h. (Decides-eqb m n).1 (cc))
 
@@ -122,6 +133,61 @@ none_are Two sort h = absurd_of h
 none_are OneOrMore sort h = let some = h.0 in omega arith
 none_are Several sort h = let some = h.0 in omega arith
 
+-- ---- numbers
+
+pub is_number-Decides : (sort : Sort) → Decides (is_number sort) (IsNumber sort)
+is_number-Decides Boolean = (λ h. cc, λ h. elim h [ inl e ↦ cc | inr e ↦ cc ])
+is_number-Decides Int = (λ h. inl refl, λ h. refl)
+is_number-Decides Real = (λ h. inr refl, λ h. refl)
+is_number-Decides (Bits n) = (λ h. cc, λ h. elim h [ inl e ↦ cc | inr e ↦ cc ])
+is_number-Decides (Free n) = (λ h. cc, λ h. elim h [ inl e ↦ cc | inr e ↦ cc ])
+
+all_numbers-Decides : (args : List Sort) → Decides (list_all is_number args) (All IsNumber args)
+all_numbers-Decides args = (
+  λ h k d below. (is_number-Decides (get_or args k d)).0 (AllPass-from_list_all is_number args h k d below),
+  λ h. list_all-from_AllPass is_number args (λ k d below. (is_number-Decides (get_or args k d)).1 (h k d below)),
+)
+
+count-Decides : (arity : Arity) (n : ℕ) → Decides (takes_count (counts arity) n) (IsCount arity n)
+count-Decides One n = Decides-eqb n 1
+count-Decides Two n = Decides-eqb n 2
+count-Decides OneOrMore n = nat_le-Decides 1 n
+count-Decides Several n = nat_le-Decides 2 n
+
+pub are_numbers-Decides : (arity : Arity) (args : List Sort) → Decides (are_numbers arity args) (AreNumbers arity args)
+are_numbers-Decides arity args =
+    Decides-and (takes_count (counts arity) (length args)) _ (count-Decides arity (length args))
+    (all_numbers-Decides args)
+
+calculated-row : (arity : Arity) (args : List Sort) (sort : Sort) → (calculated_rank arity args ≡ Some sort)
+    ↔ HasShape (Calculated arity) args sort
+calculated-row arity args sort =
+    by (are_of arity Int args) (are_numbers arity args) (are_of-Decides arity Int args) (are_numbers-Decides arity args)
+  where
+    by : (p q : Bool) → Decides p (AreOf arity Int args) → Decides q (AreNumbers arity args)
+        → (cond p (Some Int) (then_some q Real) ≡ Some sort) ↔ HasShape (Calculated arity) args sort
+    by true q d e = (
+      λ h. inl (d.0 refl, cc),
+      λ h. elim h [ inl a ↦ (let is = a.1 in cc) | inr n ↦ absurd (n.1 (d.0 refl)) ],
+    )
+    by false true d e = (
+      λ h. inr (e.0 refl, (λ a. let x : false ≡ true = d.1 a in cc), cc),
+      λ h. elim h [ inl a ↦ (let x : false ≡ true = d.1 a.0 in cc) | inr n ↦ (let is = n.2 in cc) ],
+    )
+    by false false d e = (
+      λ h. cc,
+      λ h. elim h [
+        | inl a ↦ (let x : false ≡ true = d.1 a.0 in cc)
+        | inr n ↦ (let x : false ≡ true = e.1 n.0 in cc)
+      ],
+    )
+
+-- of two tests of which one passes
+Decides-or : {P Q : Type 0} (p q : Bool) → Decides p P → Decides q Q → Decides (p || q) (P ⊎ Q)
+Decides-or true q d e = (λ h. inl (d.0 refl), λ h. refl)
+Decides-or false q d e =
+    (λ h. inr (e.0 h), λ h. elim h [ inl x ↦ (let y : false ≡ true = d.1 x in cc) | inr y ↦ e.1 y ])
+
 alike-Decides : (args : List Sort) → Decides (are_alike args) ((sort : Sort) × AreOf Several sort args)
 alike-Decides [] = (λ h. cc, λ h. absurd (none_are Several h.0 h.1))
 alike-Decides (arg ∷ args) = (
@@ -142,18 +208,53 @@ row false given sort d = (λ h. cc, λ h. absurd (none (d.1 h.0)))
     none h = cc
 
 choice-row : (args : List Sort) (sort : Sort) → (choice_rank args ≡ Some sort) ↔ HasShape Choice args sort
-choice-row [] sort = (λ h. cc, λ h. cc)
-choice-row (a ∷ []) sort = (λ h. cc, λ h. cc)
-choice-row (a ∷ b ∷ []) sort = (λ h. cc, λ h. cc)
-choice-row (a ∷ b ∷ c ∷ d ∷ args) sort = (λ h. cc, λ h. cc)
+choice-row [] sort = (λ h. cc, λ h. elim h [ inl e ↦ cc | inr m ↦ (let e = m.2 in cc) ])
+choice-row (a ∷ []) sort = (λ h. cc, λ h. elim h [ inl e ↦ cc | inr m ↦ (let e = m.2 in cc) ])
+choice-row (a ∷ b ∷ []) sort = (λ h. cc, λ h. elim h [ inl e ↦ cc | inr m ↦ (let e = m.2 in cc) ])
+choice-row (a ∷ b ∷ c ∷ d ∷ args) sort = (λ h. cc, λ h. elim h [ inl e ↦ cc | inr m ↦ (let e = m.2 in cc) ])
 choice-row (a ∷ b ∷ c ∷ []) sort =
-    by (is_same_sort a Boolean && is_same_sort b c)
-    (Decides-and _ _ (is_same_sort-Decides a Boolean) (is_same_sort-Decides b c))
+    by (is_same_sort a Boolean) (is_same_sort b c) (is_number b && is_number c) (is_same_sort-Decides a Boolean)
+    (is_same_sort-Decides b c) (Decides-and _ _ (is_number-Decides b) (is_number-Decides c))
   where
-    by : (t : Bool) → Decides t ((a ≡ Boolean) × (b ≡ c)) → (cond t (Some b) None ≡ Some sort)
-        ↔ (a ∷ b ∷ c ∷ [] ≡ Boolean ∷ sort ∷ sort ∷ [])
-    by true d = (λ h. let e = d.0 refl in cc, λ h. cc)
-    by false d = (λ h. cc, λ h. let e : false ≡ true = d.1 (cc, cc) in cc)
+    by : (t u v : Bool) → Decides t (a ≡ Boolean) → Decides u (b ≡ c) → Decides v (IsNumber b × IsNumber c)
+        → (cond t (cond u (Some b) (then_some v Real)) None ≡ Some sort) ↔ HasShape Choice (a ∷ b ∷ c ∷ []) sort
+    by true true v d e f = (
+      λ h. inl (let x = d.0 refl in let y = e.0 refl in cc),
+      λ h. elim h [
+        | inl is ↦ cc
+        | inr m ↦ absurd (m.3.2 (let x = e.0 refl in let is = m.2 in cc))
+      ],
+    )
+    by true false true d e f = (
+      λ h. inr (b, c, (let x = d.0 refl in cc), ((f.0 refl).0, (f.0 refl).1, λ y. let z : false ≡ true = e.1 y in cc), cc),
+      λ h. elim h [
+        | inl is ↦ (let z : false ≡ true = e.1 (cc) in cc)
+        | inr m ↦ (let is = m.4 in cc)
+      ],
+    )
+    by true false false d e f = (
+      λ h. cc,
+      λ h. elim h [
+        | inl is ↦ (let z : false ≡ true = e.1 (cc) in cc)
+        | inr m ↦ (let z : false ≡ true = f.1 (
+          subst IsNumber (first m.0 m.1 m.2) m.3.0,
+          subst IsNumber (second m.0 m.1 m.2) m.3.1,
+        ) in cc)
+      ],
+    )
+      where
+        first : (x y : Sort) → a ∷ b ∷ c ∷ [] ≡ Boolean ∷ x ∷ y ∷ [] → x ≡ b
+        first x y is = cc
+
+        second : (x y : Sort) → a ∷ b ∷ c ∷ [] ≡ Boolean ∷ x ∷ y ∷ [] → y ≡ c
+        second x y is = cc
+    by false u v d e f = (
+      λ h. cc,
+      λ h. elim h [
+        | inl is ↦ (let z : false ≡ true = d.1 (cc) in cc)
+        | inr m ↦ (let z : false ≡ true = d.1 (let is = m.2 in cc) in cc)
+      ],
+    )
 
 -- ---- shapes with widths
 
@@ -163,6 +264,7 @@ common_width-is : (arity : Arity) (args : List Sort) (m : ℕ) → (common_width
 common_width-is arity [] m = (λ h. cc, λ h. absurd (none_are arity (Bits m) h))
 common_width-is arity (Boolean ∷ args) m = (λ h. cc, λ h. let e = first_is arity (Bits m) Boolean args h in cc)
 common_width-is arity (Int ∷ args) m = (λ h. cc, λ h. let e = first_is arity (Bits m) Int args h in cc)
+common_width-is arity (Real ∷ args) m = (λ h. cc, λ h. let e = first_is arity (Bits m) Real args h in cc)
 common_width-is arity (Free f ∷ args) m = (λ h. cc, λ h. let e = first_is arity (Bits m) (Free f) args h in cc)
 common_width-is arity (Bits n ∷ args) m =
     by (are_of arity (Bits n) (Bits n ∷ args)) (are_of-Decides arity (Bits n) (Bits n ∷ args))
@@ -249,6 +351,7 @@ width_behind-own [] before width h = (
 )
 width_behind-own (Boolean ∷ args) before width h = cc
 width_behind-own (Int ∷ args) before width h = cc
+width_behind-own (Real ∷ args) before width h = cc
 width_behind-own (Free f ∷ args) before width h = cc
 width_behind-own (Bits m ∷ args) before width h = by (nat_le (before + m) 128)
     (nat_le-Decides (before + m) 128).0 (width_behind-own args (before + m) width) h
@@ -285,10 +388,12 @@ joined-own : (args : List Sort) (width : ℕ) → joined_width args ≡ Some wid
 joined-own [] width h = cc
 joined-own (Boolean ∷ args) width h = cc
 joined-own (Int ∷ args) width h = cc
+joined-own (Real ∷ args) width h = cc
 joined-own (Free f ∷ args) width h = cc
 joined-own (Bits m ∷ []) width h = cc
 joined-own (Bits m ∷ Boolean ∷ args) width h = cc
 joined-own (Bits m ∷ Int ∷ args) width h = cc
+joined-own (Bits m ∷ Real ∷ args) width h = cc
 joined-own (Bits m ∷ Free f ∷ args) width h = cc
 joined-own (Bits m ∷ Bits n ∷ args) width h = by (nat_le (m + n) 128) (nat_le-Decides (m + n) 128).0 h
   where
@@ -337,7 +442,11 @@ pub shape-row : (shape : Shape) (args : List Sort) (sort : Sort) → (rank_by sh
     ↔ HasShape shape args sort
 shape-row (Constant given) args sort = row (are_exactly [] args) given sort (are_exactly-Decides [] args)
 shape-row (Uniform arity of given) args sort = row (are_of arity of args) given sort (are_of-Decides arity of args)
-shape-row Alike args sort = row (are_alike args) Boolean sort (alike-Decides args)
+shape-row (Calculated arity) args sort = calculated-row arity args sort
+shape-row (Numbers arity given) args sort = row (are_numbers arity args) given sort (are_numbers-Decides arity args)
+shape-row Alike args sort =
+    row (are_alike args || are_numbers Several args) Boolean sort
+    (Decides-or (are_alike args) (are_numbers Several args) (alike-Decides args) (are_numbers-Decides Several args))
 shape-row Choice args sort = choice-row args sort
 shape-row (Vectors arity made) args sort = vectors-row arity made args sort
 shape-row Joined args sort = joined-row args sort

@@ -11,7 +11,7 @@ use Rattle.smt_theory.specs.declared.op.Op.{Op}
 use Rattle.smt_theory.specs.declared.op.Op.TheVariants.{Ints}
 use Rattle.smt_theory.specs.declared.shapes.Arity.TheVariants.{One, Two, OneOrMore, Several}
 use Rattle.smt_theory.specs.declared.shapes.Shape.{Shape}
-use Rattle.smt_theory.specs.declared.shapes.Shape.TheVariants.{Uniform, OutOfRange}
+use Rattle.smt_theory.specs.declared.shapes.Shape.TheVariants.{Uniform, Calculated, Numbers, OutOfRange}
 
 abbrev pub ints_name : IntsOp → List ℕ
 ints_name (Arithmetic Minus) = codes "-"
@@ -42,11 +42,11 @@ divisible_by _ = None
 
 -- how each takes its arguments
 abbrev pub ints_shape : IntsOp → Shape
-ints_shape (Arithmetic Minus) = Uniform OneOrMore Int Int
-ints_shape (Arithmetic Plus) = Uniform Several Int Int
-ints_shape (Arithmetic Times) = Uniform Several Int Int
+ints_shape (Arithmetic Minus) = Calculated OneOrMore
+ints_shape (Arithmetic Plus) = Calculated Several
+ints_shape (Arithmetic Times) = Calculated Several
 ints_shape (Arithmetic Div) = Uniform Several Int Int
-ints_shape (Comparison op) = Uniform Several Int Boolean
+ints_shape (Comparison op) = Numbers Several Boolean
 ints_shape Mod = Uniform Two Int Int
 ints_shape Abs = Uniform One Int Int
 ints_shape (Divisible n) = if nat_lt 0 n then Uniform One Int Boolean else OutOfRange

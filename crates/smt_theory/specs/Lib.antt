@@ -8,6 +8,7 @@ pub mod Index
 pub mod Shapes
 pub mod Core
 pub mod Ints
+pub mod Reals
 pub mod Bits
 pub mod Operators
 pub mod Ranks

@@ -1,12 +1,12 @@
 -- Why an operator has no rank for the sorts of its arguments: their number, or the first of them that does not fit, by
 -- a rule of this project where more than one could be changed: each fits the operator, and the first ones.
 use Rattle.std.specs.Prelude.{ℕ, List, [], ◌∷◌, Bool, true, false, not, Option, Some, None, length, option_map}
-use Rattle.std.specs.Prelude.{if◌then◌else◌}
-use Rattle.std.specs.List.{position}
+use Rattle.std.specs.Prelude.{is_some, if◌then◌else◌}
+use Rattle.std.specs.List.{list_any, position}
 use Rattle.std.specs.Option.{option_or}
 use Rattle.smt_theory.specs.Ranks.{shape_of}
-use Rattle.smt_theory.specs.Shapes.{counts, rank_by, takes_count}
-use Rattle.smt_theory.specs.Sort.{Sort, Boolean, Bits, is_same_sort}
+use Rattle.smt_theory.specs.Shapes.{branch_sort, counts, rank_by, takes_count}
+use Rattle.smt_theory.specs.Sort.{Sort, Boolean, Int, Real, Bits, is_number, is_same_sort}
 use Rattle.smt_theory.specs.declared.misfits.RankFlaw.{RankFlaw}
 use Rattle.smt_theory.specs.declared.misfits.RankFlaw.TheVariants.{Argument, Count, Widths}
 use Rattle.smt_theory.specs.declared.misfits.Wanted.{Wanted}
@@ -14,8 +14,8 @@ use Rattle.smt_theory.specs.declared.misfits.Wanted.TheVariants.{Only, AnyBits}
 use Rattle.smt_theory.specs.declared.op.Op.{Op}
 use Rattle.smt_theory.specs.declared.shapes.Arity.TheVariants.{Several}
 use Rattle.smt_theory.specs.declared.shapes.Shape.{Shape}
-use Rattle.smt_theory.specs.declared.shapes.Shape.TheVariants.{Constant, Uniform, Alike, Choice, Vectors, Joined}
-use Rattle.smt_theory.specs.declared.shapes.Shape.TheVariants.{OutOfRange}
+use Rattle.smt_theory.specs.declared.shapes.Shape.TheVariants.{Constant, Uniform, Calculated, Numbers, Alike}
+use Rattle.smt_theory.specs.declared.shapes.Shape.TheVariants.{Choice, Vectors, Joined, OutOfRange}
 
 -- ---- numbers of arguments
 
@@ -23,6 +23,8 @@ use Rattle.smt_theory.specs.declared.shapes.Shape.TheVariants.{OutOfRange}
 abbrev pub counts_of : Shape → ℕ × Bool
 counts_of (Constant given) = (0, false)
 counts_of (Uniform arity sort given) = counts arity
+counts_of (Calculated arity) = counts arity
+counts_of (Numbers arity given) = counts arity
 counts_of Alike = counts Several
 counts_of Choice = (3, false)
 counts_of (Vectors arity made) = counts arity
@@ -39,16 +41,25 @@ argument wanted place = Argument place wanted
 abbrev pub first_other : Sort → List Sort → Option RankFlaw
 first_other sort args = option_map (argument (Only sort)) (position (λ arg. not (is_same_sort arg sort)) args)
 
--- the first of another sort than the first of all
+-- the first that is no number, where one of this sort would do
+abbrev pub first_no_number : Sort → List Sort → Option RankFlaw
+first_no_number sort args = option_map (argument (Only sort)) (position (λ arg. not (is_number arg)) args)
+
+-- the sort of a number that would do among these: real where there is one
+abbrev pub number_wanted : List Sort → Sort
+number_wanted args = if list_any (λ arg. is_same_sort arg Real) args then Real else Int
+
+-- the first of another sort than the first of all; numbers go with numbers
 abbrev pub first_other_than_first : List Sort → Option RankFlaw
 first_other_than_first [] = None
-first_other_than_first (arg ∷ args) = first_other arg (arg ∷ args)
+first_other_than_first (arg ∷ args) =
+    if is_number arg then first_no_number arg (arg ∷ args) else first_other arg (arg ∷ args)
 
 -- the condition of a choice, or else its last argument
 abbrev pub misfit_of_choice : (condition chosen other : Sort) → Option RankFlaw
 misfit_of_choice condition chosen other =
     if not (is_same_sort condition Boolean) then Some (Argument 0 (Only Boolean))
-    else if not (is_same_sort chosen other) then Some (Argument 2 (Only chosen)) else None
+    else if not (is_some (branch_sort chosen other)) then Some (Argument 2 (Only chosen)) else None
 
 abbrev pub misfit_in_choice : List Sort → Option RankFlaw
 misfit_in_choice (condition ∷ chosen ∷ other ∷ []) = misfit_of_choice condition chosen other
@@ -72,6 +83,8 @@ first_other_width (arg ∷ args) =
 abbrev pub argument_misfit : Shape → List Sort → Option RankFlaw
 argument_misfit (Constant given) args = None
 argument_misfit (Uniform arity sort given) args = first_other sort args
+argument_misfit (Calculated arity) args = first_no_number (number_wanted args) args
+argument_misfit (Numbers arity given) args = first_no_number (number_wanted args) args
 argument_misfit Alike args = first_other_than_first args
 argument_misfit Choice args = misfit_in_choice args
 argument_misfit (Vectors arity made) args = first_other_width args

@@ -1,7 +1,7 @@
--- SMT-LIB 2.6, theories Core, Ints and FixedSizeBitVectors, and logic QF_BV: the operators by name and
+-- SMT-LIB 2.6, theories Core, Reals_Ints and FixedSizeBitVectors, and logic QF_BV: the operators by name and
 -- indexes.
-use Rattle.std.specs.Prelude.{ℕ, true, false, ◌≡◌, ◌≢◌, ◌<◌, List, [], ◌∷◌, Bool, ◌&&◌, IsTrue, Option, None, Result}
-use Rattle.std.specs.Prelude.{Ok, Err, is_some, option_map, ok_or, bytes_eq, codes}
+use Rattle.std.specs.Prelude.{ℕ, true, false, ◌≡◌, ◌≢◌, ◌<◌, List, [], ◌∷◌, Bool, ◌&&◌, ◌||◌, IsTrue, Option, None}
+use Rattle.std.specs.Prelude.{Result, Ok, Err, is_some, option_map, ok_or, bytes_eq, codes}
 use Rattle.std.specs.Prelude.{if◌then◌else◌}
 use Rattle.std.specs.Option.{option_or}
 use Rattle.smt_theory.specs.Bits.{AreInRange, IsBitsName, bits_indexes, bits_name, bits_named}
@@ -9,11 +9,13 @@ use Rattle.smt_theory.specs.Bits.{indexed_bits}
 use Rattle.smt_theory.specs.Core.{core_name, core_named}
 use Rattle.smt_theory.specs.Index.{IndexView, Number}
 use Rattle.smt_theory.specs.Ints.{divisible_by, ints_name, ints_named}
-use Rattle.smt_theory.specs.Words.{result_and_then}
+use Rattle.smt_theory.specs.Reals.{has_reals_op, is_of_reals, reals_name, reals_named}
+use Rattle.smt_theory.specs.Words.{if_passes, result_and_then}
+use Rattle.smt_theory.specs.declared.op.IntsOp.{IntsOp}
 use Rattle.smt_theory.specs.declared.op.IntsOp.TheVariants.{Divisible}
 use Rattle.smt_theory.specs.declared.op.CoreOp.TheVariants.{Ite}
 use Rattle.smt_theory.specs.declared.op.Op.{Op}
-use Rattle.smt_theory.specs.declared.op.Op.TheVariants.{Core, Ints, Bits}
+use Rattle.smt_theory.specs.declared.op.Op.TheVariants.{Core, Ints, Reals, Bits}
 use Rattle.smt_theory.specs.declared.op.OpFault.{OpFault}
 use Rattle.smt_theory.specs.declared.op.OpFault.TheVariants.{Unknown, Index as WrongIndex}
 use Rattle.smt_theory.specs.declared.theories.Theories.{Theories}
@@ -22,6 +24,7 @@ use Rattle.smt_theory.specs.declared.theories.Theories.{Theories}
 abbrev pub name_of : Op → List ℕ
 name_of (Core op) = core_name op
 name_of (Ints op) = ints_name op
+name_of (Reals op) = reals_name op
 name_of (Bits op) = bits_name op
 
 -- whether an operator is `ite`
@@ -29,12 +32,22 @@ abbrev pub is_choice : Op → Bool
 is_choice (Core Ite) = true
 is_choice _ = false
 
+-- whether an operator of Ints is there: with reals alone those that are of Reals too
+abbrev pub has_ints_op : Theories → IntsOp → Bool
+has_ints_op theories op = theories.ints || theories.reals && is_of_reals op
+
+-- whether it is an operator of Ints that is of Reals too
+abbrev pub is_of_both : Op → Bool
+is_of_both (Ints op) = is_of_reals op
+is_of_both _ = false
+
 -- the plain operator of a name
 abbrev pub plain_op : Theories → List ℕ → Option Op
 plain_op theories symbol =
     option_or (option_map Core (core_named symbol))
-    (option_or (if theories.ints then option_map Ints (ints_named symbol) else None)
-    (if theories.bits then option_map Bits (bits_named symbol) else None))
+    (option_or (option_map Ints (if_passes (has_ints_op theories) (ints_named symbol)))
+    (option_or (if theories.bits then option_map Bits (bits_named symbol) else None)
+    (option_map Reals (if_passes (has_reals_op theories) (reals_named symbol)))))
 
 -- whether a name is a plain operator's, so that nothing new may have it
 abbrev pub is_plain_operator : Theories → List ℕ → Bool
@@ -58,6 +71,7 @@ op_by theories symbol (index ∷ indexes) = indexed_op theories symbol (index �
 abbrev pub IsNameOf : Op → List ℕ → Type 0
 IsNameOf (Core op) symbol = symbol ≡ core_name op
 IsNameOf (Ints op) symbol = symbol ≡ ints_name op
+IsNameOf (Reals op) symbol = symbol ≡ reals_name op
 IsNameOf (Bits op) symbol = IsBitsName op symbol
 
 abbrev pub indexes_of : Op → List IndexView
@@ -69,7 +83,8 @@ indexes_of _ = []
 abbrev pub IsOperatorOf : Theories → Op → Type 0
 IsOperatorOf theories (Core op) = Unit {0}
 IsOperatorOf theories (Ints (Divisible n)) = IsTrue theories.ints × (0 < n)
-IsOperatorOf theories (Ints op) = IsTrue theories.ints
+IsOperatorOf theories (Ints op) = IsTrue (has_ints_op theories op)
+IsOperatorOf theories (Reals op) = IsTrue (has_reals_op theories op)
 IsOperatorOf theories (Bits op) = IsTrue theories.bits × AreInRange op
 
 -- the symbol with these indexes is this operator of the theories
@@ -82,7 +97,8 @@ IsOperatorBy theories symbol indexes op =
 -- the operator is one of a theory that there is, whether or not its indexes are in range
 abbrev pub IsOfTheories : Theories → Op → Type 0
 IsOfTheories theories (Core op) = Unit {0}
-IsOfTheories theories (Ints op) = IsTrue theories.ints
+IsOfTheories theories (Ints op) = IsTrue (has_ints_op theories op)
+IsOfTheories theories (Reals op) = IsTrue (has_reals_op theories op)
 IsOfTheories theories (Bits op) = IsTrue theories.bits
 
 -- some operator of the theories without indexes, or with some, has this name

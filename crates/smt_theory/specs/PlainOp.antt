@@ -7,8 +7,8 @@ use Rattle.smt_theory.specs.declared.op.IntsOp.TheVariants as ints
 use Rattle.smt_theory.specs.declared.op.Op.{Op}
 use Rattle.smt_theory.specs.declared.op.Op.TheVariants as ops
 use Rattle.smt_theory.specs.declared.op.plain.PlainOp.{PlainOp}
-use Rattle.smt_theory.specs.declared.op.plain.PlainOp.TheVariants.{Core, Arithmetic, Order, Mod, Abs, Concat, Unary}
-use Rattle.smt_theory.specs.declared.op.plain.PlainOp.TheVariants.{Folded, Binary, BitsOrder, Comp}
+use Rattle.smt_theory.specs.declared.op.plain.PlainOp.TheVariants.{Core, Arithmetic, Order, Mod, Abs, Reals, Concat}
+use Rattle.smt_theory.specs.declared.op.plain.PlainOp.TheVariants.{Unary, Folded, Binary, BitsOrder, Comp}
 
 abbrev pub op_of_plain : PlainOp → Op
 op_of_plain (Core op) = ops.Core op
@@ -16,6 +16,7 @@ op_of_plain (Arithmetic op) = ops.Ints (ints.Arithmetic op)
 op_of_plain (Order op) = ops.Ints (ints.Comparison op)
 op_of_plain Mod = ops.Ints ints.Mod
 op_of_plain Abs = ops.Ints ints.Abs
+op_of_plain (Reals op) = ops.Reals op
 op_of_plain Concat = ops.Bits bits.Concat
 op_of_plain (Unary op) = ops.Bits (bits.Unary op)
 op_of_plain (Folded op) = ops.Bits (bits.Folded op)
@@ -27,4 +28,5 @@ op_of_plain Comp = ops.Bits bits.Comp
 abbrev pub has_number : Op → Bool
 has_number (ops.Core op) = false
 has_number (ops.Ints op) = ints_number op
+has_number (ops.Reals op) = false
 has_number (ops.Bits op) = bits_number op

@@ -1,20 +1,21 @@
--- SMT-LIB 2.6, theories Core, Ints and FixedSizeBitVectors, and logic QF_BV: the shapes of operators, each a way to
--- take arguments. `HasShape` says what a shape is; `rank_by` computes from it. That no bit vector is wider than 128 is
--- this project's own.
-use Rattle.std.specs.Prelude.{ℕ, ◌≡◌, ◌<◌, ◌≤◌, ◌+◌, ◌-◌, ◌*◌, List, [], ◌∷◌, Bool, true, false, ◌&&◌, ◌==◌}
+-- SMT-LIB 2.6, theories Core, Reals_Ints and FixedSizeBitVectors, and logic QF_BV: the shapes of operators, each a way
+-- to take arguments. `HasShape` says what a shape is; `rank_by` computes from it. That no bit vector is wider than 128,
+-- and that integers and reals mix, is this project's own.
+use Rattle.std.specs.Prelude.{ℕ, ◌≡◌, ◌≢◌, ◌⊎◌, ◌<◌, ◌≤◌, ◌+◌, ◌-◌, ◌*◌, List, [], ◌∷◌, Bool, true, false, ◌&&◌}
+use Rattle.std.specs.Prelude.{◌||◌, ◌==◌}
 use Rattle.std.specs.Prelude.{Option, Some, None, option_map, nat_le, nat_lt, length, map, All, if◌then◌else◌}
 use Rattle.std.specs.List.{list_all, sum}
 use Rattle.std.specs.Bool.{then_some}
 use Rattle.std.specs.Option.{option_and_then}
 use lib.Pointwise.{pointwise}
-use Rattle.smt_theory.specs.Sort.{Sort, Boolean, Bits, is_same_sort}
+use Rattle.smt_theory.specs.Sort.{Sort, Boolean, Int, Real, Bits, is_number, is_same_sort}
 use Rattle.smt_theory.specs.declared.shapes.Arity.{Arity}
 use Rattle.smt_theory.specs.declared.shapes.Arity.TheVariants.{One, Two, OneOrMore, Several}
 use Rattle.smt_theory.specs.declared.shapes.Made.{Made}
 use Rattle.smt_theory.specs.declared.shapes.Made.TheVariants.{Same, Given, Slice, Times, Longer}
 use Rattle.smt_theory.specs.declared.shapes.Shape.{Shape}
-use Rattle.smt_theory.specs.declared.shapes.Shape.TheVariants.{Constant, Uniform, Alike, Choice, Vectors, Joined}
-use Rattle.smt_theory.specs.declared.shapes.Shape.TheVariants.{OutOfRange}
+use Rattle.smt_theory.specs.declared.shapes.Shape.TheVariants.{Constant, Uniform, Calculated, Numbers, Alike}
+use Rattle.smt_theory.specs.declared.shapes.Shape.TheVariants.{Choice, Vectors, Joined, OutOfRange}
 
 -- ---- what a shape is
 
@@ -24,6 +25,24 @@ AreOf One sort args = args ≡ sort ∷ []
 AreOf Two sort args = args ≡ sort ∷ sort ∷ []
 AreOf OneOrMore sort args = (1 ≤ length args) × All (λ arg. arg ≡ sort) args
 AreOf Several sort args = (2 ≤ length args) × All (λ arg. arg ≡ sort) args
+
+-- so many
+abbrev pub IsCount : Arity → ℕ → Type 0
+IsCount One n = n ≡ 1
+IsCount Two n = n ≡ 2
+IsCount OneOrMore n = 1 ≤ n
+IsCount Several n = 2 ≤ n
+
+abbrev pub IsNumber : Sort → Type 0
+IsNumber sort = (sort ≡ Int) ⊎ (sort ≡ Real)
+
+-- so many numbers
+abbrev pub AreNumbers : Arity → List Sort → Type 0
+AreNumbers arity args = IsCount arity (length args) × All IsNumber args
+
+-- two numbers of two sorts
+abbrev pub AreMixed : Sort → Sort → Type 0
+AreMixed a b = IsNumber a × IsNumber b × (a ≢ b)
 
 -- the sort of what is made of bit vectors of width m: a bit vector of that width, what is of a given sort, bits i down
 -- to j, i copies one behind the other, or all bits and i more
@@ -40,10 +59,18 @@ abbrev pub HasShape : Shape → List Sort → Sort → Type 0
 HasShape (Constant given) args result = (args ≡ []) × (result ≡ given)
 -- so many arguments of one sort
 HasShape (Uniform arity sort given) args result = AreOf arity sort args × (result ≡ given)
--- two or more arguments of any one sort
-HasShape Alike args result = ((sort : Sort) × AreOf Several sort args) × (result ≡ Boolean)
--- a condition, and two arguments of any one sort
-HasShape Choice args result = args ≡ Boolean ∷ result ∷ result ∷ []
+-- so many numbers: of integers an integer, else a real
+HasShape (Calculated arity) args result =
+    (AreOf arity Int args × (result ≡ Int)) ⊎ (AreNumbers arity args × ¬ AreOf arity Int args × (result ≡ Real))
+-- so many numbers
+HasShape (Numbers arity given) args result = AreNumbers arity args × (result ≡ given)
+-- two or more arguments of any one sort, or numbers
+HasShape Alike args result =
+    (((sort : Sort) × AreOf Several sort args) ⊎ AreNumbers Several args) × (result ≡ Boolean)
+-- a condition, and two arguments of any one sort, or two numbers
+HasShape Choice args result =
+    (args ≡ Boolean ∷ result ∷ result ∷ [])
+    ⊎ ((a : Sort) × (b : Sort) × (args ≡ Boolean ∷ a ∷ b ∷ []) × AreMixed a b × (result ≡ Real))
 -- so many bit vectors of any one width
 HasShape (Vectors arity made) args result = (m : ℕ) × AreOf arity (Bits m) args × IsMade made m result
 -- two or more bit vectors of any widths
@@ -80,9 +107,21 @@ abbrev pub are_alike : List Sort → Bool
 are_alike [] = false
 are_alike (arg ∷ args) = are_of Several arg (arg ∷ args)
 
+-- whether these are so many numbers
+abbrev pub are_numbers : Arity → List Sort → Bool
+are_numbers arity args = takes_count (counts arity) (length args) && list_all is_number args
+
+-- the sort of what is calculated of so many numbers
+abbrev pub calculated_rank : Arity → List Sort → Option Sort
+calculated_rank arity args = if are_of arity Int args then Some Int else then_some (are_numbers arity args) Real
+
+-- the sort of one of two branches
+abbrev pub branch_sort : Sort → Sort → Option Sort
+branch_sort a b = if is_same_sort a b then Some a else then_some (is_number a && is_number b) Real
+
 abbrev pub choice_rank : List Sort → Option Sort
 choice_rank (condition ∷ chosen ∷ other ∷ []) =
-    if is_same_sort condition Boolean && is_same_sort chosen other then Some chosen else None
+    if is_same_sort condition Boolean then branch_sort chosen other else None
 choice_rank _ = None
 
 -- the width of so many bit vectors of one width
@@ -122,7 +161,9 @@ made_by (Longer i) m = option_map Bits (within_limit (m + i))
 abbrev pub rank_by : Shape → List Sort → Option Sort
 rank_by (Constant given) args = then_some (are_exactly [] args) given
 rank_by (Uniform arity sort given) args = then_some (are_of arity sort args) given
-rank_by Alike args = then_some (are_alike args) Boolean
+rank_by (Calculated arity) args = calculated_rank arity args
+rank_by (Numbers arity given) args = then_some (are_numbers arity args) given
+rank_by Alike args = then_some (are_alike args || are_numbers Several args) Boolean
 rank_by Choice args = choice_rank args
 rank_by (Vectors arity made) args = option_and_then (made_by made) (common_width arity args)
 rank_by Joined args = option_map Bits (joined_width args)

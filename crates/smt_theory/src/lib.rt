@@ -1,7 +1,7 @@
 //! Sorts, theories and operators of SMT-LIB 2.6.
 //!
-//! The theories are Core, Ints and FixedSizeBitVectors, the last with the operators that the logic QF_BV
-//! adds. Bit vectors are up to 128 bits wide.
+//! The theories are Core, Ints, Reals, Reals_Ints and FixedSizeBitVectors, the last with the operators that the logic
+//! QF_BV adds. Bit vectors are up to 128 bits wide.
 //!
 //! `theories_of` finds the theories of a logic in a profile of the language. `op_of` finds the operator that
 //! a symbol with its indexes names in theories. `rank` gives the sort of an operator's result for the sorts
@@ -37,14 +37,14 @@ mod wide;
 mod width;
 
 pub use index::Index;
-pub use literal::LiteralKind;
+pub use literal::{LiteralKind, literal_number};
 pub use misfits::{RankFlaw, Wanted, misfit};
 pub use numbers::{digit, number};
 pub use op::names::{op_of, plain_op_of};
 pub use op::plain::PlainOp;
 pub use op::{
     Arithmetic, BitsBinary, BitsComparison, BitsFolded, BitsOp, BitsUnary, Comparison, CoreOp,
-    IntsOp, Op, OpFault,
+    IntsOp, Op, OpFault, RealsOp,
 };
 pub use profile::Profile;
 pub use ranks::{plain_rank, rank, shape};

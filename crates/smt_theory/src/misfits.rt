@@ -1,15 +1,15 @@
 //! Why an operator has no rank for the sorts of its arguments. This file knows no operator's name, and no value.
 
 ghost use Rattle.std.specs.Prelude.{◌≡◌, not};
-ghost use Rattle.std.specs.List.{position};
+ghost use Rattle.std.specs.List.{list_any, position};
 ghost use Rattle.smt_theory.specs.Misfits as misfits;
 ghost use Rattle.smt_theory.specs.Misfits.{misfit_of};
-ghost use Rattle.smt_theory.specs.Sort.{is_same_sort};
+ghost use Rattle.smt_theory.specs.Sort.{Real, is_number, is_same_sort};
 ghost use Rattle.smt_theory.specs.declared.misfits.Wanted.TheVariants.{AnyBits, Only};
 
 use crate::op::Op;
 use crate::ranks::shape;
-use crate::shapes::{Arity, Shape, counts, rank_by, takes_count};
+use crate::shapes::{Arity, Shape, branch_sort, counts, rank_by, takes_count};
 use crate::sort::Sort;
 
 /// Why an operator has no rank for the sorts of its arguments.
@@ -36,8 +36,9 @@ pub enum Wanted {
 /// Why the operator has no rank for arguments of these sorts; `None` where it has one.
 ///
 /// The number of arguments comes first. Then each argument has to fit: it is of the operator's sort, or of the sort of
-/// the first one where the operator takes arguments of any one sort or width. Of an `ite`, the condition comes first,
-/// and then the last argument, which has to be of the sort of the second. It takes time in proportion to the number of
+/// the first one where the operator takes arguments of any one sort or width. Where numbers of both sorts are taken,
+/// `Real` is wanted if one is real. Of an `ite`, the condition comes first, and then the last argument, which has to be
+/// of the sort of the second, or a number as that is. It takes time in proportion to the number of
 /// arguments.
 pub fn misfit(op: Op, args: &[Sort]) -> Option<RankFlaw>
     ensures { result ≡ misfit_of op args.now }
@@ -67,7 +68,10 @@ fn counts_of(shape: &Shape) -> (usize, bool)
 {
     match *shape {
         Shape::Constant(_) => (0, false),
-        Shape::Uniform(arity, _, _) | Shape::Vectors(arity, _) => counts(arity),
+        Shape::Uniform(arity, _, _)
+        | Shape::Calculated(arity)
+        | Shape::Numbers(arity, _)
+        | Shape::Vectors(arity, _) => counts(arity),
         Shape::Alike | Shape::Joined => counts(Arity::Several),
         Shape::Choice => (3, false),
         Shape::OutOfRange => (0, true),
@@ -81,6 +85,7 @@ fn argument_misfit(shape: &Shape, args: &[Sort]) -> Option<RankFlaw>
     match shape {
         Shape::Constant(_) | Shape::OutOfRange => None,
         Shape::Uniform(_, sort, _) => first_other(args, sort),
+        Shape::Calculated(_) | Shape::Numbers(_, _) => first_no_number(args, number_wanted(args)),
         Shape::Alike => first_other_than_first(args),
         Shape::Choice => misfit_in_choice(args),
         Shape::Vectors(_, _) => first_other_width(args),
@@ -102,7 +107,7 @@ fn misfit_of_choice(condition: Sort, chosen: &Sort, other: Sort) -> Option<RankF
 {
     if !condition.is_same(Sort::bool()) {
         Some(of_sort(0, Sort::bool()))
-    } else if !chosen.is_same(other) {
+    } else if branch_sort(*chosen, other).is_none() {
         Some(of_sort(2, *chosen))
     } else {
         None
@@ -114,9 +119,41 @@ fn first_other_than_first(args: &[Sort]) -> Option<RankFlaw>
     ensures { result ≡ misfits.first_other_than_first args.now }
 {
     match args.first() {
+        Some(first) if first.is_number() => first_no_number(args, *first),
         Some(first) => first_other(args, first),
         None => None,
     }
+}
+
+// The first argument that is no number, where one of this sort would do.
+fn first_no_number(args: &[Sort], sort: Sort) -> Option<RankFlaw>
+    ensures { result ≡ misfits.first_no_number sort args.now }
+{
+    let place = place_of_no_number(args)?;
+    Some(of_sort(place, sort))
+}
+
+fn place_of_no_number(args: &[Sort]) -> Option<usize>
+    ensures { result ≡ position (λ arg. not (is_number arg)) args.now }
+{
+    args.iter().position(|arg| !arg.is_number())
+}
+
+// The sort of a number that would do among these.
+fn number_wanted(args: &[Sort]) -> Sort
+    ensures { result ≡ misfits.number_wanted args.now }
+{
+    if has_real(args) {
+        Sort::real()
+    } else {
+        Sort::int()
+    }
+}
+
+fn has_real(args: &[Sort]) -> bool
+    ensures { result ≡ list_any (λ arg. is_same_sort arg Real) args.now }
+{
+    args.iter().any(|arg| arg.is_same(Sort::real()))
 }
 
 // The first argument, if it is no bit vector, or else the first one of another width.

@@ -78,7 +78,7 @@ fn long_number(base: u8, digits: &[u8]) -> Option<u128>
     Some(value)
 }
 
-fn with_digit(base: u8, value: u128, byte: u8) -> Option<u128>
+pub(crate) fn with_digit(base: u8, value: u128, byte: u8) -> Option<u128>
     ensures { result ≡ below_word (value * base + digit_value byte) }
 {
     value

@@ -6,6 +6,7 @@ pub(crate) mod core_ops;
 pub(crate) mod ints_ops;
 pub(crate) mod names;
 pub(crate) mod plain;
+pub(crate) mod reals_ops;
 
 ghost use Rattle.std.specs.Prelude.{◌≡◌, IsTrue};
 ghost use Rattle.smt_theory.specs.Operators.{is_choice};
@@ -21,6 +22,7 @@ use std::fmt;
 pub enum Op {
     Core(CoreOp),
     Ints(IntsOp),
+    Reals(RealsOp),
     Bits(BitsOp),
 }
 
@@ -53,7 +55,7 @@ pub enum CoreOp {
     Ite,
 }
 
-/// An operator of the theory Ints.
+/// An operator of the theory Ints. Those on numbers, `-`, `+`, `*` and the relations, are of the theory Reals too.
 #[derive(Clone, Copy)]
 pub enum IntsOp {
     Arithmetic(Arithmetic),
@@ -64,7 +66,7 @@ pub enum IntsOp {
     Divisible(u64),
 }
 
-/// An operator on integers that is applied from the left.
+/// An operator on numbers, or on integers (`div`), that is applied from the left.
 #[derive(Clone, Copy)]
 pub enum Arithmetic {
     /// `-`, which negates where it has one argument.
@@ -74,7 +76,7 @@ pub enum Arithmetic {
     Div,
 }
 
-/// A relation on integers that is chained.
+/// A relation on numbers that is chained.
 #[derive(Clone, Copy)]
 pub enum Comparison {
     /// `<=`
@@ -85,6 +87,19 @@ pub enum Comparison {
     AtLeast,
     /// `>`
     Greater,
+}
+
+/// An operator of the theory Reals, or one that the theory Reals_Ints adds.
+#[derive(Clone, Copy)]
+pub enum RealsOp {
+    /// `/`
+    Divide,
+    /// `to_real`
+    ToReal,
+    /// `to_int`
+    ToInt,
+    /// `is_int`
+    IsInt,
 }
 
 /// An operator of the theory FixedSizeBitVectors, or one that the logic QF_BV adds.

@@ -9,6 +9,7 @@ use crate::op::bits_ops::shape_in_bits;
 use crate::op::core_ops::shape_in_core;
 use crate::op::ints_ops::{shape_in_ints, shape_of_arithmetic};
 use crate::op::plain::PlainOp;
+use crate::op::reals_ops::shape_in_reals;
 use crate::op::{BitsOp, IntsOp, Op};
 use crate::shapes::{Shape, rank_by};
 use crate::sort::Sort;
@@ -36,6 +37,7 @@ pub fn shape(op: Op) -> Shape
     match op {
         Op::Core(op) => shape_in_core(op),
         Op::Ints(op) => shape_in_ints(op),
+        Op::Reals(op) => shape_in_reals(op),
         Op::Bits(op) => shape_in_bits(op),
     }
 }
@@ -50,6 +52,7 @@ fn plain_shape(op: PlainOp) -> Shape
         PlainOp::Order(op) => shape_in_ints(IntsOp::Comparison(op)),
         PlainOp::Mod => shape_in_ints(IntsOp::Mod),
         PlainOp::Abs => shape_in_ints(IntsOp::Abs),
+        PlainOp::Reals(op) => shape_in_reals(op),
         PlainOp::Concat => shape_in_bits(BitsOp::Concat),
         PlainOp::Unary(op) => shape_in_bits(BitsOp::Unary(op)),
         PlainOp::Folded(op) => shape_in_bits(BitsOp::Folded(op)),

@@ -1,8 +1,10 @@
 //! The shapes of operators, each a way to take arguments. This file knows no operator, and no value.
 
 ghost use Rattle.std.specs.Prelude.{◌≡◌, ◌≤◌, ◌+◌};
-ghost use Rattle.smt_theory.specs.Shapes.{are_alike, are_of, choice_rank, common_width, made_by, rank_by};
-ghost use Rattle.smt_theory.specs.Shapes.{within_limit};
+ghost use Rattle.std.specs.List.{list_all};
+ghost use Rattle.smt_theory.specs.Shapes.{are_alike, are_numbers, are_of, branch_sort, calculated_rank, choice_rank};
+ghost use Rattle.smt_theory.specs.Shapes.{common_width, made_by, rank_by, within_limit};
+ghost use Rattle.smt_theory.specs.Sort.{is_number};
 ghost use Rattle.smt_theory.specs.Shapes as shapes;
 
 use crate::sort::Sort;
@@ -40,9 +42,14 @@ pub enum Shape {
     Constant(Sort),
     /// So many arguments of one sort, and the sort of the result.
     Uniform(Arity, Sort, Sort),
-    /// Two or more arguments of any one sort; the result is a truth value.
+    /// So many numbers, of which an integer is made where all are integers, and else a real.
+    Calculated(Arity),
+    /// So many numbers, and the sort of the result.
+    Numbers(Arity, Sort),
+    /// Two or more arguments of any one sort, or two or more numbers; the result is a truth value.
     Alike,
-    /// A condition and two arguments of any one sort, which is that of the result.
+    /// A condition, and two arguments of any one sort, which is that of the result; or an integer and a real, of which
+    /// the result is a real.
     Choice,
     /// So many bit vectors of any one width.
     Vectors(Arity, Made),
@@ -60,7 +67,11 @@ pub(crate) fn rank_by(shape: Shape, args: &[Sort]) -> Option<Sort>
     match shape {
         Shape::Constant(given) => args.is_empty().then_some(given),
         Shape::Uniform(arity, sort, given) => are_of(arity, sort, args).then_some(given),
-        Shape::Alike => are_alike(args).then_some(Sort::bool()),
+        Shape::Calculated(arity) => calculated_rank(arity, args),
+        Shape::Numbers(arity, given) => are_numbers(arity, args).then_some(given),
+        Shape::Alike => (are_alike(args) || are_numbers(Arity::Several, args)).then_some(
+            Sort::bool(),
+        ),
         Shape::Choice => choice_rank(args),
         Shape::Vectors(arity, made) => made_by(made, common_width(arity, args)?),
         Shape::Joined => joined_width(args).map(Sort::bits),
@@ -109,6 +120,33 @@ fn all_are(sort: Sort, args: &[Sort]) -> bool
     args.iter().all(|arg| arg.is_same(sort))
 }
 
+/// Whether these are so many numbers.
+#[inline(always)]
+pub(crate) fn are_numbers(arity: Arity, args: &[Sort]) -> bool
+    ensures { result ≡ are_numbers arity args.now }
+{
+    let (least, takes_more) = counts(arity);
+    takes_count(least, takes_more, args.len()) && all_are_numbers(args)
+}
+
+fn all_are_numbers(args: &[Sort]) -> bool
+    ensures { result ≡ list_all is_number args.now }
+{
+    args.iter().all(|arg| arg.is_number())
+}
+
+/// The sort of what is calculated of so many numbers.
+#[inline(always)]
+pub(crate) fn calculated_rank(arity: Arity, args: &[Sort]) -> Option<Sort>
+    ensures { result ≡ calculated_rank arity args.now }
+{
+    if are_of(arity, Sort::int(), args) {
+        Some(Sort::int())
+    } else {
+        are_numbers(arity, args).then_some(Sort::real())
+    }
+}
+
 /// Whether these are two or more arguments of one sort.
 #[inline(always)]
 pub(crate) fn are_alike(args: &[Sort]) -> bool
@@ -126,9 +164,22 @@ pub(crate) fn choice_rank(args: &[Sort]) -> Option<Sort>
     ensures { result ≡ choice_rank args.now }
 {
     match args {
-        [condition, chosen, other] if condition.is_same(Sort::bool()) && chosen.is_same(*other) =>
-            Some(*chosen),
+        [condition, chosen, other] if condition.is_same(Sort::bool()) => branch_sort(
+            *chosen, *other,
+        ),
         _ => None,
+    }
+}
+
+/// The sort of one of two branches.
+#[inline(always)]
+pub(crate) fn branch_sort(chosen: Sort, other: Sort) -> Option<Sort>
+    ensures { result ≡ branch_sort chosen other }
+{
+    if chosen.is_same(other) {
+        Some(chosen)
+    } else {
+        (chosen.is_number() && other.is_number()).then_some(Sort::real())
     }
 }
 

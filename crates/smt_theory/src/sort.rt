@@ -1,14 +1,14 @@
 //! Sorts of the theories, each as one number. This file knows no operator, and no value.
 
 ghost use Rattle.std.specs.Prelude.{◌≡◌};
-ghost use Rattle.smt_theory.specs.Sort.{Bits, Boolean, Free, Int, command_of_sort, is_same_sort, sort_of_kind};
-ghost use Rattle.smt_theory.specs.Sort.{width_of_sort};
+ghost use Rattle.smt_theory.specs.Sort.{Bits, Boolean, Free, Int, Real, command_of_sort, is_number, is_same_sort};
+ghost use Rattle.smt_theory.specs.Sort.{sort_of_kind, width_of_sort};
 
 use crate::sort_kind::SortKind;
 use crate::width::Width;
 use std::marker::Model;
 
-/// A sort of the theories (SMT-LIB 2.6, theories Core, Ints and FixedSizeBitVectors). `kind` says which.
+/// A sort of the theories (SMT-LIB 2.6, theories Core, Reals_Ints and FixedSizeBitVectors). `kind` says which.
 #[derive(Clone, Copy, PartialEq, Eq)]
 pub struct Sort {
     code: u64,
@@ -51,6 +51,14 @@ impl Sort {
         Sort { code: 1 }
     }
 
+    /// `Real`.
+    #[inline(always)]
+    pub fn real() -> Sort
+        ensures { result ≡ Real }
+    {
+        Sort { code: 2 }
+    }
+
     /// `(_ BitVec n)`.
     #[inline(always)]
     pub fn bits(width: Width) -> Sort
@@ -79,6 +87,14 @@ impl Sort {
         self.code == other.code
     }
 
+    /// Whether it is `Int` or `Real`.
+    #[inline(always)]
+    pub fn is_number(self) -> bool
+        ensures { result ≡ is_number self }
+    {
+        self.code == 1 || self.code == 2
+    }
+
     /// What the sort is.
     pub fn kind(self) -> SortKind
         ensures { sort_of_kind result ≡ self }
@@ -86,6 +102,7 @@ impl Sort {
         match self.code {
             0 => SortKind::Bool,
             1 => SortKind::Int,
+            2 => SortKind::Real,
             code if code < FREE => SortKind::Bits(Width::of(code - 2)),
             code => SortKind::Free((code - FREE) as u32),
         }
@@ -107,7 +124,7 @@ impl Sort {
     pub fn width(self) -> Option<Width>
         ensures { result ≡ width_of_sort self }
     {
-        if self.code > 1 && self.code < FREE {
+        if self.code > 2 && self.code < FREE {
             Some(Width::of(self.code - 2))
         } else {
             None

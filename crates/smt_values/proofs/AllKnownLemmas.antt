@@ -1,16 +1,17 @@
--- Arguments that are all known, and are of the sorts of a rank, give a result that is known, unless it is an
--- integer.
-use Rattle.std.proofs.Common.{◌≡◌, ◌≢◌, ◌⊎◌, inl, inr, ℕ, suc, ◌+◌, ◌*◌, ◌≤◌, ◌<◌, Bool, true, false, not}
-use Rattle.std.proofs.Common.{cond, List, [], ◌∷◌, Option, Some, None, is_some, length, nat_lt, nat_le, refl}
+-- Arguments that are all known, and are of the sorts of a rank, give a result that is known, unless it is a number.
+use Rattle.std.proofs.Common.{◌≡◌, ◌⊎◌, inl, inr, ℕ, suc, ◌+◌, ◌*◌, ◌≤◌, ◌<◌, Bool, true, false, not}
+use Rattle.std.proofs.Common.{cond, List, [], ◌∷◌, Option, Some, None, get_or, is_some, length, nat_lt, nat_le, refl}
 use Rattle.std.proofs.Common.{sym, ap, subst, arith, rules}
 use Rattle.std.specs.List.{list_all, list_any, sum}
-use Rattle.std.specs.Prelude.{All, ◌==◌, ◌&&◌, ◌^◌, IsSome, map, option_map}
+use Rattle.std.specs.Prelude.{All, ◌==◌, ◌&&◌, ◌^◌, IsSome, map, option_and_then, option_map}
 use Rattle.smt_bits.specs.BitVector.{BitVector, vector}
 use Rattle.smt_bits.specs.Parts.{concatenation}
 use Rattle.smt_theory.specs.Ranks.{HasRank}
-use Rattle.smt_theory.specs.Shapes.{AreOf, HasShape}
+use Rattle.smt_theory.specs.Shapes.{AreNumbers, AreOf, HasShape, IsNumber}
+use Rattle.smt_theory.specs.declared.shapes.Arity.{Arity}
 use Rattle.smt_theory.specs.declared.shapes.Arity.TheVariants.{One, OneOrMore, Several}
-use Rattle.smt_theory.specs.declared.shapes.Shape.TheVariants.{Constant as Nullary, Uniform, OutOfRange}
+use Rattle.smt_theory.specs.declared.shapes.Shape.TheVariants.{Calculated, Constant as Nullary, Uniform}
+use Rattle.smt_theory.specs.declared.shapes.Shape.TheVariants.{OutOfRange}
 use Rattle.smt_theory.specs.declared.op.Arithmetic.TheVariants.{Minus, Plus, Times, Div}
 use Rattle.smt_theory.specs.declared.op.BitsFolded.{BitsFolded}
 use Rattle.smt_theory.specs.declared.op.BitsOp.{BitsOp}
@@ -24,17 +25,23 @@ use Rattle.smt_theory.specs.declared.op.IntsOp.{IntsOp}
 use Rattle.smt_theory.specs.declared.op.IntsOp.TheVariants.{Arithmetic as Left, Comparison as Chain, Mod, Abs}
 use Rattle.smt_theory.specs.declared.op.IntsOp.TheVariants.{Divisible}
 use Rattle.smt_theory.specs.declared.op.Op.{Op}
-use Rattle.smt_theory.specs.declared.op.Op.TheVariants.{Core, Ints, Bits}
-use Rattle.smt_theory.specs.Sort.{Sort}
-use Rattle.smt_theory.specs.Sort.{Boolean, Int, Bits as BitsSort}
+use Rattle.smt_theory.specs.declared.op.Op.TheVariants.{Core, Ints, Reals, Bits}
+use Rattle.smt_theory.specs.declared.op.Comparison.{Comparison as Relation}
+use Rattle.smt_theory.specs.declared.op.RealsOp.{RealsOp}
+use Rattle.smt_theory.specs.declared.op.RealsOp.TheVariants.{Divide, ToReal, ToInt, IsInt}
+use Rattle.smt_theory.specs.Sort.{Sort, is_number}
+use Rattle.smt_theory.specs.Sort.{Boolean, Int, Real, Bits as BitsSort}
 use Rattle.smt_values.proofs.BitSortLemmas.{one, sum-cons, two, vector_is}
+use Rattle.smt_values.proofs.NumberKnownLemmas.{AreNumeric, all_numeric, integers_known, numbers_known}
 use Rattle.smt_values.specs.BitOperations.{folded_vector}
-use Rattle.smt_values.specs.Element.{Element, Truth, Integer, Vector, Abstract, IsOfSort, AreOfSorts}
+use Rattle.smt_values.specs.Element.{Element, Truth, Integer, Fraction, Vector, Abstract, IsOfSort, AreOfSorts}
 use Rattle.smt_values.specs.KnownBitOperations.{known_bits, known_folded}
-use Rattle.smt_values.specs.KnownOperations.{as_disjunction, decided, is_known, known_core, known_integers}
+use Rattle.smt_values.specs.KnownNumbers.{is_known_fraction, known_mixed, known_numbers}
+use Rattle.smt_values.specs.KnownOperations.{as_disjunction, decided, is_known, known_core, known_ints}
+use Rattle.smt_values.specs.KnownOperations.{known_integers}
 use Rattle.smt_values.specs.KnownOperations.{known_step, known_truth, known_vectors}
 use Rattle.smt_values.specs.Lists.{all_known, steps_from}
-use Rattle.smt_values.specs.Operations.{integer_of, truth_of, vector_of}
+use Rattle.smt_values.specs.Operations.{truth_of, vector_of}
 
 -- ---- arguments
 
@@ -64,14 +71,8 @@ truths [] h = refl
 truths (Truth b ∷ es) h = ap (option_map (λ bs. b ∷ bs)) (truths es h.1)
 truths (Integer z ∷ es) h = absurd h.0
 truths (Vector v ∷ es) h = absurd h.0
+truths (Fraction top low ∷ es) h = absurd h.0
 truths (Abstract name ∷ es) h = absurd h.0
-
-integers : (es : List Element) → AreAll Int es → known_integers (map Some es) ≡ Some (map integer_of es)
-integers [] h = refl
-integers (Integer z ∷ es) h = ap (option_map (λ zs. z ∷ zs)) (integers es h.1)
-integers (Truth b ∷ es) h = absurd h.0
-integers (Vector v ∷ es) h = absurd h.0
-integers (Abstract name ∷ es) h = absurd h.0
 
 -- each of a sort of bit vectors
 abbrev AreVectors : List Sort → Type 0
@@ -91,6 +92,7 @@ vectors (s ∷ sorts) (e ∷ es) each h =
         → known_vectors (map Some (e ∷ es)) ≡ Some (map vector_of (e ∷ es))
     by (Truth b) h rest = absurd h
     by (Integer z) h rest = absurd h
+    by (Fraction top low) h rest = absurd h
     by (Abstract name) h rest = absurd h
     by (Vector v) h rest = ap (option_map (λ vs. v ∷ vs)) rest
 
@@ -128,6 +130,7 @@ decided_known d es h =
     by false (Truth false ∷ es) h = inl refl
     by d (Integer z ∷ es) h = absurd h.0
     by d (Vector v ∷ es) h = absurd h.0
+    by d (Fraction top low ∷ es) h = absurd h.0
     by d (Abstract name ∷ es) h = absurd h.0
 
 -- what `=>` makes of its arguments are truth values too
@@ -140,6 +143,7 @@ disjunction (Truth b ∷ e ∷ es) h =
     in (Truth (not b) ∷ rest.0, (tt, rest.1), ap (λ xs. Some (Truth (not b)) ∷ xs) rest.2)
 disjunction (Integer z ∷ e ∷ es) h = absurd h.0
 disjunction (Vector v ∷ e ∷ es) h = absurd h.0
+disjunction (Fraction top low ∷ e ∷ es) h = absurd h.0
 disjunction (Abstract name ∷ e ∷ es) h = absurd h.0
 
 some_of : {A B : Type 0} (f : A → B) (o : Option A) (x : A) → o ≡ Some x → IsSome (option_map f o)
@@ -154,20 +158,22 @@ negation [] h = absurd h
 negation (Truth b ∷ []) h = refl
 negation (Integer z ∷ []) h = absurd h.0
 negation (Vector v ∷ []) h = absurd h.0
+negation (Fraction top low ∷ []) h = absurd h.0
 negation (Abstract name ∷ []) h = absurd h.0
 negation (e ∷ f ∷ es) h = absurd h.1
 
-choice : (sort : Sort) (es : List Element) → AreOfSorts (Boolean ∷ sort ∷ sort ∷ []) es
+choice : (s t : Sort) (es : List Element) → AreOfSorts (Boolean ∷ s ∷ t ∷ []) es
     → IsSome (known_core Ite (map Some es))
-choice sort [] h = absurd h
-choice sort (c ∷ []) h = absurd h.1
-choice sort (c ∷ a ∷ []) h = absurd h.1.1
-choice sort (Truth true ∷ a ∷ b ∷ []) h = refl
-choice sort (Truth false ∷ a ∷ b ∷ []) h = refl
-choice sort (Integer z ∷ a ∷ b ∷ []) h = absurd h.0
-choice sort (Vector v ∷ a ∷ b ∷ []) h = absurd h.0
-choice sort (Abstract name ∷ a ∷ b ∷ []) h = absurd h.0
-choice sort (c ∷ a ∷ b ∷ d ∷ es) h = absurd h.1.1.1
+choice s t [] h = absurd h
+choice s t (c ∷ []) h = absurd h.1
+choice s t (c ∷ a ∷ []) h = absurd h.1.1
+choice s t (Truth true ∷ a ∷ b ∷ []) h = refl
+choice s t (Truth false ∷ a ∷ b ∷ []) h = refl
+choice s t (Integer z ∷ a ∷ b ∷ []) h = absurd h.0
+choice s t (Vector v ∷ a ∷ b ∷ []) h = absurd h.0
+choice s t (Fraction top low ∷ a ∷ b ∷ []) h = absurd h.0
+choice s t (Abstract name ∷ a ∷ b ∷ []) h = absurd h.0
+choice s t (c ∷ a ∷ b ∷ d ∷ es) h = absurd h.1.1.1
 
 pub core_known : (op : CoreOp) (sorts : List Sort) (sort : Sort) (es : List Element)
     → HasRank (Core op) sorts sort → AreOfSorts sorts es → IsSome (known_step (Core op) (map Some es))
@@ -182,7 +188,8 @@ core_known Or sorts sort es r h = decided_known true es (all_of Boolean sorts es
 core_known Xor sorts sort es r h = some_of _ _ (map truth_of es) (truths es (all_of Boolean sorts es r.0.1 h))
 core_known Equal sorts sort es r h = some_of _ _ es (themselves es)
 core_known Distinct sorts sort es r h = some_of _ _ es (themselves es)
-core_known Ite sorts sort es r h = choice sort es (subst (λ ss. AreOfSorts ss es) r h)
+core_known Ite sorts sort es (inl r) h = choice sort sort es (subst (λ ss. AreOfSorts ss es) r h)
+core_known Ite sorts sort es (inr r) h = choice r.0 r.1 es (subst (λ ss. AreOfSorts ss es) r.2 h)
 
 -- ---- theory Ints
 
@@ -192,19 +199,43 @@ divisible n [] positive h = absurd h
 divisible n (Integer z ∷ []) positive h = rw positive refl
 divisible n (Truth b ∷ []) positive h = absurd h.0
 divisible n (Vector v ∷ []) positive h = absurd h.0
+divisible n (Fraction top low ∷ []) positive h = absurd h.0
 divisible n (Abstract name ∷ []) positive h = absurd h.0
 divisible n (e ∷ f ∷ es) positive h = absurd h.1
 
+-- a sort of numbers is no other sort
+other_than : (s t : Sort) → s ≡ t → is_number t ≡ true → is_number s ≡ false → ⊥
+other_than s t is number other = absurd (let e = ap is_number is in cc)
+
+number_is : (s : Sort) → IsNumber s → is_number s ≡ false → ⊥
+number_is s (inl is) other = other_than s Int is refl other
+number_is s (inr is) other = other_than s Real is refl other
+
+calculated_need : (arity : Arity) (sorts : List Sort) (sort : Sort) → HasShape (Calculated arity) sorts sort
+    → is_number sort ≡ false → ⊥
+calculated_need arity sorts sort (inl r) other = other_than sort Int r.1 refl other
+calculated_need arity sorts sort (inr r) other = other_than sort Real r.2 refl other
+
+-- numbers are compared, whichever they are
+chain_known : (op : Relation) (es : List Element) → AreNumeric es → IsSome (known_step (Ints (Chain op)) (map Some es))
+chain_known op es h = by (list_any is_known_fraction (map Some es)) refl
+  where
+    by : (b : Bool) → list_any is_known_fraction (map Some es) ≡ b
+        → IsSome (cond b (option_and_then (known_mixed (Chain op)) (known_numbers (map Some es)))
+        (option_and_then (known_ints (Chain op)) (known_integers (map Some es))))
+    by true some = rw (numbers_known es h) refl
+    by false none = rw (integers_known es h none) refl
+
 pub ints_known : (op : IntsOp) (sorts : List Sort) (sort : Sort) (es : List Element)
-    → HasRank (Ints op) sorts sort → AreOfSorts sorts es → sort ≢ Int
+    → HasRank (Ints op) sorts sort → AreOfSorts sorts es → is_number sort ≡ false
     → IsSome (known_step (Ints op) (map Some es))
-ints_known (Left Minus) sorts sort es r h other = absurd (other r.1)
-ints_known (Left Plus) sorts sort es r h other = absurd (other r.1)
-ints_known (Left Times) sorts sort es r h other = absurd (other r.1)
-ints_known (Left Div) sorts sort es r h other = absurd (other r.1)
-ints_known Mod sorts sort es r h other = absurd (other r.1)
-ints_known Abs sorts sort es r h other = absurd (other r.1)
-ints_known (Chain op) sorts sort es r h other = rw (integers es (all_of Int sorts es r.0.1 h)) refl
+ints_known (Left Minus) sorts sort es r h other = absurd (calculated_need OneOrMore sorts sort r other)
+ints_known (Left Plus) sorts sort es r h other = absurd (calculated_need Several sorts sort r other)
+ints_known (Left Times) sorts sort es r h other = absurd (calculated_need Several sorts sort r other)
+ints_known (Left Div) sorts sort es r h other = absurd (other_than sort Int r.1 refl other)
+ints_known Mod sorts sort es r h other = absurd (other_than sort Int r.1 refl other)
+ints_known Abs sorts sort es r h other = absurd (other_than sort Int r.1 refl other)
+ints_known (Chain op) sorts sort es r h other = chain_known op es (all_numeric sorts es r.0.1 h)
 ints_known (Divisible n) sorts sort es r h other = by (nat_lt 0 n) refl r
   where
     by : (b : Bool) → nat_lt 0 n ≡ b → HasShape (cond b (Uniform One Int Boolean) OutOfRange) sorts sort
@@ -212,32 +243,75 @@ ints_known (Divisible n) sorts sort es r h other = by (nat_lt 0 n) refl r
     by true positive r = divisible n es positive (subst (λ ss. AreOfSorts ss es) r.0 h)
     by false positive r = absurd r
 
--- each operator takes an integer
-several_need : (sorts : List Sort) → AreOf Several Int sorts → All (λ s. s ≢ Int) sorts → ⊥
+-- ---- theory Reals
+
+integral : (sorts : List Sort) (es : List Element) → length sorts ≡ 1 → All IsNumber sorts → AreOfSorts sorts es
+    → IsSome (known_step (Reals IsInt) (map Some es))
+integral [] es one each h = absurd (omega arith)
+integral (s ∷ sorts) [] one each h = absurd h
+integral (s ∷ u ∷ sorts) (e ∷ es) one each h = absurd (omega arith)
+integral (s ∷ []) (e ∷ f ∷ es) one each h = absurd h.1
+integral (s ∷ []) (e ∷ []) one each h = rw (numbers_known (e ∷ []) (all_numeric (s ∷ []) (e ∷ []) each h)) refl
+
+reals_known : (op : RealsOp) (sorts : List Sort) (sort : Sort) (es : List Element)
+    → HasRank (Reals op) sorts sort → AreOfSorts sorts es → is_number sort ≡ false
+    → IsSome (known_step (Reals op) (map Some es))
+reals_known Divide sorts sort es r h other = absurd (other_than sort Real r.1 refl other)
+reals_known ToReal sorts sort es r h other = absurd (other_than sort Real r.1 refl other)
+reals_known ToInt sorts sort es r h other = absurd (other_than sort Int r.1 refl other)
+reals_known IsInt sorts sort es r h other = integral sorts es r.0.0 r.0.1 h
+
+-- each operator of Ints and Reals takes a number
+numbers_need : (n : ℕ) (sorts : List Sort) → n ≡ length sorts → 1 ≤ n → All IsNumber sorts
+    → All (λ s. is_number s ≡ false) sorts → ⊥
+numbers_need n sorts counted some each none =
+    number_is (get_or sorts 0 Int) (each 0 Int (omega arith)) (none 0 Int (omega arith))
+
+are_numbers : (sorts : List Sort) → All (λ s. s ≡ Int) sorts → All IsNumber sorts
+are_numbers sorts each i d below = inl (each i d below)
+
+many_need : (sorts : List Sort) → AreNumbers Several sorts → All (λ s. is_number s ≡ false) sorts → ⊥
+many_need sorts many none =
+    numbers_need (length sorts) sorts refl (let two = many.0 in omega arith) many.1 none
+
+one_need : (sorts : List Sort) → AreNumbers One sorts → All (λ s. is_number s ≡ false) sorts → ⊥
+one_need sorts one none = numbers_need 1 sorts (sym one.0) (omega arith) one.1 none
+
+several_need : (sorts : List Sort) → AreOf Several Int sorts → All (λ s. is_number s ≡ false) sorts → ⊥
 several_need sorts several none =
-    none 0 Int (let two = several.0 in omega arith) (several.1 0 Int (let two = several.0 in omega arith))
+    numbers_need (length sorts) sorts refl (let two = several.0 in omega arith) (are_numbers sorts several.1) none
 
-some_need : (sorts : List Sort) → AreOf OneOrMore Int sorts → All (λ s. s ≢ Int) sorts → ⊥
-some_need sorts some none =
-    none 0 Int (let one = some.0 in omega arith) (some.1 0 Int (let one = some.0 in omega arith))
+some_need : (sorts : List Sort) → AreOf OneOrMore Int sorts → All (λ s. is_number s ≡ false) sorts → ⊥
+some_need sorts some none = numbers_need (length sorts) sorts refl some.0 (are_numbers sorts some.1) none
 
-first_need : (sorts rest : List Sort) → sorts ≡ Int ∷ rest → All (λ s. s ≢ Int) sorts → ⊥
-first_need sorts rest is none = (subst (λ ss. All (λ s. s ≢ Int) ss) is none) 0 Int (omega arith) refl
+first_need : (sorts rest : List Sort) → sorts ≡ Int ∷ rest → All (λ s. is_number s ≡ false) sorts → ⊥
+first_need sorts rest is none =
+    number_is Int (inl refl) ((subst (λ ss. All (λ s. is_number s ≡ false) ss) is none) 0 Int (omega arith))
 
 pub ints_need : (op : IntsOp) (sorts : List Sort) (sort : Sort) → HasRank (Ints op) sorts sort
-    → All (λ s. s ≢ Int) sorts → ⊥
-ints_need (Left Minus) sorts sort r none = some_need sorts r.0 none
-ints_need (Left Plus) sorts sort r none = several_need sorts r.0 none
-ints_need (Left Times) sorts sort r none = several_need sorts r.0 none
+    → All (λ s. is_number s ≡ false) sorts → ⊥
+ints_need (Left Minus) sorts sort (inl r) none = some_need sorts r.0 none
+ints_need (Left Minus) sorts sort (inr r) none = numbers_need (length sorts) sorts refl r.0.0 r.0.1 none
+ints_need (Left Plus) sorts sort (inl r) none = several_need sorts r.0 none
+ints_need (Left Plus) sorts sort (inr r) none = many_need sorts r.0 none
+ints_need (Left Times) sorts sort (inl r) none = several_need sorts r.0 none
+ints_need (Left Times) sorts sort (inr r) none = many_need sorts r.0 none
 ints_need (Left Div) sorts sort r none = several_need sorts r.0 none
 ints_need Mod sorts sort r none = first_need sorts (Int ∷ []) r.0 none
 ints_need Abs sorts sort r none = first_need sorts [] r.0 none
-ints_need (Chain op) sorts sort r none = several_need sorts r.0 none
+ints_need (Chain op) sorts sort r none = many_need sorts r.0 none
 ints_need (Divisible n) sorts sort r none = by (nat_lt 0 n) r
   where
     by : (b : Bool) → HasShape (cond b (Uniform One Int Boolean) OutOfRange) sorts sort → ⊥
     by true r = first_need sorts [] r.0 none
     by false r = absurd r
+
+reals_need : (op : RealsOp) (sorts : List Sort) (sort : Sort) → HasRank (Reals op) sorts sort
+    → All (λ s. is_number s ≡ false) sorts → ⊥
+reals_need Divide sorts sort r none = many_need sorts r.0 none
+reals_need ToReal sorts sort r none = first_need sorts [] r.0 none
+reals_need ToInt sorts sort r none = one_need sorts r.0 none
+reals_need IsInt sorts sort r none = one_need sorts r.0 none
 
 -- ---- bit vectors
 
@@ -362,14 +436,16 @@ bits_known (RotateRight i) sorts sort es r h = of_one (RotateRight i) r.0 sorts 
 -- ---- all
 
 pub result_known : (op : Op) (sorts : List Sort) (sort : Sort) (es : List Element) → HasRank op sorts sort
-    → AreOfSorts sorts es → sort ≢ Int → IsSome (known_step op (map Some es))
+    → AreOfSorts sorts es → is_number sort ≡ false → IsSome (known_step op (map Some es))
 result_known (Core op) sorts sort es r h other = core_known op sorts sort es r h
 result_known (Ints op) sorts sort es r h other = ints_known op sorts sort es r h other
+result_known (Reals op) sorts sort es r h other = reals_known op sorts sort es r h other
 result_known (Bits op) sorts sort es r h other = bits_known op sorts sort es r h
 
-pub without_integers : (op : Op) (sorts : List Sort) (sort : Sort) (es : List Element) → HasRank op sorts sort
-    → AreOfSorts sorts es → All (λ s. s ≢ Int) sorts
+pub without_numbers : (op : Op) (sorts : List Sort) (sort : Sort) (es : List Element) → HasRank op sorts sort
+    → AreOfSorts sorts es → All (λ s. is_number s ≡ false) sorts
     → IsSome (known_step op (map Some es))
-without_integers (Core op) sorts sort es r h none = core_known op sorts sort es r h
-without_integers (Ints op) sorts sort es r h none = absurd (ints_need op sorts sort r none)
-without_integers (Bits op) sorts sort es r h none = bits_known op sorts sort es r h
+without_numbers (Core op) sorts sort es r h none = core_known op sorts sort es r h
+without_numbers (Ints op) sorts sort es r h none = absurd (ints_need op sorts sort r none)
+without_numbers (Reals op) sorts sort es r h none = absurd (reals_need op sorts sort r none)
+without_numbers (Bits op) sorts sort es r h none = bits_known op sorts sort es r h

@@ -31,7 +31,7 @@ use Rattle.smt_theory.specs.declared.op.Op.TheVariants.{Bits}
 use Rattle.smt_theory.specs.Sort.{Sort}
 use Rattle.smt_theory.specs.Sort.{Boolean as BoolSort, Bits as BitsSort}
 use Rattle.smt_values.specs.BitOperations.{binary, concatenated, folded, folded_vector, operate_bits, unary}
-use Rattle.smt_values.specs.Element.{Element, Truth, Integer, Vector, Abstract, IsOfSort, AreOfSorts}
+use Rattle.smt_values.specs.Element.{Element, Truth, Integer, Fraction, Vector, Abstract, IsOfSort, AreOfSorts}
 use Rattle.smt_values.specs.Operations.{vector_of}
 
 -- the results fit their widths
@@ -105,6 +105,7 @@ pub vector_is : (m : ℕ) (e : Element) → IsOfSort (BitsSort m) e
 vector_is m (Truth b) h = absurd h
 vector_is m (Integer z) h = absurd h
 vector_is m (Vector v) h = h
+vector_is m (Fraction top low) h = absurd h
 vector_is m (Abstract name) h = absurd h
 
 pub record One (m : ℕ) (es : List Element) : Type 0 where

@@ -15,10 +15,10 @@ use Rattle.std.specs.Cmp.{IsTotalOrder, both_tied, signed_Decides, unsigned_Deci
 use Rattle.std.specs.List.{AllByRecursion, IsDistinct, dedup, dedup_from, list_any}
 use Rattle.std.specs.List.Sorted.{IsStrictlySortedBy}
 use Rattle.std.specs.Cmp.Lexicographic.{nat_list_cmp_total, slice_cmp}
-use Rattle.std.specs.Ordering.{eq_by_cmp, ordering_then}
+use Rattle.std.specs.Ordering.{eq_by_cmp, int_eq, ordering_then}
 use Rattle.std.specs.Prelude.{bytes_eq}
 use Rattle.smt_values.proofs.KnownLoopLemmas.{list_any-map}
-use Rattle.smt_values.specs.Element.{Element, Truth, Integer, Vector, Abstract, known_element}
+use Rattle.smt_values.specs.Element.{Element, Truth, Integer, Fraction, Vector, Abstract, known_element}
 use Rattle.smt_values.specs.Element.{known_elements}
 use Rattle.smt_values.specs.Internal.Keys.{compared, key_of}
 use Rattle.smt_values.specs.Internal.Same.{is_same_known}
@@ -125,6 +125,7 @@ same_tied : (x y : Option Element) → is_same_known x y ≡ is_eq (compared x y
 same_tied None None = refl
 same_tied None (Some (Truth b)) = refl
 same_tied None (Some (Integer z)) = refl
+same_tied None (Some (Fraction m e)) = refl
 same_tied None (Some (Vector v)) = refl
 same_tied None (Some (Abstract name)) = refl
 same_tied (Some (Truth a)) None = refl
@@ -133,16 +134,26 @@ same_tied (Some (Truth true)) (Some (Truth false)) = refl
 same_tied (Some (Truth false)) (Some (Truth true)) = refl
 same_tied (Some (Truth false)) (Some (Truth false)) = refl
 same_tied (Some (Truth a)) (Some (Integer z)) = refl
+same_tied (Some (Truth a)) (Some (Fraction m e)) = refl
 same_tied (Some (Truth a)) (Some (Vector v)) = refl
 same_tied (Some (Truth a)) (Some (Abstract name)) = refl
 same_tied (Some (Integer a)) None = refl
 same_tied (Some (Integer a)) (Some (Truth b)) = refl
 same_tied (Some (Integer a)) (Some (Integer b)) = is_eq_then (int_cmp a b)
+same_tied (Some (Integer a)) (Some (Fraction m e)) = refl
 same_tied (Some (Integer a)) (Some (Vector v)) = refl
 same_tied (Some (Integer a)) (Some (Abstract name)) = refl
+same_tied (Some (Fraction n d)) None = refl
+same_tied (Some (Fraction n d)) (Some (Truth b)) = refl
+same_tied (Some (Fraction n d)) (Some (Integer b)) = refl
+same_tied (Some (Fraction n d)) (Some (Fraction m e)) =
+    both_tied (int_eq n m) (d == e) (int_cmp n m) _ refl (unsigned_ties d e) ∙ is_eq_equal _
+same_tied (Some (Fraction n d)) (Some (Vector v)) = refl
+same_tied (Some (Fraction n d)) (Some (Abstract name)) = refl
 same_tied (Some (Vector s)) None = refl
 same_tied (Some (Vector s)) (Some (Truth b)) = refl
 same_tied (Some (Vector s)) (Some (Integer b)) = refl
+same_tied (Some (Vector s)) (Some (Fraction m e)) = refl
 same_tied (Some (Vector s)) (Some (Abstract name)) = refl
 same_tied (Some (Vector s)) (Some (Vector t)) =
     both_tied (s.width == t.width) (s.number == t.number) (int_cmp (pos s.width) (pos t.width)) _
@@ -150,6 +161,7 @@ same_tied (Some (Vector s)) (Some (Vector t)) =
 same_tied (Some (Abstract x)) None = refl
 same_tied (Some (Abstract x)) (Some (Truth b)) = refl
 same_tied (Some (Abstract x)) (Some (Integer b)) = refl
+same_tied (Some (Abstract x)) (Some (Fraction m e)) = refl
 same_tied (Some (Abstract x)) (Some (Vector v)) = refl
 same_tied (Some (Abstract x)) (Some (Abstract y)) = names_tied x y
 

@@ -9,7 +9,9 @@ use Rattle.std.proofs.lemmas.Bool.Decides.{Decides-int_eq, nat_tests}
 use Rattle.std.specs.Int.{int_div_euclid, int_rem_euclid}
 use Rattle.std.specs.Ordering.{int_eq}
 use Rattle.std.specs.Prelude.{unsigned_abs}
+use Rattle.smt_ratios.specs.Rational.{Rational}
 use Rattle.smt_values.specs.Element.{Integer, Truth}
+use Rattle.smt_values.specs.Numbers.{divided}
 use Rattle.smt_values.specs.Operations.{DivisionByZero, at_zero, divides, quotient, remainder}
 
 -- of a dividend from 0 on, and of one below it
@@ -95,19 +97,23 @@ beside_row table a r b other = by (int_eq b a) (Decides-int_eq b a).0
 
 pub quotient_free : (z : DivisionByZero) (a r : ℤ) → (y : DivisionByZero) × (quotient y a (pos 0) ≡ r)
     × ((b n : ℤ) → b ≢ a → quotient y b n ≡ quotient z b n) × ((b n : ℤ) → remainder y b n ≡ remainder z b n)
+    × ((b n : Rational) → divided y.ratios b n ≡ divided z.ratios b n)
 quotient_free z a r = (
   record z { quotients = (a, r) ∷ z.quotients },
   at_row z.quotients a r,
   λ b n other. ap (λ x. cond (int_eq n (pos 0)) x (int_div_euclid b n)) (beside_row z.quotients a r b other),
   λ b n. refl,
+  λ b n. refl,
 )
 
 pub remainder_free : (z : DivisionByZero) (a r : ℤ) → (y : DivisionByZero) × (remainder y a (pos 0) ≡ r)
     × ((b n : ℤ) → b ≢ a → remainder y b n ≡ remainder z b n) × ((b n : ℤ) → quotient y b n ≡ quotient z b n)
+    × ((b n : Rational) → divided y.ratios b n ≡ divided z.ratios b n)
 remainder_free z a r = (
   record z { remainders = (a, r) ∷ z.remainders },
   at_row z.remainders a r,
   λ b n other. ap (λ x. cond (int_eq n (pos 0)) x (int_rem_euclid b n)) (beside_row z.remainders a r b other),
+  λ b n. refl,
   λ b n. refl,
 )
 

@@ -1,11 +1,9 @@
 -- What the operators on integers give.
 use Rattle.std.proofs.Common.{◌≡◌, ◌↔◌, ℤ, pos, ◌+ℤ◌, ◌-ℤ◌, ◌*ℤ◌, neg_ℤ}
-use Rattle.std.proofs.Common.{Bool, true, ◌&&◌, List, ◌∷◌, sym, ap, subst, ◌∙◌, arith}
+use Rattle.std.proofs.Common.{sym, ap, subst, ◌∙◌, arith}
 use Rattle.std.proofs.Math.IntN.{*ℤ_comm, +ℤ_one, suc_ℤ-*ℤ}
 use Rattle.std.proofs.lemmas.Int.{ints}
-use Rattle.smt_values.proofs.ConnectiveLemmas.{two_parts}
-use Rattle.smt_values.specs.Element.{Truth, Integer}
-use Rattle.smt_values.specs.Lists.{are_chained}
+use Rattle.smt_values.specs.Element.{Integer}
 use Rattle.smt_values.specs.Operations.{integer_of}
 
 -- a result that has what at most one integer has
@@ -35,8 +33,3 @@ times_more a b c = (
   where
     less : (p : ℤ) → p +ℤ a ≡ c +ℤ a → p ≡ c
     less p same = omega (arith, ints)
-
-pub chain_parts : (relation : ℤ → ℤ → Bool) (a b c : ℤ) (rest : List ℤ)
-    → Truth (are_chained relation (a ∷ b ∷ c ∷ rest))
-    ≡ Truth ((relation a b && true) && (are_chained relation (b ∷ c ∷ rest) && true))
-chain_parts relation a b c rest = two_parts (relation a b) (are_chained relation (b ∷ c ∷ rest))

@@ -11,13 +11,13 @@ use Rattle.smt_values.specs.Internal.Same.{is_same_known}
 use Rattle.std.specs.Prelude.{if◌then◌else◌, map, fold, option_map, option_and_then}
 use Rattle.std.specs.List.{list_all, list_any}
 use Rattle.smt_values.specs.declared.value.Value.{Value}
-use Rattle.smt_values.specs.Element.{Element, Truth, Integer, Vector, Abstract, element_of, known_element}
+use Rattle.smt_values.specs.Element.{Element, Truth, Integer, Fraction, Vector, Abstract, element_of, known_element}
 use Rattle.smt_values.specs.Element.{known_elements}
 use Rattle.smt_values.specs.KnownOperations.{as_disjunction, decided, is_known, known_abs, known_arithmetic}
 use Rattle.smt_values.specs.KnownOperations.{known_divisible, known_from_left, known_integer, known_integers}
 use Rattle.smt_values.specs.KnownOperations.{known_mod, known_truth}
 use Rattle.smt_values.specs.Operations.{is_same, exclusive_or}
-use Rattle.smt_values.specs.Lists.{all_known, are_chained, are_distinct, steps_from}
+use Rattle.smt_values.specs.Lists.{all_known, are_chained, are_distinct, only_one, steps_from}
 
 pub list_any-map : {A B : Type 0} (p : B → Bool) (f : A → B) (xs : List A)
     → list_any p (map f xs) ≡ list_any (λ x. p (f x)) xs
@@ -104,6 +104,25 @@ pub and_assoc : (a b c : Bool) → (a && (b && c)) ≡ ((a && b) && c)
 and_assoc true b c = refl
 and_assoc false b c = refl
 
+-- a chain of what is known of each argument
+module _ {A : Type 0} (one : Option Element → Option A) (relation : A → A → Bool) where
+  pub chained_at : (xs : List (Option Value)) (i : ℕ) (x : Option Value) (holds still : Bool) (last next now : A)
+      → i < length xs → x ≡ get_or xs i x → one (known_element x) ≡ Some next
+      → (holds && relation last next) ≡ still → next ≡ now
+      → option_map (λ zs. holds && are_chained relation (last ∷ zs))
+      (all_known (map one (known_elements (drop i xs))))
+      ≡ option_map (λ zs. still && are_chained relation (now ∷ zs))
+      (all_known (map one (known_elements (drop (i + 1) xs))))
+  chained_at xs i x holds still last next now below is e s n =
+      map_at (λ x. one (known_element x)) (λ xs. map one (known_elements xs)) (λ x xs. refl)
+      (λ zs. holds && are_chained relation (last ∷ zs)) xs i x next below is e
+      ∙ (λ j. option_map (λ zs. and_assoc holds (relation last next) (are_chained relation (next ∷ zs)) j)
+      (all_known (map one (known_elements (drop (i + 1) xs)))))
+      ∙ ap (λ b. option_map (λ zs. b && are_chained relation (next ∷ zs))
+      (all_known (map one (known_elements (drop (i + 1) xs))))) s
+      ∙ ap (λ x. option_map (λ zs. still && are_chained relation (x ∷ zs))
+      (all_known (map one (known_elements (drop (i + 1) xs))))) n
+
 pub chain_at : (relation : ℤ → ℤ → Bool) (xs : List (Option Value)) (i : ℕ) (x : Option Value)
     (holds still : Bool) (last next now : ℤ) → i < length xs → x ≡ get_or xs i x
     → known_integer (known_element x) ≡ Some next
@@ -112,15 +131,7 @@ pub chain_at : (relation : ℤ → ℤ → Bool) (xs : List (Option Value)) (i :
     (known_integers (known_elements (drop i xs)))
     ≡ option_map (λ zs. still && are_chained relation (now ∷ zs))
     (known_integers (known_elements (drop (i + 1) xs)))
-chain_at relation xs i x holds still last next now below is e s n =
-    map_at (λ x. known_integer (known_element x)) (λ xs. map known_integer (known_elements xs)) (λ x xs. refl)
-    (λ zs. holds && are_chained relation (last ∷ zs)) xs i x next below is e
-    ∙ (λ j. option_map (λ zs. and_assoc holds (relation last next) (are_chained relation (next ∷ zs)) j)
-    (known_integers (known_elements (drop (i + 1) xs))))
-    ∙ ap (λ b. option_map (λ zs. b && are_chained relation (next ∷ zs))
-    (known_integers (known_elements (drop (i + 1) xs)))) s
-    ∙ ap (λ x. option_map (λ zs. still && are_chained relation (x ∷ zs))
-    (known_integers (known_elements (drop (i + 1) xs)))) n
+chain_at = chained_at known_integer
 
 pub steps_at : {A : Type 0} (one : Option Element → Option A) (combine : A → A → Option A)
     (xs : List (Option Value)) (i : ℕ) (x : Option Value) (total next sum : A) → i < length xs
@@ -136,7 +147,7 @@ steps_at one combine xs i x total next sum below is e combined =
 
 -- ---- arguments of another number
 
-length_known : {A : Type 0} (xs : List (Option A)) (ys : List A) → all_known xs ≡ Some ys
+pub length_known : {A : Type 0} (xs : List (Option A)) (ys : List A) → all_known xs ≡ Some ys
     → length ys ≡ length xs
 length_known [] ys e = let n : [] ≡ ys = cc in sym (ap length n)
 length_known (None ∷ xs) ys e = cc
@@ -166,6 +177,11 @@ module _ {A : Type 0} (one : Option Element → Option A) where
       let all = all_known (map one (known_elements xs)) in
       sym (then_same f (λ ys. None) all (λ ys e. h ys (length_of xs ys e)) ∙ then_none {B = B} all)
 
+pub one_none : {A : Type 0} (xs : List A) → length xs ≢ 1 → only_one xs ≡ None
+one_none [] n = refl
+one_none (a ∷ []) n = absurd (n refl)
+one_none (a ∷ b ∷ xs) n = refl
+
 pub mod_none : (zs : List ℤ) → length zs ≢ 2 → known_mod zs ≡ None
 mod_none [] n = refl
 mod_none (a ∷ []) n = refl
@@ -184,34 +200,41 @@ divisible_none k (a ∷ b ∷ zs) n = refl
 
 -- ---- two arguments or more, from the left
 
-from_left_many : (op : Arithmetic) (a b : ℤ) (zs : List ℤ)
+pub from_left_many : (op : Arithmetic) (a b : ℤ) (zs : List ℤ)
     → known_from_left op (a ∷ b ∷ zs) ≡ steps_from (known_arithmetic op) a (b ∷ zs)
 from_left_many Minus a b zs = refl
 from_left_many Plus a b zs = refl
 from_left_many Times a b zs = refl
 from_left_many Div a b zs = refl
 
+-- where f makes of two arguments or more what g makes of the first and the others
+module _ {A B : Type 0} (one : Option Element → Option A) (f : List A → Option B) (g : A → List A → Option B) where
+  pub first_steps : ((a b : A) (zs : List A) → f (a ∷ b ∷ zs) ≡ g a (b ∷ zs)) → (xs : List (Option Value))
+      (item : Option Value) (first : A) → 2 ≤ length xs → item ≡ get_or xs 0 item
+      → one (known_element item) ≡ Some first
+      → option_and_then (g first) (all_known (map one (known_elements (drop 1 xs))))
+      ≡ option_and_then f (all_known (map one (known_elements xs)))
+  first_steps many [] item first two is e = absurd (omega arith)
+  first_steps many (x ∷ []) item first two is e = absurd (omega arith)
+  first_steps many (x ∷ y ∷ xs) item first two is e =
+      then_same (g first) (λ zs. f (first ∷ zs)) (all_known (map one (known_elements (y ∷ xs))))
+      (λ zs k. by zs (length_of one (y ∷ xs) zs k))
+      ∙ sym (then_more f (one (known_element x)) first (map one (known_elements (y ∷ xs)))
+      (ap (λ z. one (known_element z)) (sym is) ∙ e))
+    where
+      by : (zs : List A) → length zs ≡ length (y ∷ xs) → g first zs ≡ f (first ∷ zs)
+      by [] n = absurd (none n)
+        where
+          none : 0 ≡ length (y ∷ xs) → ⊥
+          none n = omega arith
+      by (b ∷ zs) n = sym (many first b zs)
+
 pub from_left_steps : (op : Arithmetic) (xs : List (Option Value)) (item : Option Value) (first : ℤ)
     → 2 ≤ length xs → item ≡ get_or xs 0 item → known_integer (known_element item) ≡ Some first
     → option_and_then (steps_from (known_arithmetic op) first) (known_integers (known_elements (drop 1 xs)))
     ≡ option_and_then (known_from_left op) (known_integers (known_elements xs))
-from_left_steps op [] item first two is e = absurd (omega arith)
-from_left_steps op (x ∷ []) item first two is e = absurd (omega arith)
-from_left_steps op (x ∷ y ∷ xs) item first two is e =
-    then_same (steps_from (known_arithmetic op) first) (λ zs. known_from_left op (first ∷ zs))
-    (known_integers (known_elements (y ∷ xs)))
-    (λ zs k. many zs (length_of known_integer (y ∷ xs) zs k))
-    ∙ sym (then_more (known_from_left op) (known_integer (known_element x)) first
-    (map known_integer (known_elements (y ∷ xs)))
-    (ap (λ z. known_integer (known_element z)) (sym is) ∙ e))
-  where
-    many : (zs : List ℤ) → length zs ≡ length (y ∷ xs)
-        → steps_from (known_arithmetic op) first zs ≡ known_from_left op (first ∷ zs)
-    many [] n = absurd (none n)
-      where
-        none : 0 ≡ length (y ∷ xs) → ⊥
-        none n = omega arith
-    many (b ∷ zs) n = sym (from_left_many op first b zs)
+from_left_steps op = first_steps known_integer (known_from_left op) (steps_from (known_arithmetic op))
+    (from_left_many op)
 
 pub rest_is : (xs : List (Option Value)) → take (length xs - 1) (drop 1 xs) ≡ drop 1 xs
 rest_is xs = grind (arith, common_steps)
@@ -227,6 +250,7 @@ not_known false (Some (Truth true)) = refl
 not_known false (Some (Truth false)) = refl
 not_known b (Some (Integer z)) = refl
 not_known b (Some (Vector v)) = refl
+not_known b (Some (Fraction top low)) = refl
 not_known b (Some (Abstract name)) = refl
 
 or_false : (b : Bool) → (b || false) ≡ b

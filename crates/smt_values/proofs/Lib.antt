@@ -3,14 +3,22 @@ pub mod KnownLoopLemmas
 pub mod DistinctLemmas
 pub mod BitKnownLemmas
 pub mod BitSortLemmas
+pub mod NumberKnownLemmas
 pub mod AllKnownLemmas
 pub mod BitMeaningLemmas
+pub mod NumberMeaningLemmas
 pub mod MeaningLemmas
+pub mod NumberSortLemmas
 pub mod SortLemmas
 pub mod ConnectiveLemmas
 pub mod ReadingLemmas
 pub mod RoundingLemmas
 pub mod PairLemmas
+mod PlacesLemmas
 pub mod IntegerLemmas
+pub mod NumberLemmas
+pub mod KnownNumberLemmas
+pub mod RationalLemmas
 pub mod ConstantLemmas
+pub mod DecimalLemmas
 pub mod ReasonLemmas

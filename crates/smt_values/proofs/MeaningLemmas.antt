@@ -15,11 +15,15 @@ use Rattle.smt_theory.specs.declared.op.IntsOp.{IntsOp}
 use Rattle.smt_theory.specs.declared.op.IntsOp.TheVariants.{Arithmetic as Left, Comparison as Chain, Mod, Abs}
 use Rattle.smt_theory.specs.declared.op.IntsOp.TheVariants.{Divisible}
 use Rattle.smt_theory.specs.declared.op.Op.{Op}
-use Rattle.smt_theory.specs.declared.op.Op.TheVariants.{Core, Ints, Bits}
+use Rattle.smt_theory.specs.declared.op.Op.TheVariants.{Core, Ints, Reals, Bits}
 use Rattle.smt_values.specs.BitOperations.{operate_bits}
 use Rattle.smt_values.specs.KnownBitOperations.{known_bits}
 use Rattle.smt_values.proofs.BitMeaningLemmas.{bits_true}
-use Rattle.smt_values.specs.Element.{Element, Truth, Integer, Vector, Abstract, Agrees, AllAgree}
+use Rattle.smt_values.specs.Element.{Element, Truth, Integer, Fraction, Vector, Abstract, Agrees, AllAgree}
+use Rattle.smt_values.proofs.NumberMeaningLemmas.{KnownAreResults, fraction_agrees, integers_agree, mixed_true}
+use Rattle.smt_values.proofs.NumberMeaningLemmas.{numbers_true, reals_true}
+use Rattle.smt_values.specs.KnownNumbers.{is_known_fraction, known_mixed, known_numbers, known_reals}
+use Rattle.smt_values.specs.Numbers.{number_of, operate_numbers, operate_reals}
 use Rattle.smt_values.specs.KnownOperations.{known_truth, known_integers, known_vectors, is_known, decided}
 use Rattle.smt_values.specs.KnownOperations.{as_disjunction, known_negation, known_choice, known_core}
 use Rattle.smt_values.specs.KnownOperations.{is_within, within, known_quotient, known_remainder}
@@ -52,6 +56,7 @@ integers_true (k ∷ ks) [] zs h e = absurd h
 integers_true (None ∷ ks) (x ∷ es) zs h e = cc
 integers_true (Some (Truth b) ∷ ks) (x ∷ es) zs h e = cc
 integers_true (Some (Vector v) ∷ ks) (x ∷ es) zs h e = cc
+integers_true (Some (Fraction top low) ∷ ks) (x ∷ es) zs h e = cc
 integers_true (Some (Abstract name) ∷ ks) (x ∷ es) zs h e = cc
 integers_true (Some (Integer z) ∷ ks) (x ∷ es) zs h e =
     by (known_integers ks) (λ ys. integers_true ks es ys h.1) e
@@ -69,6 +74,7 @@ truths_true (k ∷ ks) [] bs h e = absurd h
 truths_true (None ∷ ks) (x ∷ es) bs h e = cc
 truths_true (Some (Integer z) ∷ ks) (x ∷ es) bs h e = cc
 truths_true (Some (Vector v) ∷ ks) (x ∷ es) bs h e = cc
+truths_true (Some (Fraction top low) ∷ ks) (x ∷ es) bs h e = cc
 truths_true (Some (Abstract name) ∷ ks) (x ∷ es) bs h e = cc
 truths_true (Some (Truth b) ∷ ks) (x ∷ es) bs h e =
     by (all_known (map known_truth ks)) (λ cs. truths_true ks es cs h.1) e
@@ -86,6 +92,7 @@ vectors_true (k ∷ ks) [] vs h e = absurd h
 vectors_true (None ∷ ks) (x ∷ es) vs h e = cc
 vectors_true (Some (Truth b) ∷ ks) (x ∷ es) vs h e = cc
 vectors_true (Some (Integer z) ∷ ks) (x ∷ es) vs h e = cc
+vectors_true (Some (Fraction top low) ∷ ks) (x ∷ es) vs h e = cc
 vectors_true (Some (Abstract name) ∷ ks) (x ∷ es) vs h e = cc
 vectors_true (Some (Vector v) ∷ ks) (x ∷ es) vs h e =
     by (known_vectors ks) (λ ws. vectors_true ks es ws h.1) e
@@ -127,6 +134,8 @@ some_false (Some (Integer z) ∷ ks) (e ∷ es) h a =
     ap (λ b. truth_of e && b) (some_false ks es h.1 a) ∙ and_false (truth_of e)
 some_false (Some (Vector v) ∷ ks) (e ∷ es) h a =
     ap (λ b. truth_of e && b) (some_false ks es h.1 a) ∙ and_false (truth_of e)
+some_false (Some (Fraction top low) ∷ ks) (e ∷ es) h a =
+    ap (λ b. truth_of e && b) (some_false ks es h.1 a) ∙ and_false (truth_of e)
 some_false (Some (Abstract name) ∷ ks) (e ∷ es) h a =
     ap (λ b. truth_of e && b) (some_false ks es h.1 a) ∙ and_false (truth_of e)
 some_false (Some (Truth true) ∷ ks) (e ∷ es) h a =
@@ -142,6 +151,7 @@ all_true (k ∷ ks) [] h a = absurd h
 all_true (None ∷ ks) (e ∷ es) h a = cc
 all_true (Some (Integer z) ∷ ks) (e ∷ es) h a = cc
 all_true (Some (Vector v) ∷ ks) (e ∷ es) h a = cc
+all_true (Some (Fraction top low) ∷ ks) (e ∷ es) h a = cc
 all_true (Some (Abstract name) ∷ ks) (e ∷ es) h a = cc
 all_true (Some (Truth false) ∷ ks) (e ∷ es) h a = cc
 all_true (Some (Truth true) ∷ ks) (e ∷ es) h a =
@@ -156,6 +166,8 @@ some_true (None ∷ ks) (e ∷ es) h a = ap (λ b. truth_of e || b) (some_true k
 some_true (Some (Integer z) ∷ ks) (e ∷ es) h a =
     ap (λ b. truth_of e || b) (some_true ks es h.1 a) ∙ or_true (truth_of e)
 some_true (Some (Vector v) ∷ ks) (e ∷ es) h a =
+    ap (λ b. truth_of e || b) (some_true ks es h.1 a) ∙ or_true (truth_of e)
+some_true (Some (Fraction top low) ∷ ks) (e ∷ es) h a =
     ap (λ b. truth_of e || b) (some_true ks es h.1 a) ∙ or_true (truth_of e)
 some_true (Some (Abstract name) ∷ ks) (e ∷ es) h a =
     ap (λ b. truth_of e || b) (some_true ks es h.1 a) ∙ or_true (truth_of e)
@@ -172,6 +184,7 @@ all_false (k ∷ ks) [] h a = absurd h
 all_false (None ∷ ks) (e ∷ es) h a = cc
 all_false (Some (Integer z) ∷ ks) (e ∷ es) h a = cc
 all_false (Some (Vector v) ∷ ks) (e ∷ es) h a = cc
+all_false (Some (Fraction top low) ∷ ks) (e ∷ es) h a = cc
 all_false (Some (Abstract name) ∷ ks) (e ∷ es) h a = cc
 all_false (Some (Truth true) ∷ ks) (e ∷ es) h a = cc
 all_false (Some (Truth false) ∷ ks) (e ∷ es) h a =
@@ -213,6 +226,7 @@ not_true None e h = tt
 not_true (Some (Truth b)) e h = ap (λ x. Truth (not (truth_of x))) h
 not_true (Some (Integer z)) e h = tt
 not_true (Some (Vector v)) e h = tt
+not_true (Some (Fraction top low)) e h = tt
 not_true (Some (Abstract name)) e h = tt
 
 negated_agree : (ks : List (Option Element)) (es : List Element) → AllAgree ks es
@@ -248,6 +262,7 @@ choice_true (c ∷ a ∷ b ∷ []) (x ∷ y ∷ w ∷ v ∷ es) h = absurd h.1.1
 choice_true (None ∷ a ∷ b ∷ []) (x ∷ y ∷ w ∷ []) h = tt
 choice_true (Some (Integer z) ∷ a ∷ b ∷ []) (x ∷ y ∷ w ∷ []) h = tt
 choice_true (Some (Vector v) ∷ a ∷ b ∷ []) (x ∷ y ∷ w ∷ []) h = tt
+choice_true (Some (Fraction top low) ∷ a ∷ b ∷ []) (x ∷ y ∷ w ∷ []) h = tt
 choice_true (Some (Abstract name) ∷ a ∷ b ∷ []) (x ∷ y ∷ w ∷ []) h = tt
 choice_true (Some (Truth true) ∷ a ∷ b ∷ []) (x ∷ y ∷ w ∷ []) h =
     subst (λ e. Agrees a (cond (truth_of e) y w)) (sym h.0) h.1.0
@@ -361,16 +376,49 @@ ints_true t (Divisible n) [] = tt
 ints_true t (Divisible n) (a ∷ []) = divisible_true n a
 ints_true t (Divisible n) (a ∷ b ∷ zs) = tt
 
+-- ---- operators of Ints, where an argument may be a fraction
+
+module _ (results : KnownAreResults) (t : DivisionByZero) (op : IntsOp) (ks : List (Option Element))
+    (es : List Element) (agree : AllAgree ks es) where
+  mixed_step_true : list_any is_known_fraction ks ≡ true
+      → Agrees (option_and_then (known_mixed op) (known_numbers ks)) (operate t (Ints op) es)
+  mixed_step_true some =
+      subst (λ b. Agrees (option_and_then (known_mixed op) (known_numbers ks))
+      (cond b (operate_numbers op (map number_of es)) (operate_ints t op (map integer_of es))))
+      (sym (fraction_agrees ks es agree some))
+      (strict_true (known_numbers ks) (known_mixed op) (operate_numbers op (map number_of es))
+      (λ rs e. subst (λ ys. Agrees (known_mixed op rs) (operate_numbers op ys)) (sym (numbers_true ks es rs agree e))
+      (mixed_true results op rs)))
+
+  ints_step_true : Agrees (option_and_then (known_ints op) (known_integers ks)) (operate t (Ints op) es)
+  ints_step_true =
+      strict_true (known_integers ks) (known_ints op) (operate t (Ints op) es)
+      (λ zs e. subst (λ b. Agrees (known_ints op zs)
+      (cond b (operate_numbers op (map number_of es)) (operate_ints t op (map integer_of es))))
+      (sym (integers_agree ks es zs agree e))
+      (subst (λ ys. Agrees (known_ints op zs) (operate_ints t op ys)) (sym (integers_true ks es zs agree e))
+      (ints_true t op zs)))
+
+  number_step_true : Agrees (known_step (Ints op) ks) (operate t (Ints op) es)
+  number_step_true = by (list_any is_known_fraction ks) refl
+    where
+      by : (b : Bool) → list_any is_known_fraction ks ≡ b
+          → Agrees (cond b (option_and_then (known_mixed op) (known_numbers ks))
+          (option_and_then (known_ints op) (known_integers ks))) (operate t (Ints op) es)
+      by true some = mixed_step_true some
+      by false none = ints_step_true
+
 -- ---- all
 
-pub known_step_true : (t : DivisionByZero) (op : Op) (ks : List (Option Element)) (es : List Element)
-    → AllAgree ks es → Agrees (known_step op ks) (operate t op es)
-known_step_true t (Core op) ks es h = core_true op ks es h
-known_step_true t (Ints op) ks es h =
-    strict_true (known_integers ks) (known_ints op) (operate_ints t op (map integer_of es))
-    (λ zs e. subst (λ ys. Agrees (known_ints op zs) (operate_ints t op ys)) (sym (integers_true ks es zs h e))
-    (ints_true t op zs))
-known_step_true t (Bits op) ks es h =
+pub known_step_true : (results : KnownAreResults) (t : DivisionByZero) (op : Op) (ks : List (Option Element))
+    (es : List Element) → AllAgree ks es → Agrees (known_step op ks) (operate t op es)
+known_step_true results t (Core op) ks es h = core_true op ks es h
+known_step_true results t (Ints op) ks es h = number_step_true results t op ks es h
+known_step_true results t (Reals op) ks es h =
+    strict_true (known_numbers ks) (known_reals op) (operate_reals t.ratios op (map number_of es))
+    (λ rs e. subst (λ ys. Agrees (known_reals op rs) (operate_reals t.ratios op ys))
+    (sym (numbers_true ks es rs h e)) (reals_true results t.ratios op rs))
+known_step_true results t (Bits op) ks es h =
     strict_true (known_vectors ks) (known_bits op) (operate_bits op (map vector_of es))
     (λ vs e. subst (λ ys. Agrees (known_bits op vs) (operate_bits op ys)) (sym (vectors_true ks es vs h e))
     (bits_true op vs))

@@ -1,5 +1,5 @@
 -- What holds of all pairs.
-use Rattle.std.proofs.Common.{◌≡◌, ◌≢◌, ◌↔◌, ℕ, zero, suc, Bool, true, false, not, ◌&&◌, ◌||◌}
+use Rattle.std.proofs.Common.{◌≡◌, ◌≢◌, ◌↔◌, ℕ, zero, suc, ℤ, pos, Bool, true, false, not, ◌&&◌, ◌||◌}
 use Rattle.std.proofs.Common.{Decides, List, [], ◌∷◌, refl, sym, ap, ap₂, arith, true≢false}
 use Rattle.std.proofs.lemmas.Bool.Decides.{Decides-and, Decides-by_and, Decides-eqb, Decides-int_eq}
 use Rattle.std.proofs.lemmas.Bool.Decides.{Decides-like, Decides-not}
@@ -8,7 +8,7 @@ use Rattle.std.specs.Bool.{beq}
 use Rattle.std.specs.Cmp.Lexicographic.{bytes_decides}
 use Rattle.std.specs.List.{All, AllPairs, list_any}
 use Rattle.smt_bits.specs.BitVector.{BitVector, vector}
-use Rattle.smt_values.specs.Element.{Element, Truth, Integer, Vector, Abstract}
+use Rattle.smt_values.specs.Element.{Element, Truth, Integer, Fraction, Vector, Abstract}
 use Rattle.smt_values.specs.Lists.{are_distinct}
 use Rattle.smt_values.specs.Operations.{integer_of, is_same, truth_of, vector_of}
 
@@ -43,9 +43,22 @@ truths false false = (λ e. refl, λ e. refl)
 vectors : (s t : BitVector) → (s.width ≡ t.width) × (s.number ≡ t.number) → Vector s ≡ Vector t
 vectors s t h = ap₂ (λ m n. Vector (vector m n)) h.0 h.1
 
+fractions : (n m : ℤ) (d e : ℕ) → (n ≡ m) × (d ≡ e) → Fraction n d ≡ Fraction m e
+fractions n m d e h = ap₂ Fraction h.0 h.1
+
+abbrev top_of : Element → ℤ
+top_of (Fraction n d) = n
+top_of _ = pos 0
+
+abbrev low_of : Element → ℕ
+low_of (Fraction n d) = d
+low_of _ = 0
+
 same_decides : (a b : Element) → Decides (is_same a b) (a ≡ b)
 same_decides (Truth a) (Truth b) = Decides-like (beq a b) (ap Truth) (ap truth_of) (truths a b)
 same_decides (Integer a) (Integer b) = Decides-like _ (ap Integer) (ap integer_of) (Decides-int_eq a b)
+same_decides (Fraction n d) (Fraction m e) = Decides-like _ (fractions n m d e) (λ e. (ap top_of e, ap low_of e))
+    (Decides-and _ _ (Decides-int_eq n m) (Decides-eqb d e))
 same_decides (Vector s) (Vector t) = Decides-like _ (vectors s t)
     (λ e. (ap (λ v. (vector_of v).width) e, ap (λ v. (vector_of v).number) e))
     (Decides-and _ _ (Decides-eqb s.width t.width) (Decides-eqb s.number t.number))

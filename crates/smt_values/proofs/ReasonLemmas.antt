@@ -12,9 +12,8 @@ use Rattle.smt_theory.specs.Ranks.{HasRank}
 use Rattle.smt_theory.specs.declared.op.CoreOp.{CoreOp}
 use Rattle.smt_theory.specs.declared.op.CoreOp.TheVariants.{True, False, Not, Implies, And, Or, Xor, Equal, Distinct, Ite}
 use Rattle.smt_theory.specs.declared.op.Op.{Op}
-use Rattle.smt_theory.specs.declared.op.Op.TheVariants.{Core, Ints, Bits}
-use Rattle.smt_theory.specs.Sort.{Sort}
-use Rattle.smt_theory.specs.Sort as sort
+use Rattle.smt_theory.specs.declared.op.Op.TheVariants.{Core, Ints, Reals, Bits}
+use Rattle.smt_theory.specs.Sort.{Sort, is_number}
 use Rattle.smt_values.proofs.AllKnownLemmas.{result_known}
 use Rattle.smt_values.specs.Element.{AreOfSorts, Element, Truth, element_of, known_element, known_elements}
 use Rattle.smt_values.specs.KnownOperations.{as_disjunction, decided, is_known, known_choice, known_core, known_step}
@@ -193,6 +192,7 @@ pub deciding_alike : (op : Op) (args others : List (Option Element)) (i : ℕ) �
     → known_step op others ≡ known_step op args
 deciding_alike (Core op) args others i is counted same = core_alike op args others i is counted same
 deciding_alike (Ints op) args others i is counted same = cc
+deciding_alike (Reals op) args others i is counted same = cc
 deciding_alike (Bits op) args others i is counted same = cc
 
 -- ---- branches
@@ -227,6 +227,7 @@ pub branch_at : (op : Op) (args : List (Option Element)) (i : ℕ) → taken op 
     → slice_get args i ≡ Some (known_step op args)
 branch_at (Core op) args i is = core_branch op args i is
 branch_at (Ints op) args i is = cc
+branch_at (Reals op) args i is = cc
 branch_at (Bits op) args i is = cc
 
 -- ---- what the code looks at
@@ -367,14 +368,10 @@ none_known None e h = cc
 none_known (Some x) e h = cc
 
 pub reason_range : (op : Op) (sorts : List Sort) (s : Sort) (args : List Element) → HasRank op sorts s
-    → AreOfSorts sorts args → reason op (map Some args) ≡ Open Range → s ≡ sort.Int
-reason_range op sorts s args ranked are is = by s ranked
+    → AreOfSorts sorts args → reason op (map Some args) ≡ Open Range → is_number s ≡ true
+reason_range op sorts s args ranked are is = by (is_number s) refl
   where
-    unknown : known_step op (map Some args) ≡ None
-    unknown = reason_open op (map Some args) Range is
-
-    by : (t : Sort) → HasRank op sorts t → t ≡ sort.Int
-    by sort.Int ranks = refl
-    by sort.Boolean ranks = absurd (none_known _ unknown (result_known op sorts sort.Boolean args ranks are (λ e. cc)))
-    by (sort.Bits n) ranks = absurd (none_known _ unknown (result_known op sorts (sort.Bits n) args ranks are (λ e. cc)))
-    by (sort.Free n) ranks = absurd (none_known _ unknown (result_known op sorts (sort.Free n) args ranks are (λ e. cc)))
+    by : (b : Bool) → is_number s ≡ b → b ≡ true
+    by true other = refl
+    by false other = absurd (none_known _ (reason_open op (map Some args) Range is)
+        (result_known op sorts s args ranked are other))

@@ -17,9 +17,10 @@ use Rattle.smt_theory.specs.declared.op.IntsOp.{IntsOp}
 use Rattle.smt_theory.specs.declared.op.IntsOp.TheVariants.{Arithmetic as Left, Comparison as Chain, Mod, Abs}
 use Rattle.smt_theory.specs.declared.op.IntsOp.TheVariants.{Divisible}
 use Rattle.smt_theory.specs.declared.op.Op.{Op}
-use Rattle.smt_theory.specs.declared.op.Op.TheVariants.{Core, Ints, Bits}
+use Rattle.smt_theory.specs.declared.op.Op.TheVariants.{Core, Ints, Reals, Bits}
 use Rattle.smt_values.specs.Element.{Element, Truth, Integer, Vector}
 use Rattle.smt_values.specs.KnownBitOperations.{known_bits}
+use Rattle.smt_values.specs.KnownNumbers.{is_known_fraction, known_mixed, known_numbers, known_reals}
 use Rattle.smt_values.specs.Lists.{all_known, are_chained, are_distinct, steps_from}
 use Rattle.smt_values.specs.Operations.{is_same, exclusive_or, compares, divides}
 
@@ -83,6 +84,11 @@ abbrev pub is_within : ℤ → Bool
 is_within (pos n) = nat_lt n (2 ^ 127)
 is_within (negsuc n) = nat_lt n (2 ^ 127)
 
+-- whether it is no integer outside, as the elements of values are
+abbrev pub is_held : Option Element → Bool
+is_held (Some (Integer z)) = is_within z
+is_held _ = true
+
 abbrev pub within : ℤ → Option ℤ
 within z = if is_within z then Some z else None
 
@@ -141,5 +147,8 @@ known_vectors args = all_known (map known_vector args)
 -- what is known of the result of an operator for arguments of which this much is known
 abbrev pub known_step : Op → List (Option Element) → Option Element
 known_step (Core op) args = known_core op args
-known_step (Ints op) args = option_and_then (known_ints op) (known_integers args)
+known_step (Ints op) args =
+    if list_any is_known_fraction args then option_and_then (known_mixed op) (known_numbers args)
+    else option_and_then (known_ints op) (known_integers args)
+known_step (Reals op) args = option_and_then (known_reals op) (known_numbers args)
 known_step (Bits op) args = option_and_then (known_bits op) (known_vectors args)

@@ -1,10 +1,13 @@
 pub mod Element
 pub mod Lists
 pub mod ElementNumbers
+pub mod Decimals
 pub mod Literals
 pub mod BitOperations
+pub mod Numbers
 pub mod Operations
 pub mod KnownBitOperations
+pub mod KnownNumbers
 pub mod KnownOperations
 pub mod Reasons
 pub mod Internal

@@ -9,6 +9,11 @@ all_known [] = Some []
 all_known (None ∷ xs) = None
 all_known (Some x ∷ xs) = option_map (λ ys. x ∷ ys) (all_known xs)
 
+-- the argument, where there is one
+abbrev pub only_one : {A : Type 0} → List A → Option A
+only_one (a ∷ []) = Some a
+only_one _ = None
+
 -- whether the relation holds of each and the one after it
 abbrev pub are_chained : {A : Type 0} → (A → A → Bool) → List A → Bool
 are_chained relation [] = true

@@ -1,5 +1,5 @@
--- SMT-LIB 2.6, theories Core, Ints and FixedSizeBitVectors: the meaning of the operators on elements.
--- Integers and widths have no bounds here. What an operator gives for arguments that it has no rank for is of
+-- SMT-LIB 2.6, theories Core, Reals_Ints and FixedSizeBitVectors: the meaning of the operators on elements.
+-- Numbers and widths have no bounds here. What an operator gives for arguments that it has no rank for is of
 -- no interest.
 use Rattle.std.specs.Prelude.{ℕ, ◌%◌, ℤ, pos, ◌+ℤ◌, ◌-ℤ◌, ◌*ℤ◌, neg_ℤ, unsigned_abs, int_le, int_lt, List, []}
 use Rattle.std.specs.Prelude.{◌∷◌, Bool, true, false, not, ◌&&◌, ◌||◌, ◌==◌, map, fold, bytes_eq, if◌then◌else◌}
@@ -19,10 +19,11 @@ use Rattle.smt_theory.specs.declared.op.IntsOp.{IntsOp}
 use Rattle.smt_theory.specs.declared.op.IntsOp.TheVariants.{Arithmetic as Left, Comparison as Chain, Mod, Abs}
 use Rattle.smt_theory.specs.declared.op.IntsOp.TheVariants.{Divisible}
 use Rattle.smt_theory.specs.declared.op.Op.{Op}
-use Rattle.smt_theory.specs.declared.op.Op.TheVariants.{Core, Ints, Bits}
+use Rattle.smt_theory.specs.declared.op.Op.TheVariants.{Core, Ints, Reals, Bits}
 use Rattle.smt_values.specs.BitOperations.{operate_bits}
-use Rattle.smt_values.specs.Element.{Element, Truth, Integer, Vector, Abstract}
+use Rattle.smt_values.specs.Element.{Element, Truth, Integer, Fraction, Vector, Abstract}
 use Rattle.smt_values.specs.Lists.{are_chained, are_distinct}
+use Rattle.smt_values.specs.Numbers.{Quotient, is_fraction, number_of, operate_numbers, operate_reals}
 
 -- the truth value, the integer or the bit vector that an element is; of another element this is of no
 -- interest
@@ -42,6 +43,7 @@ vector_of _ = vector 0 0
 abbrev pub is_same : Element → Element → Bool
 is_same (Truth a) (Truth b) = beq a b
 is_same (Integer a) (Integer b) = int_eq a b
+is_same (Fraction n d) (Fraction m e) = int_eq n m && d == e
 is_same (Vector s) (Vector t) = s.width == t.width && s.number == t.number
 is_same (Abstract x) (Abstract y) = bytes_eq x y
 is_same _ _ = false
@@ -79,15 +81,16 @@ operate_core Ite args = chosen args
 
 -- ---- theory Ints
 
--- What division by zero gives: the theory fixes no value. Finite tables, from a dividend to the result;
--- outside of them it is 0.
+-- What division by zero gives: the theories fix no value. Finite tables, from a dividend to the result; outside of
+-- them it is 0. The last is of `/`.
 pub record DivisionByZero : Type 0 where
   pub quotients : List (ℤ × ℤ)
   pub remainders : List (ℤ × ℤ)
+  pub ratios : List (Quotient × Quotient)
 
--- where every quotient and remainder by zero is 0
+-- where everything by zero is 0
 abbrev pub zero_by_zero : DivisionByZero
-zero_by_zero = record { quotients = []; remainders = [] }
+zero_by_zero = record { quotients = []; remainders = []; ratios = [] }
 
 abbrev pub at_zero : List (ℤ × ℤ) → ℤ → ℤ
 at_zero [] a = pos 0
@@ -127,8 +130,12 @@ operate_ints z _ _ = Truth false
 
 -- ---- all
 
--- what an operator makes of its arguments, where division by zero gives what z has
+-- What an operator makes of its arguments, where division by zero gives what z has. Of integers the operators on
+-- numbers make what those of Ints make, which is the same (a law).
 abbrev pub operate : DivisionByZero → Op → List Element → Element
 operate z (Core op) args = operate_core op args
-operate z (Ints op) args = operate_ints z op (map integer_of args)
+operate z (Ints op) args =
+    if list_any is_fraction args then operate_numbers op (map number_of args)
+    else operate_ints z op (map integer_of args)
+operate z (Reals op) args = operate_reals z.ratios op (map number_of args)
 operate z (Bits op) args = operate_bits op (map vector_of args)

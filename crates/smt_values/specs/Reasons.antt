@@ -12,7 +12,9 @@ use Rattle.smt_theory.specs.declared.op.CoreOp.TheVariants.{And, Implies, Ite, N
 use Rattle.smt_theory.specs.declared.op.IntsOp.{IntsOp}
 use Rattle.smt_theory.specs.declared.op.IntsOp.TheVariants.{Arithmetic as Left, Mod}
 use Rattle.smt_theory.specs.declared.op.Op.{Op}
-use Rattle.smt_theory.specs.declared.op.Op.TheVariants.{Core, Ints, Bits}
+use Rattle.smt_theory.specs.declared.op.Op.TheVariants.{Core, Ints, Reals, Bits}
+use Rattle.smt_theory.specs.declared.op.RealsOp.{RealsOp}
+use Rattle.smt_theory.specs.declared.op.RealsOp.TheVariants.{Divide}
 use Rattle.smt_values.specs.Element.{Element}
 use Rattle.smt_values.specs.KnownOperations.{is_known, known_integer, known_step, known_truth}
 use Rattle.smt_values.specs.declared.reasons.OpenReason.{OpenReason}
@@ -43,6 +45,7 @@ deciding_core _ args = None
 abbrev pub deciding : Op → List (Option Element) → Option ℕ
 deciding (Core op) args = deciding_core op args
 deciding (Ints op) args = None
+deciding (Reals op) args = None
 deciding (Bits op) args = None
 
 abbrev pub taken_core : CoreOp → List (Option Element) → Option ℕ
@@ -53,6 +56,7 @@ taken_core _ args = None
 abbrev pub taken : Op → List (Option Element) → Option ℕ
 taken (Core op) args = taken_core op args
 taken (Ints op) args = None
+taken (Reals op) args = None
 taken (Bits op) args = None
 
 -- ---- open results
@@ -69,10 +73,15 @@ is_divided_by_zero (Left Div) args = list_any is_zero (drop 1 args)
 is_divided_by_zero Mod args = list_any is_zero (drop 1 args)
 is_divided_by_zero _ args = false
 
+abbrev pub is_ratio_by_zero : RealsOp → List (Option Element) → Bool
+is_ratio_by_zero Divide args = list_any is_zero (drop 1 args)
+is_ratio_by_zero _ args = false
+
 -- whether the operator divides by an argument that is zero
 abbrev pub divides_by_zero : Op → List (Option Element) → Bool
 divides_by_zero (Core op) args = false
 divides_by_zero (Ints op) args = is_divided_by_zero op args
+divides_by_zero (Reals op) args = is_ratio_by_zero op args
 divides_by_zero (Bits op) args = false
 
 abbrev pub open_by : Option ℕ → Bool → OpenReason
@@ -110,4 +119,5 @@ is_core_connective _ = false
 abbrev pub is_connective : Op → Bool
 is_connective (Core op) = is_core_connective op
 is_connective (Ints op) = false
+is_connective (Reals op) = false
 is_connective (Bits op) = false

@@ -1,8 +1,8 @@
 //! Values, and the operators of SMT-LIB 2.6 on them.
 //!
-//! A value is a truth value, an integer that fits 128 bits, a bit vector of at most 128 bits, or an element of a
-//! declared sort, by a number that stands for its name. An element without a value is open: the program does not
-//! know it. Nothing here allocates, or knows a sort by its name.
+//! A value is a truth value, an integer that fits 128 bits, a fraction of such integers, a bit vector of at most 128
+//! bits, or an element of a declared sort, by a number that stands for its name. An element without a value is
+//! open: the program does not know it. Nothing here allocates, or knows a sort by its name.
 //!
 //! **The contract for the layer above**: `apply` gives what is known of an operator's result, `known_step` of
 //! `specs/KnownOperations.antt`; so does `apply_in_place`, which may move the arguments. By
@@ -29,9 +29,12 @@ mod value;
 
 pub use element_number::ElementNumber;
 pub use integer::Integer;
-pub use literal_values::{bin, bin_of, element, hex, hex_of, literal_of, numeral, numeral_of};
+pub use literal_values::{
+    bin, bin_of, decimal, decimal_of, element, hex, hex_of, literal_of, numeral, numeral_of,
+};
 pub use operations::{apply, apply_in_place};
 pub use reasons::{OpenReason, Reason, is_connective, why};
 pub use smt_bits::Bits;
+pub use smt_ratios::Ratio;
 pub use smt_theory::Width;
 pub use value::Value;

@@ -4,6 +4,7 @@ mod bits;
 pub(crate) mod bools;
 mod distinct;
 pub(crate) mod ints;
+pub(crate) mod numbers;
 
 ghost use Rattle.std.specs.Prelude.{◌≡◌};
 ghost use Rattle.smt_values.specs.Element.{known_element, known_elements};
@@ -19,7 +20,9 @@ use smt_theory::{CoreOp, Op};
 ///
 /// - an integer outside -2^127 to 2^127 - 1, as the result or as a partial result of an operator that is
 ///   applied from the left;
-/// - `div` and `mod` at divisor 0;
+/// - a fraction whose numerator is outside that, or whose denominator is over 2^120 - 1, or where a product or a sum on
+///   the way to it is outside that;
+/// - `div`, `mod` and `/` at divisor 0;
 /// - every result with an open argument, except for `and`, `or`, `=>` and `ite` where the known arguments
 ///   decide (this project's own rule).
 pub fn apply(op: Op, args: &[Option<Value>]) -> Option<Value>
@@ -27,7 +30,8 @@ pub fn apply(op: Op, args: &[Option<Value>]) -> Option<Value>
 {
     match op {
         Op::Core(op) => bools::apply_core(op, args),
-        Op::Ints(op) => ints::apply_ints(op, args),
+        Op::Ints(op) => numbers::apply_number_op(op, args),
+        Op::Reals(op) => numbers::apply_reals(op, args),
         Op::Bits(op) => bits::apply_bits(op, args),
     }
 }

@@ -7,14 +7,14 @@ ghost use Rattle.std.specs.List.{list_any};
 ghost use Rattle.smt_values.specs.Element.{known_element, known_elements};
 ghost use Rattle.smt_values.specs.KnownOperations.{is_known, known_step};
 ghost use Rattle.smt_values.specs.Reasons.{deciding, deciding_core, divides_by_zero, implying, is_connective};
-ghost use Rattle.smt_values.specs.Reasons.{is_core_connective, is_zero};
+ghost use Rattle.smt_values.specs.Reasons.{is_core_connective, is_ratio_by_zero, is_zero};
 ghost use Rattle.smt_values.specs.Reasons.{is_divided_by_zero, lacking, open_reason, reason, taken, taken_core};
 
 use crate::operations::apply;
 use crate::operations::bools::{all_are_known, is, truth};
 use crate::operations::ints::integer;
 use crate::value::Value;
-use smt_theory::{Arithmetic, CoreOp, IntsOp, Op};
+use smt_theory::{Arithmetic, CoreOp, IntsOp, Op, RealsOp};
 
 /// Why what is known of an operator's result is known, or why nothing is. Arguments are named by their places,
 /// from 0.
@@ -36,10 +36,11 @@ pub enum Reason {
 pub enum OpenReason {
     /// This argument is open: the branch that a known condition chooses, or else the first open argument.
     Argument { argument: usize },
-    /// All arguments are known, and a divisor of `div` or `mod` is 0.
+    /// All arguments are known, and a divisor of `div`, `mod` or `/` is 0.
     DivisionByZero,
-    /// All arguments are known and no divisor is 0: the result, or a partial result of an operator that is applied from
-    /// the left, is an integer below -2^127 or above 2^127 - 1.
+    /// All arguments are known and no divisor is 0: the result, or a partial result of an operator that is applied
+    /// from the left, is an integer below -2^127 or above 2^127 - 1, or a fraction that has no room or takes too large
+    /// steps.
     Range,
 }
 
@@ -71,6 +72,7 @@ pub fn is_connective(op: Op) -> bool
     match op {
         Op::Core(op) => is_core_connective(op),
         Op::Ints(_) => false,
+        Op::Reals(_) => false,
         Op::Bits(_) => false,
     }
 }
@@ -117,6 +119,7 @@ fn deciding(op: &Op, args: &[Option<Value>]) -> Option<usize>
     match op {
         Op::Core(op) => deciding_core(*op, args),
         Op::Ints(_) => None,
+        Op::Reals(_) => None,
         Op::Bits(_) => None,
     }
 }
@@ -171,6 +174,7 @@ fn taken(op: &Op, args: &[Option<Value>]) -> Option<usize>
     match op {
         Op::Core(op) => taken_core(*op, args),
         Op::Ints(_) => None,
+        Op::Reals(_) => None,
         Op::Bits(_) => None,
     }
 }
@@ -250,6 +254,7 @@ fn divides_by_zero(op: &Op, args: &[Option<Value>]) -> bool
     match op {
         Op::Core(_) => false,
         Op::Ints(op) => is_divided_by_zero(op, args),
+        Op::Reals(op) => is_ratio_by_zero(op, args),
         Op::Bits(_) => false,
     }
 }
@@ -266,6 +271,15 @@ fn is_divided_by_zero(op: &IntsOp, args: &[Option<Value>]) -> bool
         IntsOp::Comparison(_) => false,
         IntsOp::Abs => false,
         IntsOp::Divisible(_) => false,
+    }
+}
+
+fn is_ratio_by_zero(op: &RealsOp, args: &[Option<Value>]) -> bool
+    ensures { result ≡ is_ratio_by_zero op.now (known_elements args.now) }
+{
+    match op {
+        RealsOp::Divide => has_zero_divisor(args),
+        RealsOp::ToReal | RealsOp::ToInt | RealsOp::IsInt => false,
     }
 }
 

@@ -7,17 +7,21 @@ ghost use Rattle.smt_values.specs.KnownOperations.{known_integer, known_truth};
 use crate::element_number::ElementNumber;
 use crate::integer::Integer;
 use smt_bits::Bits;
+use smt_ratios::Ratio;
 use std::mem::size_of;
 
 // Values wait on stacks, and there may be many.
 const _: () = prove!(size_of::<Value>() == 32);
 
-/// A value of a sort's domain (SMT-LIB 2.6, theories Core, Ints and FixedSizeBitVectors).
+/// A value of a sort's domain (SMT-LIB 2.6, theories Core, Reals_Ints and FixedSizeBitVectors). A real that is an
+/// integer is an `Int`.
 #[derive(Clone, Copy, PartialEq, Eq)]
 pub enum Value {
     Bool(bool),
     /// An integer from -2^127 to 2^127 - 1. An integer outside has no value here.
     Int(Integer),
+    /// A rational number that is no integer, in lowest terms. One whose terms have no room has no value here.
+    Ratio(Ratio),
     Bits(Bits),
     /// An element of a declared sort, by the number of its name among the names of elements: one name is one element,
     /// and another name another.
@@ -32,7 +36,7 @@ impl Value {
     {
         match self {
             Value::Bool(truth) => Some(*truth),
-            Value::Int(_) | Value::Bits(_) | Value::Abstract(_) => None,
+            Value::Int(_) | Value::Ratio(_) | Value::Bits(_) | Value::Abstract(_) => None,
         }
     }
 
@@ -42,7 +46,7 @@ impl Value {
     {
         match self {
             Value::Int(integer) => Some(integer.get()),
-            Value::Bool(_) | Value::Bits(_) | Value::Abstract(_) => None,
+            Value::Bool(_) | Value::Ratio(_) | Value::Bits(_) | Value::Abstract(_) => None,
         }
     }
 }

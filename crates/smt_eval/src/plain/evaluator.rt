@@ -22,7 +22,7 @@ use smt_forms::{
 use smt_names::Names;
 use smt_terms::TermFault;
 use smt_trees::{Tree, Trees, Word};
-use smt_values::{Value, bin, hex, numeral};
+use smt_values::{Value, bin, decimal, hex, numeral};
 
 /// What is known of a term over the definitions that it sees. The variables have these values, the innermost
 /// first.
@@ -37,11 +37,11 @@ pub(crate) fn known_value<'a>(
     match term {
         Tree::Symbol(name) => known_symbol(over, scope, name),
         Tree::Numeral(digits) => Ok(numeral(digits)),
+        Tree::Decimal(digits) => Ok(decimal(digits)),
         Tree::Hex(digits) => Ok(hex(digits)),
         Tree::Bin(digits) => Ok(bin(digits)),
         Tree::List(parts) => known_list(over, scope, parts),
-        Tree::Decimal(_) | Tree::Text(_) => Ok(None),
-        Tree::Keyword(_) | Tree::Reserved(_) => Ok(None),
+        Tree::Text(_) | Tree::Keyword(_) | Tree::Reserved(_) => Ok(None),
     }
 }
 

@@ -12,7 +12,7 @@ use Rattle.smt_theory.specs.declared.theories.Theories.{Theories}
 use Rattle.smt_terms.specs.declared.library.blamed_names.Unknown.{Unknown}
 use Rattle.smt_terms.specs.declared.blame.Blame.TheVariants as blames
 use Rattle.smt_terms.specs.declared.blame.Blame.TheVariants.{Lacks}
-use Rattle.smt_terms.specs.declared.blame.Theory.TheVariants.{Integers, BitVectors}
+use Rattle.smt_terms.specs.declared.blame.Theory.TheVariants.{Integers, Reals, BitVectors}
 use Rattle.smt_trees.specs.Sexp.{Sexps, Nil, Cons}
 use Rattle.smt_theory.specs.Sort.{is_same_sort}
 use Rattle.smt_theory.specs.Words.{look_up}
@@ -45,6 +45,7 @@ unknown_by is_unknown theories =
     record {
       here = is_unknown theories;
       with_integers = is_unknown (with_theory Integers theories);
+      with_reals = is_unknown (with_theory Reals theories);
       with_vectors = is_unknown (with_theory BitVectors theories);
     }
 
@@ -53,6 +54,7 @@ abbrev pub blame_of_unknown : Tree → Option (Bor (List ℕ)) → Unknown → O
 blame_of_unknown part name unknown =
     if not unknown.here then None
     else if not unknown.with_integers then Some (Lacks part Integers)
+    else if not unknown.with_reals then Some (Lacks part Reals)
     else if not unknown.with_vectors then Some (Lacks part BitVectors) else option_map blames.Unknown name
 
 -- ---- parts

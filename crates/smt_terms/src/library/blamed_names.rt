@@ -43,6 +43,7 @@ impl Library<'_> {
         Unknown {
             here: self.is_unknown(theories, identifier),
             with_integers: self.is_unknown(with_theory(Theory::Integers, theories), identifier),
+            with_reals: self.is_unknown(with_theory(Theory::Reals, theories), identifier),
             with_vectors: self.is_unknown(with_theory(Theory::BitVectors, theories), identifier),
         }
     }
@@ -91,6 +92,7 @@ impl Library<'_> {
 struct Unknown {
     here: bool,
     with_integers: bool,
+    with_reals: bool,
     with_vectors: bool,
 }
 
@@ -103,6 +105,9 @@ fn unknown_part<'t>(part: Tree<'t>, name: Option<&'t [u8]>, unknown: Unknown) ->
     }
     if !unknown.with_integers {
         return lacking(part, Theory::Integers);
+    }
+    if !unknown.with_reals {
+        return lacking(part, Theory::Reals);
     }
     if !unknown.with_vectors {
         return lacking(part, Theory::BitVectors);
@@ -155,9 +160,10 @@ fn is_unknown_literal(theories: Theories, part: Tree<'_>) -> bool
     ensures { result ≡ blame.is_unknown_literal theories (sexp_of part.entry) }
 {
     match part {
-        Tree::Numeral(_) => !theories.ints,
+        Tree::Numeral(_) => !theories.ints && !theories.reals,
+        Tree::Decimal(_) => theories.wide && !theories.reals,
         Tree::Hex(_) | Tree::Bin(_) => !theories.bits,
-        Tree::Decimal(_) | Tree::Text(_) | Tree::Symbol(_) => false,
+        Tree::Text(_) | Tree::Symbol(_) => false,
         Tree::Keyword(_) | Tree::Reserved(_) | Tree::List(_) => false,
     }
 }
@@ -169,6 +175,7 @@ fn unknown_literal(theories: Theories, part: Tree<'_>) -> Unknown
     Unknown {
         here: is_unknown_literal(theories, part),
         with_integers: is_unknown_literal(with_theory(Theory::Integers, theories), part),
+        with_reals: is_unknown_literal(with_theory(Theory::Reals, theories), part),
         with_vectors: is_unknown_literal(with_theory(Theory::BitVectors, theories), part),
     }
 }
@@ -182,6 +189,7 @@ fn unknown_sort(sorts: &SortNames, tree: Tree<'_>) -> Unknown
     Unknown {
         here: names_no_sort(sorts, theories, tree),
         with_integers: names_no_sort(sorts, with_theory(Theory::Integers, theories), tree),
+        with_reals: names_no_sort(sorts, with_theory(Theory::Reals, theories), tree),
         with_vectors: names_no_sort(sorts, with_theory(Theory::BitVectors, theories), tree),
     }
 }
@@ -239,6 +247,7 @@ fn with_theory(theory: Theory, theories: Theories) -> Theories
     let mut more = theories;
     match theory {
         Theory::Integers => more.ints = true,
+        Theory::Reals => more.reals = theories.reals || theories.wide,
         Theory::BitVectors => more.bits = true,
     }
     more

@@ -3,7 +3,8 @@
 
 ghost use Rattle.std.specs.Prelude.{◌≡◌, ◌≤◌, ◌*◌, [], Ok, false, length, IfErr, IfOk, OnOk};
 ghost use Rattle.smt_nodes.specs.NodeView.{node_view};
-ghost use Rattle.smt_trees.specs.Sexp.{Atom, Binary, Cons, Hexadecimal, Items, Numeral, Reserved, Sexp, Sexps, Symbol};
+ghost use Rattle.smt_trees.specs.Sexp.{Atom, Binary, Cons, Decimal, Hexadecimal, Items, Numeral, Reserved, Sexp, Sexps};
+ghost use Rattle.smt_trees.specs.Sexp.{Symbol};
 ghost use Rattle.smt_trees.specs.declared.reserved.Word.TheVariants.{Underscore};
 ghost use Rattle.smt_trees.specs.View.{sexp_of, sexps_of};
 ghost use Rattle.smt_theory.specs.Operators.{op_by};
@@ -22,7 +23,7 @@ ghost use Rattle.smt_forms.specs.IdentifierView.{identifier_view};
 ghost use Rattle.smt_terms.specs.Internal.Frames.{HasFault, IsAtom, IsDone, Lie, begun};
 ghost use Rattle.smt_terms.specs.Internal.LibraryView.{names_of_library};
 ghost use Rattle.smt_terms.specs.Internal.NodesView.{AddsApplied, AddsNode, AddsOperator, GrowsTo, Stands};
-ghost use Rattle.smt_terms.specs.SortTrees.{bit_vectors, integers};
+ghost use Rattle.smt_terms.specs.SortTrees.{bit_vectors, numerals, reals};
 ghost use Rattle.smt_faults.specs.Outcome.{IsOutcome};
 
 use crate::library::Library;
@@ -57,9 +58,10 @@ impl Library<'_> {
         match term {
             Tree::Symbol(name) => self.sort_of_symbol(draft, name, around),
             Tree::Numeral(digits) => self.push_numeral(draft, digits, around),
+            Tree::Decimal(digits) => self.push_decimal(draft, digits, around),
             Tree::Hex(digits) => self.push_hex(draft, digits, around),
             Tree::Bin(digits) => self.push_bin(draft, digits, around),
-            Tree::Decimal(_) | Tree::Text(_) => Err(TermFault::Unsupported),
+            Tree::Text(_) => Err(TermFault::Unsupported),
             Tree::Keyword(_) | Tree::Reserved(_) => Err(TermFault::Form),
             Tree::List(_) => unreachable!(),
         }
@@ -73,7 +75,7 @@ impl Library<'_> {
         digits: &[u8],
         around: u32,
     ) -> Result<CheckedTerm, TermFault>
-        ensures sort { IsOutcome (λ c. c.sort) (integers (names_of_library self.now).theories) result }
+        ensures sort { IsOutcome (λ c. c.sort) (numerals (names_of_library self.now).theories) result }
         ensures open { IfOk result (λ c. c.is_open ≡ false) }
         ensures node { IfOk result (Stands self.now draft.old draft.new around (Atom Numeral digits.now)) }
         ensures longer { GrowsTo draft.old draft.new }
@@ -87,7 +89,33 @@ impl Library<'_> {
             &self.nodes,
             draft,
             &Node::Literal(LiteralKind::Numeral, digits),
-            self.sort_of_numeral(),
+            sorts::numerals(self.sorts.theories),
+            around,
+        )
+    }
+
+    // Adds the node of a decimal and finds its sort.
+    fn push_decimal(
+        &self,
+        draft: &mut Draft<'_>,
+        digits: &[u8],
+        around: u32,
+    ) -> Result<CheckedTerm, TermFault>
+        ensures sort { IsOutcome (λ c. c.sort) (reals (names_of_library self.now).theories) result }
+        ensures open { IfOk result (λ c. c.is_open ≡ false) }
+        ensures node { IfOk result (Stands self.now draft.old draft.new around (Atom Decimal digits.now)) }
+        ensures longer { GrowsTo draft.old draft.new }
+        ensures scope { draft.new.scope ≡ draft.old.scope }
+        ensures base { draft.new.base ≡ draft.old.base }
+        ensures labels { draft.new.labels ≡ draft.old.labels }
+        ensures arguments { draft.new.arguments ≡ draft.old.arguments }
+    {
+        let _: &[TermId] = &[];
+        push_literal(
+            &self.nodes,
+            draft,
+            &Node::Literal(LiteralKind::Decimal, digits),
+            sorts::reals(self.sorts.theories),
             around,
         )
     }
@@ -144,16 +172,6 @@ impl Library<'_> {
             self.sort_of_digits(1, digits),
             around,
         )
-    }
-
-    fn sort_of_numeral(&self) -> Result<Sort, TermFlaw>
-        ensures { result ≡ integers (names_of_library self.now).theories }
-    {
-        if self.sorts.theories.ints {
-            Ok(Sort::int())
-        } else {
-            Err(TermFlaw::Unknown)
-        }
     }
 
     // The bit-vector sort of digits of this number of bits each, if there is one.

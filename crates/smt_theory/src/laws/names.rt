@@ -1,10 +1,12 @@
 //! The tables of names, stated a second time: from the name to the operator, and from the theories to the
 //! logics. Nothing here does anything.
 
-ghost use Rattle.std.specs.Prelude.{◌≡◌, ◌↔◌, ℕ, List, [], ◌∷◌, Bool, true, false, Ok, Some, All};
+ghost use Rattle.std.specs.Prelude.{◌≡◌, ◌↔◌, ℕ, List, [], ◌∷◌, Bool, true, false, Ok, Err, Option, Some, None, All};
 ghost use Rattle.std.specs.Prelude.{◌⊎◌, codes};
 ghost use Rattle.smt_theory.specs.Index.{Number};
 ghost use Rattle.smt_theory.specs.Operators.{op_by};
+ghost use Rattle.smt_theory.specs.Ranks.{rank_of};
+ghost use Rattle.smt_theory.specs.Sort.{Boolean, Int, Real, Sort};
 ghost use Rattle.smt_theory.specs.Theories.{AreWideLogicsOf, all_theories, theories_named};
 ghost use Rattle.smt_theory.specs.declared.op.Arithmetic.TheVariants as arithmetic;
 ghost use Rattle.smt_theory.specs.declared.op.BitsBinary.TheVariants as binary;
@@ -18,7 +20,11 @@ ghost use Rattle.smt_theory.specs.declared.op.CoreOp.{CoreOp};
 ghost use Rattle.smt_theory.specs.declared.op.CoreOp.TheVariants as core;
 ghost use Rattle.smt_theory.specs.declared.op.IntsOp.{IntsOp};
 ghost use Rattle.smt_theory.specs.declared.op.IntsOp.TheVariants as ints;
-ghost use Rattle.smt_theory.specs.declared.op.Op.TheVariants.{Core, Ints, Bits};
+ghost use Rattle.smt_theory.specs.declared.op.Op.{Op};
+ghost use Rattle.smt_theory.specs.declared.op.Op.TheVariants.{Core, Ints, Reals, Bits};
+ghost use Rattle.smt_theory.specs.declared.op.OpFault.TheVariants.{Unknown};
+ghost use Rattle.smt_theory.specs.declared.op.RealsOp.{RealsOp};
+ghost use Rattle.smt_theory.specs.declared.op.RealsOp.TheVariants as reals;
 ghost use Rattle.smt_theory.specs.declared.profile.Profile.TheVariants.{Base, Wide};
 ghost use Rattle.smt_theory.specs.declared.theories.Theories.{Theories};
 
@@ -38,6 +44,47 @@ pub fn plain_names_are_the_standards()
         ∷ (codes "<", ints.Comparison comparison.Less) ∷ (codes "<=", ints.Comparison comparison.AtMost)
         ∷ (codes ">", ints.Comparison comparison.Greater)
         ∷ (codes ">=", ints.Comparison comparison.AtLeast) ∷ []) }
+{}
+
+/// Which operator of the theories Reals and Reals_Ints each symbol names where there are reals, with and without
+/// integers (SMT-LIB 2.6). Without reals none of these is there.
+pub fn names_of_reals_are_the_standards()
+    ensures reals { All (λ (row : List ℕ × RealsOp). op_by (all_theories Wide) row.0 [] ≡ Ok (Reals row.1))
+        ((codes "/", reals.Divide) ∷ (codes "to_real", reals.ToReal) ∷ (codes "to_int", reals.ToInt)
+        ∷ (codes "is_int", reals.IsInt) ∷ []) }
+    ensures numbers { All (λ (row : List ℕ × IntsOp). op_by
+        (record { ints = false; bits = false; reals = true; arrays = false; wide = true }) row.0 []
+        ≡ Ok (Ints row.1))
+        ((codes "+", ints.Arithmetic arithmetic.Plus) ∷ (codes "-", ints.Arithmetic arithmetic.Minus)
+        ∷ (codes "*", ints.Arithmetic arithmetic.Times) ∷ (codes "<", ints.Comparison comparison.Less)
+        ∷ (codes "<=", ints.Comparison comparison.AtMost) ∷ (codes ">", ints.Comparison comparison.Greater)
+        ∷ (codes ">=", ints.Comparison comparison.AtLeast) ∷ []) }
+    ensures lacking { All (λ (symbol : List ℕ). op_by
+        (record { ints = false; bits = false; reals = true; arrays = false; wide = true }) symbol []
+        ≡ Err Unknown)
+        (codes "div" ∷ codes "mod" ∷ codes "abs" ∷ codes "to_real" ∷ codes "to_int" ∷ codes "is_int" ∷ []) }
+    ensures base { All (λ (symbol : List ℕ). op_by (all_theories Base) symbol [] ≡ Err Unknown)
+        (codes "/" ∷ codes "to_real" ∷ codes "to_int" ∷ codes "is_int" ∷ []) }
+{}
+
+/// Which sorts of numbers the operators accept, and which they give; that integers and reals mix is this project's own.
+pub fn ranks_of_numbers_are_those()
+    ensures mixed { All (λ (row : IntsOp × List Sort × Sort). rank_of (Ints row.0) row.1 ≡ Some row.2)
+        ((ints.Arithmetic arithmetic.Plus, Int ∷ Int ∷ [], Int)
+        ∷ (ints.Arithmetic arithmetic.Plus, Int ∷ Real ∷ Int ∷ [], Real)
+        ∷ (ints.Arithmetic arithmetic.Minus, Real ∷ [], Real) ∷ (ints.Arithmetic arithmetic.Minus, Int ∷ [], Int)
+        ∷ (ints.Arithmetic arithmetic.Times, Real ∷ Real ∷ [], Real)
+        ∷ (ints.Comparison comparison.Less, Real ∷ Int ∷ [], Boolean) ∷ []) }
+    ensures reals { All (λ (row : RealsOp × List Sort × Sort). rank_of (Reals row.0) row.1 ≡ Some row.2)
+        ((reals.Divide, Int ∷ Int ∷ [], Real) ∷ (reals.Divide, Real ∷ Int ∷ Real ∷ [], Real)
+        ∷ (reals.ToReal, Int ∷ [], Real) ∷ (reals.ToInt, Real ∷ [], Int) ∷ (reals.IsInt, Real ∷ [], Boolean) ∷ []) }
+    ensures core { All (λ (row : CoreOp × List Sort × Sort). rank_of (Core row.0) row.1 ≡ Some row.2)
+        ((core.Equal, Int ∷ Real ∷ [], Boolean) ∷ (core.Distinct, Real ∷ Int ∷ Int ∷ [], Boolean)
+        ∷ (core.Ite, Boolean ∷ Int ∷ Real ∷ [], Real) ∷ (core.Ite, Boolean ∷ Int ∷ Int ∷ [], Int) ∷ []) }
+    ensures none { All (λ (row : Op × List Sort). rank_of row.0 row.1 ≡ None)
+        ((Ints ints.Mod, Real ∷ Int ∷ []) ∷ (Ints ints.Abs, Real ∷ []) ∷ (Ints (ints.Divisible 2), Real ∷ [])
+        ∷ (Ints (ints.Arithmetic arithmetic.Div), Int ∷ Real ∷ []) ∷ (Reals reals.ToReal, Real ∷ [])
+        ∷ (Reals reals.Divide, Real ∷ []) ∷ (Core core.Equal, Real ∷ Boolean ∷ []) ∷ []) }
 {}
 
 /// Which operator on bit vectors each symbol without indexes names (SMT-LIB 2.6, theory FixedSizeBitVectors

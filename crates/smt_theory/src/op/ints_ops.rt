@@ -25,7 +25,7 @@ pub(crate) fn shape_in_ints(op: IntsOp) -> Shape
 {
     match op {
         IntsOp::Arithmetic(op) => shape_of_arithmetic(op),
-        IntsOp::Comparison(_) => Shape::Uniform(Arity::Several, Sort::int(), Sort::bool()),
+        IntsOp::Comparison(_) => Shape::Numbers(Arity::Several, Sort::bool()),
         IntsOp::Mod => of_ints(Arity::Two),
         IntsOp::Abs => of_ints(Arity::One),
         IntsOp::Divisible(0) => Shape::OutOfRange,
@@ -39,8 +39,9 @@ pub(crate) fn shape_of_arithmetic(op: Arithmetic) -> Shape
     ensures { result ≡ ints_shape (ints.Arithmetic op) }
 {
     match op {
-        Arithmetic::Minus => of_ints(Arity::OneOrMore),
-        Arithmetic::Plus | Arithmetic::Times | Arithmetic::Div => of_ints(Arity::Several),
+        Arithmetic::Minus => Shape::Calculated(Arity::OneOrMore),
+        Arithmetic::Plus | Arithmetic::Times => Shape::Calculated(Arity::Several),
+        Arithmetic::Div => of_ints(Arity::Several),
     }
 }
 
@@ -77,7 +78,7 @@ pub(crate) fn divisible(indexes: &[Index]) -> Option<Op>
     }
 }
 
-/// The operator of Ints of this name, found as those of Core are.
+/// The operator of Ints of this name, or of numbers, found as those of Core are.
 #[inline(always)]
 pub(crate) fn ints_op(symbol: &[u8]) -> Option<PlainOp>
     ensures { option_map op_of_plain result ≡ option_map ops.Ints (ints_named symbol.now) }

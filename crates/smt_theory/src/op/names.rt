@@ -11,8 +11,9 @@ use crate::op::bits_ops::{
     binary_name, bits_op, comparison_name, folded_name, indexed_bits_op, unary_name,
 };
 use crate::op::core_ops::{core_name, core_op};
-use crate::op::ints_ops::{arithmetic_name, divisible, ints_op, order_name};
+use crate::op::ints_ops::{arithmetic_name, divisible, order_name};
 use crate::op::plain::PlainOp;
+use crate::op::reals_ops::{number_op, reals_name, reals_op};
 use crate::op::{Op, OpFault};
 use crate::symbols::is_named;
 use crate::theories::Theories;
@@ -44,12 +45,15 @@ pub fn plain_op_of(theories: Theories, symbol: &[u8]) -> Option<PlainOp>
     if let Some(op) = core_op(symbol) {
         return Some(op);
     }
-    if theories.ints
-        && let Some(op) = ints_op(symbol)
+    if let Some(op) = number_op(theories, symbol) {
+        return Some(op);
+    }
+    if theories.bits
+        && let Some(op) = bits_op(symbol)
     {
         return Some(op);
     }
-    if theories.bits { bits_op(symbol) } else { None }
+    reals_op(theories, symbol)
 }
 
 fn indexed(theories: Theories, symbol: &[u8], indexes: &[Index]) -> Result<Op, OpFault>
@@ -84,6 +88,7 @@ fn plain_name(op: PlainOp) -> &'static [u8]
         PlainOp::Order(op) => order_name(op),
         PlainOp::Mod => b"mod",
         PlainOp::Abs => b"abs",
+        PlainOp::Reals(op) => reals_name(op),
         PlainOp::Concat => b"concat",
         PlainOp::Unary(op) => unary_name(op),
         PlainOp::Folded(op) => folded_name(op),

@@ -7,7 +7,7 @@ use crate::op::bits_ops::plain_bits;
 use crate::op::ints_ops::plain_ints;
 use crate::op::{
     Arithmetic, BitsBinary, BitsComparison, BitsFolded, BitsOp, BitsUnary, Comparison, CoreOp,
-    IntsOp, Op,
+    IntsOp, Op, RealsOp,
 };
 
 /// An operator that holds no number. It has two bytes, where an `Op` has 64.
@@ -18,6 +18,7 @@ pub enum PlainOp {
     Order(Comparison),
     Mod,
     Abs,
+    Reals(RealsOp),
     Concat,
     Unary(BitsUnary),
     Folded(BitsFolded),
@@ -37,6 +38,7 @@ impl PlainOp {
             PlainOp::Order(op) => Op::Ints(IntsOp::Comparison(op)),
             PlainOp::Mod => Op::Ints(IntsOp::Mod),
             PlainOp::Abs => Op::Ints(IntsOp::Abs),
+            PlainOp::Reals(op) => Op::Reals(op),
             PlainOp::Concat => Op::Bits(BitsOp::Concat),
             PlainOp::Unary(op) => Op::Bits(BitsOp::Unary(op)),
             PlainOp::Folded(op) => Op::Bits(BitsOp::Folded(op)),
@@ -55,6 +57,7 @@ impl PlainOp {
         match op {
             Op::Core(op) => Some(PlainOp::Core(op)),
             Op::Ints(op) => plain_ints(op),
+            Op::Reals(op) => Some(PlainOp::Reals(op)),
             Op::Bits(op) => plain_bits(op),
         }
     }

@@ -5,13 +5,14 @@ use Rattle.std.specs.Int.{from_bool}
 use Rattle.std.specs.Ordering.{int_cmp, nat_cmp, ordering_then}
 use Rattle.std.specs.Cmp.Lexicographic.{slice_cmp}
 use Rattle.std.specs.declared.cmp.Ordering.{Ordering}
-use Rattle.smt_values.specs.Element.{Element, Truth, Integer, Vector, Abstract}
+use Rattle.smt_values.specs.Element.{Element, Truth, Integer, Fraction, Vector, Abstract}
 
 -- three numbers and a name that no other optional element has: the first says of which kind it is
 abbrev pub key_of : Option Element → ℕ × ℤ × ℕ × List ℕ
 key_of None = (0, pos 0, 0, [])
 key_of (Some (Truth b)) = (1, pos 0, from_bool b, [])
 key_of (Some (Integer z)) = (2, z, 0, [])
+key_of (Some (Fraction n d)) = (5, n, d, [])
 key_of (Some (Vector v)) = (3, pos v.width, v.number, [])
 key_of (Some (Abstract name)) = (4, pos 0, 0, name)
 

@@ -1,7 +1,8 @@
 //! Laws of the operators on integers: what each gives, through `operate`. Nothing here does anything.
 
 ghost use Rattle.std.specs.Prelude.{◌≡◌, ◌≢◌, ◌↔◌, ℤ, pos, ◌+ℤ◌, ◌*ℤ◌, ◌<ℤ◌, ◌≤ℤ◌, unsigned_abs, List, [], ◌∷◌};
-ghost use Rattle.std.specs.Prelude.{true};
+ghost use Rattle.std.specs.Prelude.{true, false};
+ghost use Rattle.std.specs.List.{list_any};
 ghost use Rattle.smt_theory.specs.declared.op.Arithmetic.{Arithmetic};
 ghost use Rattle.smt_theory.specs.declared.op.Arithmetic.TheVariants.{Div, Minus, Plus, Times};
 ghost use Rattle.smt_theory.specs.declared.op.Comparison.{Comparison};
@@ -10,6 +11,7 @@ ghost use Rattle.smt_theory.specs.declared.op.CoreOp.TheVariants.{And};
 ghost use Rattle.smt_theory.specs.declared.op.IntsOp.TheVariants.{Arithmetic as Left, Comparison as Chain, Mod};
 ghost use Rattle.smt_theory.specs.declared.op.Op.TheVariants.{Core, Ints};
 ghost use Rattle.smt_values.specs.Element.{Element, Integer, Truth};
+ghost use Rattle.smt_values.specs.Numbers.{is_fraction};
 ghost use Rattle.smt_values.specs.Operations.{DivisionByZero, operate, quotient, remainder};
 
 /// `+`, `-` and `*` of two integers, by what they do at 0 and at one more, or by what undoes them: `a + 0` is a,
@@ -34,12 +36,16 @@ pub fn integers_are_calculated()
         ↔ (operate z (Ints (Left Times)) (Integer a ∷ Integer (b +ℤ pos 1) ∷ []) ≡ Integer (c +ℤ a)) }
 {}
 
-/// `+`, `-`, `*` and `div` combine more than two integers from the left (SMT-LIB 2.6, theory Ints).
+/// `+`, `-` and `*` combine more than two numbers from the left, and `div` more than two integers (SMT-LIB 2.6,
+/// theories Ints and Reals_Ints).
 pub fn integers_are_combined_from_the_left()
     ensures { (z : DivisionByZero) (op : Arithmetic) (a b c : Element) (rest : List Element)
+        → (op ≡ Div → list_any is_fraction (a ∷ b ∷ c ∷ rest) ≡ false)
         → operate z (Ints (Left op)) (a ∷ b ∷ c ∷ rest)
         ≡ operate z (Ints (Left op)) (operate z (Ints (Left op)) (a ∷ b ∷ []) ∷ c ∷ rest) }
-{}
+{
+    crate::laws::rationals::integers_are_calculated_alike();
+}
 
 /// Where n is not 0, `div` gives the one q and `mod` the one r with `a = n * q + r` and `0 <= r < |n|`. By 0
 /// they give what z has (SMT-LIB 2.6, theory Ints).
@@ -58,8 +64,8 @@ pub fn integers_are_divided()
     crate::laws::division_is_by_the_law();
 }
 
-/// `<`, `<=`, `>` and `>=` hold of two integers that are so related, and of more where each is so related to
-/// the next (SMT-LIB 2.6, theory Ints).
+/// `<`, `<=`, `>` and `>=` hold of two integers that are so related, and of more numbers where each is so related to
+/// the next (SMT-LIB 2.6, theories Ints and Reals_Ints).
 pub fn chains_are_by_neighbours()
     ensures less { (z : DivisionByZero) (a b : ℤ)
         → (operate z (Ints (Chain Less)) (Integer a ∷ Integer b ∷ []) ≡ Truth true) ↔ (a <ℤ b) }
@@ -73,4 +79,6 @@ pub fn chains_are_by_neighbours()
         → operate z (Ints (Chain op)) (a ∷ b ∷ c ∷ rest)
         ≡ operate z (Core And) (operate z (Ints (Chain op)) (a ∷ b ∷ [])
         ∷ operate z (Ints (Chain op)) (b ∷ c ∷ rest) ∷ []) }
-{}
+{
+    crate::laws::rationals::integers_are_calculated_alike();
+}

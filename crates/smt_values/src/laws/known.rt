@@ -2,7 +2,8 @@
 //! that leaves more open does not meet them. Nothing here does anything.
 
 ghost use Rattle.std.specs.Prelude.{◌≡◌, ◌≢◌, ◌↔◌, ◌⊎◌, ℕ, ◌^◌, ◌<◌, ◌≤◌, ℤ, pos, neg_ℤ, ◌≤ℤ◌, ◌<ℤ◌, List};
-ghost use Rattle.std.specs.Prelude.{[], ◌∷◌, ◌++◌, Bool, true, false, Option, Some, None};
+ghost use Rattle.std.specs.Prelude.{[], ◌∷◌, ◌++◌, true, false, Option, Some, None};
+ghost use Rattle.std.specs.List.{list_all, list_any};
 ghost use Rattle.std.specs.Str.Parse.{digits_value};
 ghost use Rattle.smt_theory.specs.declared.op.Arithmetic.{Arithmetic};
 ghost use Rattle.smt_theory.specs.declared.op.Arithmetic.TheVariants.{Div};
@@ -11,9 +12,12 @@ ghost use Rattle.smt_theory.specs.declared.op.IntsOp.{IntsOp};
 ghost use Rattle.smt_theory.specs.declared.op.IntsOp.TheVariants.{Arithmetic as Left, Mod};
 ghost use Rattle.smt_theory.specs.declared.op.Op.TheVariants.{Core, Ints};
 ghost use Rattle.smt_values.specs.Element.{Element, Integer, Truth};
-ghost use Rattle.smt_values.specs.KnownOperations.{is_within, known_step};
+ghost use Rattle.smt_values.specs.KnownNumbers.{is_known_fraction};
+ghost use Rattle.smt_values.specs.KnownOperations.{is_held, is_within, known_step};
 ghost use Rattle.smt_values.specs.Literals.{numeral_element};
 ghost use Rattle.smt_values.specs.Operations.{DivisionByZero, operate};
+
+use smt_ratios::laws::{numbers, operators};
 
 /// One argument may decide, whatever the others are:
 ///
@@ -44,7 +48,8 @@ pub fn integers_within_bounds_are_known()
 {}
 
 /// Where an operator of Ints gives an integer for one or two known arguments, it is known if it is within the
-/// bounds and no divisor is 0. More than two arguments are combined from the left.
+/// bounds and no divisor is 0. More than two arguments are combined from the left; with fractions
+/// among them those of another operator than `div`, and where each integer is within the bounds.
 pub fn results_within_bounds_are_known()
     ensures one { (z : DivisionByZero) (op : IntsOp) (a r : ℤ) → operate z (Ints op) (Integer a ∷ []) ≡ Integer r
         → is_within r ≡ true → known_step (Ints op) (Some (Integer a) ∷ []) ≡ Some (Integer r) }
@@ -53,6 +58,11 @@ pub fn results_within_bounds_are_known()
         → ((op ≡ Left Div) ⊎ (op ≡ Mod) → b ≢ pos 0)
         → known_step (Ints op) (Some (Integer a) ∷ Some (Integer b) ∷ []) ≡ Some (Integer r) }
     ensures more { (op : Arithmetic) (a b c : Option Element) (rest : List (Option Element))
+        → (list_any is_known_fraction (a ∷ b ∷ c ∷ rest) ≡ true
+        → (op ≢ Div) × (list_all is_held (a ∷ b ∷ c ∷ rest) ≡ true))
         → known_step (Ints (Left op)) (a ∷ b ∷ c ∷ rest)
         ≡ known_step (Ints (Left op)) (known_step (Ints (Left op)) (a ∷ b ∷ []) ∷ c ∷ rest) }
-{}
+{
+    numbers::known_results_are_results();
+    operators::integers_are_known_as_integers();
+}

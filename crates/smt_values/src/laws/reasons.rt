@@ -1,10 +1,9 @@
 //! Laws of why an operator's result is known or open. Nothing here does anything.
 
-ghost use Rattle.std.specs.Prelude.{◌≡◌, ℕ, List, Option, Some, None, IsTrue, length, map, slice_get};
+ghost use Rattle.std.specs.Prelude.{◌≡◌, ℕ, List, Option, Some, None, IsTrue, length, map, slice_get, true};
 ghost use Rattle.smt_theory.specs.Ranks.{HasRank};
 ghost use Rattle.smt_theory.specs.declared.op.Op.{Op};
-ghost use Rattle.smt_theory.specs.Sort.{Sort};
-ghost use Rattle.smt_theory.specs.Sort.{Int};
+ghost use Rattle.smt_theory.specs.Sort.{Sort, is_number};
 ghost use Rattle.smt_values.specs.Element.{AreOfSorts, Element};
 ghost use Rattle.smt_values.specs.KnownOperations.{known_step};
 ghost use Rattle.smt_values.specs.Reasons.{divides_by_zero, open_reason, reason};
@@ -30,7 +29,7 @@ pub fn reasons_give_results()
 {}
 
 /// The argument that keeps a result open is open; a division by zero divides by an argument that is zero; and over
-/// known arguments, of sorts that the operator has a rank for, only an integer is out of range.
+/// known arguments, of sorts that the operator has a rank for, only a number is out of range.
 pub fn open_reasons_hold()
     ensures argument { (op : Op) (args : List (Option Element)) (i : ℕ) → reason op args ≡ Open (Argument i)
         → slice_get args i ≡ Some None }
@@ -38,5 +37,5 @@ pub fn open_reasons_hold()
         → IsTrue (divides_by_zero op args) }
     ensures range { (op : Op) (sorts : List Sort) (sort : Sort) (args : List Element)
         → HasRank op sorts sort → AreOfSorts sorts args → reason op (map Some args) ≡ Open Range
-        → sort ≡ Int }
+        → is_number sort ≡ true }
 {}

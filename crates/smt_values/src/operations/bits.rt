@@ -200,6 +200,6 @@ fn bits(arg: &Option<Value>) -> Option<Bits>
 {
     match arg {
         Some(Value::Bits(bits)) => Some(*bits),
-        Some(Value::Bool(_) | Value::Int(_) | Value::Abstract(_)) | None => None,
+        Some(Value::Bool(_) | Value::Int(_) | Value::Ratio(_) | Value::Abstract(_)) | None => None,
     }
 }

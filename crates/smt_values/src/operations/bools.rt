@@ -205,7 +205,7 @@ pub(crate) fn is(arg: &Option<Value>, truth: bool) -> bool
 {
     match arg {
         Some(Value::Bool(b)) => *b == truth,
-        Some(Value::Int(_) | Value::Bits(_) | Value::Abstract(_)) | None => false,
+        Some(Value::Int(_) | Value::Ratio(_) | Value::Bits(_) | Value::Abstract(_)) | None => false,
     }
 }
 
@@ -221,6 +221,6 @@ pub(crate) fn truth(arg: &Option<Value>) -> Option<bool>
 {
     match arg {
         Some(Value::Bool(b)) => Some(*b),
-        Some(Value::Int(_) | Value::Bits(_) | Value::Abstract(_)) | None => None,
+        Some(Value::Int(_) | Value::Ratio(_) | Value::Bits(_) | Value::Abstract(_)) | None => None,
     }
 }

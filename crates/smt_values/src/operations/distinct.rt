@@ -51,6 +51,12 @@ fn key(arg: &Option<Value>) -> (u8, i128, u128, ElementNumber)
         None => (0, 0, 0, ElementNumber::none()),
         Some(Value::Bool(b)) => (1, 0, u128::from(*b), ElementNumber::none()),
         Some(Value::Int(z)) => (2, z.get(), 0, ElementNumber::none()),
+        Some(Value::Ratio(ratio)) => (
+            5,
+            ratio.numerator(),
+            ratio.denominator(),
+            ElementNumber::none(),
+        ),
         Some(Value::Bits(v)) => (
             3,
             i128::from(v.width().bits()),

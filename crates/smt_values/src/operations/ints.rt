@@ -145,6 +145,6 @@ pub(crate) fn integer(arg: &Option<Value>) -> Option<i128>
 {
     match arg {
         Some(Value::Int(z)) => Some(z.get()),
-        Some(Value::Bool(_) | Value::Bits(_) | Value::Abstract(_)) | None => None,
+        Some(Value::Bool(_) | Value::Ratio(_) | Value::Bits(_) | Value::Abstract(_)) | None => None,
     }
 }

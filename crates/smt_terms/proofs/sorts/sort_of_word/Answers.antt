@@ -12,3 +12,6 @@ returns-then-is_named-4 c = search rules
 
 pub returns-else-is_named-4 : goal.returns-else-is_named-4
 returns-else-is_named-4 c = search rules
+
+pub returns-then-is_named-3 : goal.returns-then-is_named-3
+returns-then-is_named-3 c = search rules

@@ -33,4 +33,11 @@ returns c =
       rotate_left_fits = parts.rotate_left;
       rotate_right_fits = parts.rotate_right;
       comp_fits = signed.bvcomp;
+    } record {
+      ratios = c.ratios_are_quotients.ensures.lowest;
+      sums = c.sums_are_by_cross_products.ensures.number;
+      differences = c.differences_are_by_cross_products.ensures.number;
+      products = c.products_are_by_cross_products.ensures.number;
+      quotients = c.quotients_undo_products.ensures.number;
+      negatives = c.negatives_have_the_other_sign.ensures.number;
     }

@@ -1,17 +1,27 @@
-use Rattle.std.proofs.Common.{rules, map, ap, subst, sym, ◌∙◌}
-use Rattle.std.proofs.lemmas.Result.{IfErr-weaker, on_err_weaker, on_ok_weaker}
+use Rattle.std.proofs.Common.{◌≡◌, ℕ, Bool, true, false, cond, List, [], Some, Ok, Err, inl, inr, map, ap, subst}
+use Rattle.std.proofs.Common.{sym, ◌∙◌}
+use Rattle.std.specs.Prelude.{unwrap_or}
+use Rattle.std.proofs.lemmas.Result.{IfErr-weaker, err_from_is_err_and, on_err_weaker, on_ok_weaker}
+use Rattle.smt_faults.specs.Faults.{flaw_of_term_fault}
+use Rattle.smt_faults.specs.Outcome.{Tells}
+use Rattle.smt_faults.specs.declared.term_fault.TermFault.{TermFault}
+use Rattle.smt_faults.specs.declared.term_flaw.TermFlaw.{TermFlaw}
+use Rattle.smt_faults.specs.declared.term_flaw.TermFlaw.TheVariants.{Form, NotFresh}
+use Rattle.smt_trees.specs.Sexp.{Sexp}
 use Rattle.smt_trees.specs.View.{sexp_of}
-use Rattle.smt_terms.specs.Definitions.{defined_in, definition_in}
+use Rattle.smt_terms.specs.Definitions.{defined_in, definition_in, parameters_named}
 use Rattle.smt_forms.specs.ParamView.{param_view}
 use Rattle.smt_forms.specs.ScopeView.{scope_view}
-use Rattle.smt_terms.specs.Library.{Holds}
-use Rattle.smt_terms.specs.Signature.{names_of}
+use Rattle.smt_terms.specs.Library.{Holds, StandsFor}
+use Rattle.smt_terms.specs.Signature.{Signature, names_of, sort_names_of}
+use Rattle.smt_terms.specs.SortTrees.{sort_named}
+use Rattle.smt_terms.specs.declared.library.Library.{Library}
 use Rattle.smt_theory.specs.Operators.{is_plain_operator}
-use Rattle.smt_theory.specs.Words.{look_up}
-use Rattle.smt_terms.specs.Freshness.{is_element}
-use Rattle.smt_terms.specs.Internal.LibraryView.{names_of_library}
-use Rattle.smt_terms.proofs.DefinitionLemmas.{define_step, same_fault}
-use Rattle.smt_terms.proofs.ItemLemmas.{not_operator}
+use Rattle.smt_theory.specs.Words.{look_up, result_and_then}
+use Rattle.smt_terms.specs.Freshness.{is_element, is_taken}
+use Rattle.smt_terms.specs.Internal.LibraryView.{names_of_library, sort_names}
+use Rattle.smt_terms.proofs.DefinitionLemmas.{define_step, defined-bound, defined-free, same_fault}
+use Rattle.smt_terms.proofs.ItemLemmas.{Params, names_as, not_operator, sorts_as}
 use Rattle.smt_terms.proofs.ElementLemmas.{no_element}
 use Rattle.smt_terms.proofs.NameLookUps.{free_name}
 use Rattle.smt_terms.proofs.library.Library.define.Goals as goal
@@ -61,14 +71,64 @@ returns-clause-refused c =
     c.in_ok-sort.ensures (ap scope_view c.as_slice.ensures.value)) (refused s stands))
     c.add_definition.ensures.refused
 
+-- whether a name is taken is as the library says
+taken_as : (library : Library) (s : Signature) (x : List ℕ) (b : Bool) → StandsFor library s
+    → b ≡ is_taken (names_of_library library) x → is_taken (names_of s) x ≡ b
+taken_as library s x b stands is = ap (λ n. is_taken n x) (sym (names_as library s stands)) ∙ sym is
+
+-- a name that is taken
+define_taken : (library : Library) (s : Signature) (x : List ℕ) (params : List (List ℕ × Sexp)) (tree body : Sexp)
+    → StandsFor library s → true ≡ is_taken (names_of_library library) x
+    → defined_in s x params tree body ≡ Err NotFresh
+define_taken library s x params tree body stands is =
+    ap (λ b. cond b (Err NotFresh)
+    (result_and_then (parameters_named (sort_names_of s) [] params)
+    (λ ps. result_and_then (sort_named (sort_names_of s) tree)
+    (λ sort. definition_in (names_of s) x ps sort body)))) (taken_as library s x true stands is)
+
+-- the fault of its parameters
+define_unbound : (library : Library) (s : Signature) (x : List ℕ) (params : List (List ℕ × Sexp)) (tree body : Sexp)
+    (fault : TermFault) → StandsFor library s → false ≡ is_taken (names_of_library library) x
+    → Tells (parameters_named (sort_names library.sorts) [] params) fault
+    → Tells (defined_in s x params tree body) fault
+define_unbound library s x params tree body fault stands is (inl m) = inl m
+define_unbound library s x params tree body fault stands is (inr e) =
+    inr (defined-free s x params tree body (taken_as library s x false stands is)
+    ∙ ap (λ r. result_and_then r (λ ps. result_and_then (sort_named (sort_names_of s) tree)
+    (λ sort. definition_in (names_of s) x ps sort body)))
+    (ap (λ sorts. parameters_named sorts [] params) (sym (sorts_as library s stands)) ∙ e))
+
+-- the fault of its sort
+define_unsorted : (library : Library) (s : Signature) (x : List ℕ) (params : List (List ℕ × Sexp)) (tree body : Sexp)
+    (ps : Params) (flaw : TermFlaw) (fault : TermFault) → StandsFor library s
+    → false ≡ is_taken (names_of_library library) x → parameters_named (sort_names library.sorts) [] params ≡ Ok ps
+    → Err flaw ≡ sort_named (sort_names library.sorts) tree → flaw_of_term_fault fault ≡ Some flaw
+    → Tells (defined_in s x params tree body) fault
+define_unsorted library s x params tree body ps flaw fault stands is bound sorted told =
+    inr (defined-bound s x params tree body ps (taken_as library s x false stands is)
+    (ap (λ sorts. parameters_named sorts [] params) (sym (sorts_as library s stands)) ∙ bound)
+    ∙ ap (λ r. result_and_then r (λ sort. definition_in (names_of s) x ps sort body))
+    (ap (λ sorts. sort_named sorts tree) (sym (sorts_as library s stands)) ∙ sym sorted)
+    ∙ ap (λ o. Err (unwrap_or o Form)) (sym told))
+
 pub returns-then-is_taken-clause-refused : goal.returns-then-is_taken-clause-refused
-returns-then-is_taken-clause-refused c = search rules
+returns-then-is_taken-clause-refused c = λ s stands. inr (define_taken c.args.self.now s c.args.name.now
+    (map param_view c.args.params.now) (sexp_of c.args.sort) (sexp_of c.args.body) stands c.if-is_taken.ensures)
 
 pub returns-in_err-parameters-clause-refused : goal.returns-in_err-parameters-clause-refused
-returns-in_err-parameters-clause-refused c = search rules
+returns-in_err-parameters-clause-refused c =
+    let p = err_from_is_err_and c.from_residual.result c.from_residual.ensures.1 in
+    rw (p.1, p.2)
+    (λ s stands. define_unbound c.args.self.now s c.args.name.now (map param_view c.args.params.now)
+    (sexp_of c.args.sort) (sexp_of c.args.body) _ stands c.if-is_taken.ensures c.in_err-parameters.ensures)
 
 pub returns-in_err-sort-clause-refused : goal.returns-in_err-sort-clause-refused
-returns-in_err-sort-clause-refused c = search rules
+returns-in_err-sort-clause-refused c =
+    let p = err_from_is_err_and c.from_residual-in_err-sort.result c.from_residual-in_err-sort.ensures.1 in
+    rw p.1
+    (λ s stands. define_unsorted c.args.self.now s c.args.name.now (map param_view c.args.params.now)
+    (sexp_of c.args.sort) (sexp_of c.args.body) (scope_view c.in_ok-parameters.parameters.items) _ _ stands
+    c.if-is_taken.ensures c.in_ok-parameters.ensures c.in_err-sort.ensures p.2)
 
 pub returns-clause-unchanged : goal.returns-clause-unchanged
 returns-clause-unchanged c =

@@ -1,4 +1,4 @@
-use Rattle.std.proofs.Common.{rules, [], ◌∷◌}
+use Rattle.std.proofs.Common.{rules, [], ◌∷◌, append-nil, ◌∙◌, sym}
 use Rattle.smt_trees.specs.View.{sexp_of}
 use Rattle.smt_terms.specs.Internal.LibraryView.{names_of_library}
 use Rattle.smt_terms.proofs.LabelLemmas.{AreGiven-push}
@@ -20,3 +20,7 @@ pub returns-clause-named : goal.returns-clause-named
 returns-clause-named c =
     let p = c.in_ok-push.ensures.pushed in
     named_pushed c.args.labels.now c.push.new.self p.0 c.args.checked.now.node (sexp_of c.args.term) p.1 p.5 p.4
+
+pub returns-in_err-push-clause-longer : goal.returns-in_err-push-clause-longer
+returns-in_err-push-clause-longer c =
+    ([], c.in_err-push.ensures.unchanged ∙ sym (append-nil c.args.labels.now.given.items))
