@@ -1,7 +1,7 @@
 #!/usr/bin/env python3
 """Counts how many of a solver's models are confirmed, by kind of script: shares.py [--scripts N] [--seed N] [--profile P] [--kind K] NAME=COMMAND..
 
-It invents N scripts (40) of each kind, or of the kinds whose names have the word K; declared sorts and reals in the profile `wide` alone. Each
+It invents N scripts (40) of each kind, or of the kinds whose names have the word K; some kinds in the profile `wide` alone. Each
 script has one assertion or more. Each solver answers each script twice: first without models, and then with a `get-model` behind each check that was
 answered `sat`, since some print nothing for a model behind `unsat`. A solver has 10 seconds for each run. The table has, for each kind and
 solver, `confirmed of sat`, and what else was found, in the profile `base` or in that which is named. SMTCHECK names the program.
@@ -17,16 +17,32 @@ import tempfile
 from typing import Callable, Dict, List, Sequence, Tuple
 
 BITS = (1, 4, 8, 32)
+MORE_BITS = (*BITS, 64, 128)
 DECLARED = ("U", "V")  # sorts that a script declares
+WIDE = ("conversions", "declared", "overflow", "reals")  # how kinds begin that are in the profile `wide` alone
+
+# Conversions of vectors to integers, and back: the older names, and those of SMT-LIB 2.7.
+OLDER = (("bv2nat",), "int2bv")
+NEWER = (("ubv_to_int", "sbv_to_int"), "int_to_bv")
+OVERFLOWS = ("bvuaddo", "bvsaddo", "bvumulo", "bvsmulo", "bvusubo", "bvssubo", "bvsdivo", "bvnego")
 
 
 class Terms:
     """Random terms over the names of a script."""
 
-    def __init__(self, seed: int, sorts: Sequence[str], products: bool = False, divides: str = "", functions: bool = False) -> None:
+    def __init__(
+        self,
+        seed: int,
+        sorts: Sequence[str],
+        products: bool = False,
+        divides: str = "",
+        functions: bool = False,
+        converts: Tuple[Sequence[str], str] = ((), ""),
+        overflows: bool = False,
+    ) -> None:
         self.random, self.sorts, self.products, self.divides = random.Random(seed), list(sorts), products, divides
         self.names: Dict[str, List[str]] = {sort: [f"{letter}{index}" for index in range(3)] for letter, sort in zip("pqrs", ["Bool", *self.sorts])}
-        self.functions = functions
+        self.functions, self.converts, self.overflows = functions, converts, overflows
 
     def declarations(self) -> List[str]:
         """The declarations of the names."""
@@ -65,6 +81,12 @@ class Terms:
         """A formula."""
         if self.sorts and self.random.random() < 0.6:
             sort = self.random.choice(self.sorts)
+            if "Int" in self.sorts and sort == "Real" and self.random.random() < 0.2:
+                return f"(is_int {self.of(sort, depth - 1)})"
+            if self.overflows and self.random.random() < 0.5:
+                sign = self.random.choice(OVERFLOWS)
+                claim = f"({sign} {' '.join(self.of(sort, depth - 1) for _ in range(1 if sign == 'bvnego' else 2))})"
+                return f"(= {self.leaf('Bool')} {claim})" if self.random.random() < 0.7 else claim
             signs = ("<=", "<", "=", "distinct") if sort in ("Int", "Real") else ("=", "distinct") if sort in DECLARED else ("bvult", "bvsle", "=", "distinct")
             return f"({self.random.choice(signs)} {self.of(sort, depth - 1)} {self.of(sort, depth - 1)})"
         if self.random.random() < 0.2:
@@ -72,7 +94,11 @@ class Terms:
         return f"({self.random.choice(('and', 'or', '=>', 'xor', '='))} {self.of('Bool', depth - 1)} {self.of('Bool', depth - 1)})"
 
     def integer(self, depth: int) -> str:
-        """A term of integers."""
+        """A term of integers, of reals too if the script has some, and of vectors if it converts them."""
+        if "Real" in self.sorts and self.random.random() < 0.2:
+            return f"(to_int {self.of('Real', depth - 1)})"
+        if self.converts[1] and self.random.random() < 0.4:
+            return f"({self.random.choice(self.converts[0])} {self.of(self.sorts[0], depth - 1)})"
         if self.divides and self.random.random() < 0.4:
             by = str(self.random.randrange(1, 9)) if self.divides == "numeral" else self.of("Int", depth - 1)
             return f"({self.random.choice(('div', 'mod'))} {self.of('Int', depth - 1)} {by})"
@@ -103,7 +129,9 @@ class Terms:
         return f"({self.random.choice('+-')} {self.of('Real', depth - 1)} {self.of('Real', depth - 1)})"
 
     def vector(self, sort: str, depth: int) -> str:
-        """A term of bit vectors."""
+        """A term of bit vectors, of integers too if the script converts them."""
+        if self.converts[1] and self.random.random() < 0.25:
+            return f"((_ {self.converts[1]} {sort.split()[-1]} {self.of('Int', depth - 1)})"
         signs = ("bvadd", "bvsub", "bvmul", "bvand", "bvor", "bvxor", "bvudiv", "bvurem", "bvshl", "bvlshr", "bvashr", "bvsdiv")
         return f"({self.random.choice(signs)} {self.of(sort, depth - 1)} {self.of(sort, depth - 1)})"
 
@@ -135,10 +163,10 @@ def defined(terms: Terms, parameters: str) -> List[str]:
 
 
 def differences(terms: Terms) -> List[str]:
-    """Twelve bounds of differences between reals, with large numerals and fractions, of which each second one may hold or not."""
+    """Eight bounds of differences between reals, with large numerals and fractions, of which each second one may hold or not."""
     told, names = terms.declarations(), terms.names["Real"]
-    for index in range(12):
-        bound = terms.random.choice((str(terms.random.randrange(10**terms.random.choice((1, 3, 9, 18)))), terms.number()))
+    for index in range(8):
+        bound = terms.random.choice((str(terms.random.randrange(10**terms.random.choice((1, 3, 9, 18, 36)))), terms.number()))
         bound = f"(- {bound})" if terms.random.random() < 0.3 else bound
         claim = f"({terms.random.choice(('<=', '<', '>='))} (- {' '.join(terms.random.sample(names, 2))}) {bound})"
         told.append(f"(assert (or {claim} {terms.random.choice(terms.names['Bool'])}))" if index % 2 else f"(assert {claim})")
@@ -150,9 +178,14 @@ def labelled(terms: Terms) -> List[str]:
     return [*terms.declarations(), *(f"(assert (! {terms.of('Bool', 3)} :named l{index}))" for index in range(4)), "(check-sat)"]
 
 
-def vectors(seed: int) -> List[str]:
+def vectors(seed: int, bits: Sequence[int] = BITS) -> List[str]:
     """The sort of bit vectors of a script."""
-    return [f"(_ BitVec {BITS[seed % len(BITS)]})"]
+    return [f"(_ BitVec {bits[seed % len(bits)]})"]
+
+
+def converted(seed: int, converts: Tuple[Sequence[str], str], functions: bool = False) -> List[str]:
+    """As plain, over vectors and integers that are made of one another."""
+    return plain(Terms(seed, [*vectors(seed, MORE_BITS), "Int"], functions=functions, converts=converts))
 
 
 KINDS: Tuple[Tuple[str, str, Callable[[int], List[str]]], ...] = (
@@ -174,6 +207,11 @@ KINDS: Tuple[Tuple[str, str, Callable[[int], List[str]]], ...] = (
     ("reals and integers", "QF_LIRA", lambda seed: plain(Terms(seed, ["Real", "Int"]))),
     ("reals and products", "QF_NRA", lambda seed: plain(Terms(seed, ["Real"], products=True))),
     ("reals divided by variables", "QF_NRA", lambda seed: plain(Terms(seed, ["Real"], divides="term"))),
+    ("conversions by the older names", "ALL", lambda seed: converted(seed, OLDER)),
+    ("conversions by the older names, and functions", "ALL", lambda seed: converted(seed, OLDER, functions=True)),
+    ("conversions", "ALL", lambda seed: converted(seed, NEWER)),
+    ("conversions and functions", "ALL", lambda seed: converted(seed, NEWER, functions=True)),
+    ("overflow predicates", "QF_BV", lambda seed: plain(Terms(seed, vectors(seed, MORE_BITS), overflows=True))),
     ("declared sorts and functions", "QF_UF", lambda seed: plain(Terms(seed, DECLARED[: 1 + seed % 2], functions=True))),
 )
 
@@ -228,7 +266,7 @@ def main() -> int:
     print("| kind of script | " + " | ".join(name for name, _ in solvers) + " |")
     print("|---" * (len(solvers) + 1) + "|")
     refuted = 0
-    kinds = [row for row in KINDS if given.kind in row[0] and (given.profile == "wide" or not row[0].startswith(("declared", "reals")))]
+    kinds = [row for row in KINDS if given.kind in row[0] and (given.profile == "wide" or not row[0].startswith(WIDE))]
     for kind, logic, body in kinds:
         cells = []
         for _, command in solvers:

@@ -1,5 +1,5 @@
 #!/bin/sh
-# Adds the operator `bvnego`, and the sort `Toy` with two elements, each to a copy of the sources by a patch of tests/adding. Looks that the patch
+# Adds the operator `bvumul_noovfl`, and the sort `Toy` with two elements, each to a copy of the sources by a patch of tests/adding. Looks that the patch
 # applies, that it touches at most so many files of src and specs, and just those that docs/DEVELOPING.md lists, and that the compiler takes the code of
 # smt_theory and smt_values (above them tests/variants.sh finds a place that is forgotten). It proves nothing and reads no definition, which takes
 # a minute a crate. Prints how many files each patch touches.
@@ -82,6 +82,6 @@ touches() {
 }
 
 printed=
-touches bvnego 'An operator' 6
+touches bvumul_noovfl 'An operator' 6
 touches toy_sort 'A sort' 40
 echo "adding: files of src and specs touched:${printed#,}"

@@ -446,7 +446,7 @@ Options:
           Which language is taken; docs/LANGUAGE.md has both.
           
           base: scripts over truth values, integers and bit vectors, in the forms of SMT-LIB 2.6
-          wide: the same, and forms that real scripts and models have besides: (push) and (pop) without a numeral, define-const, declare-sort, terms as assumptions, the names of more logics, `unsupported` as answer to a set-logic of another name, and items of a model that repeat a label or a definition of the script or tell of declared sorts, as z3 prints them
+          wide: the same, reals, operators of SMT-LIB 2.7 on bit vectors, and forms that real scripts and models have besides: (push) and (pop) without a numeral, define-const, declare-sort, terms as assumptions, the names of more logics, `unsupported` as answer to a set-logic of another name, and items of a model that repeat a label or a definition of the script or tell of declared sorts, as z3 prints them
           
           [default: base]
 

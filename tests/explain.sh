@@ -331,6 +331,20 @@ explains - off '(declare-const x Real)(declare-const i Int)(assert (< (+ x i) (/
     'sat ((define-fun x () Real 3.0)(define-fun i () Int 2))' 's:1:90: check 1, command 4: (check-sat)' \
     's:1:44: claim, command 3: (assert (< (+ x i) (/ i (- 3)) (- x) (- 4.0)))' 's:1:44: false: (< (+ x i) (/ i (- 3)) (- x) (- 4.0))' \
     '    (+ x i) = 5.0, (/ i (- 3)) = (- (/ 2 3)), (- x) = (- 3.0), x = 3.0, i = 2' 'a:1:6: item x' 'a:1:32: item i' 'a:1:5: model'
+explains - off '(declare-const x (_ BitVec 128))(assert (> (bv2nat x) 5))(check-sat)(get-model)' \
+    'sat ((define-fun x () (_ BitVec 128) #xffffffffffffffffffffffffffffffff))' 's:1:58: check 1, command 3: (check-sat)' \
+    's:1:33: claim, command 2: (assert (> (bv2nat x) 5))' 's:1:33: open: (bv2nat x)' \
+    '    an integer below -2^127 or over 2^127 - 1' '    x = #xffffffffffffffffffffffffffffffff' 'a:1:6: item x' 'a:1:5: model'
+explains - off '(declare-const y (_ BitVec 8))(assert (and (bvsmulo y y) (= ((_ int2bv 8) (sbv_to_int y)) (bvneg y))))(check-sat)(get-model)' \
+    'sat ((define-fun y () (_ BitVec 8) #x85))' 's:1:103: check 1, command 3: (check-sat)' \
+    's:1:31: claim, command 2: (assert (and (bvsmulo y y) (= ((_ int2bv 8) (sbv_to_int y)) (bvneg y))))' \
+    's:1:31: false: (= ((_ int2bv 8) (sbv_to_int y)) (bvneg y))' \
+    '    ((_ int2bv 8) (sbv_to_int y)) = #x85, (bvneg y) = #x7b, y = #x85' 'a:1:6: item y' 'a:1:5: model'
+explains F4 off '(declare-const y (_ BitVec 8))(assert (bvuaddo y y y))' '' 's:1:31: fault, command 2: (assert (bvuaddo y y y))' "$ill" \
+    '    ill sorted: (bvuaddo y y y)' '    arguments needed: 2, and there are 3'
+explains F3 off '(set-logic QF_BV)(declare-const y (_ BitVec 8))(assert (= ((_ int2bv 8) y) y))' '' \
+    's:1:48: fault, command 3: (assert (= ((_ int2bv 8) y) y))' '    C7: F3: a name, a sort or a literal is unknown there' \
+    '    lacking: (_ int2bv 8) needs integers, which the logic lacks'
 explains F7 off '(declare-sort U 0)(declare-const d U)(define-fun @a () U d)(check-sat)(get-model)' 'sat ((define-fun d () U (as @a U)))' \
     's:1:60: check 1, command 4: (check-sat)' 'a:1:6: item 1: (define-fun d () U (as @a U))' "$used" \
     's:1:38: in use, command 3: (define-fun @a () U d)'

@@ -52,7 +52,7 @@ __all__ = [
     "Explained", "Explanation", "FORMS", "Item", "LibraryError", "Line", "PROFILES", "Place", "Remark", "Report", "SOLVERS", "STEPS", "Session",
     "Spot", "VERDICTS", "Value", "VerdictError", "check", "check_files", "explain", "line_of", "main", "version",
 ]
-__version__ = "0.11.0"
+__version__ = "0.12.0"
 
 VERDICTS = ("valid", "invalid", "not decided", "refused")
 PROFILES = ("base", "wide")
@@ -389,7 +389,7 @@ def version() -> str:
     """The version of the library, and the toolchain that proved it.
 
     >>> version().split()[1]
-    '(rattle-kit-13b'
+    '(rattle-kit-13f'
     """
     room = 1
     while True:

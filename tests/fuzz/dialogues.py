@@ -369,7 +369,7 @@ class Story:
 
     def label_names(self):
         """Different names for labels."""
-        return self.rng.sample(NAMES, 4) + ["a1", "a2"]
+        return self.rng.sample(NAMES, 4) + self.rng.sample(OPERATOR_NAMES, 3) * (self.rng.random() < 0.15) + ["a1", "a2"]
 
     def assertion(self):
         """An assertion, which is true in the secret model, mostly."""
@@ -1100,7 +1100,7 @@ class Story:
             self.do(listed("push", levels))
         kind = rng.choice(("declared", "defined", "label", "open", "declared", "abbreviation", "abbreviation", "function"))
         if what == "twice":
-            kind = ("abbreviation", "label", "defined", "declared", "abbreviation", "label", "function")[self.turn % 7]
+            kind = ("abbreviation", "label", "defined", "declared", "abbreviation", "label", "function", "defined")[self.turn % 8]
         kind = {"label": "label", "lacks": "declared", "item": rng.choice(("label", "defined"))}.get(what, kind)
         name = self.new_thing(kind)
         if name is None:

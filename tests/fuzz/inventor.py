@@ -1,13 +1,15 @@
 """Invents sorts and terms that have no fault."""
+from conversions import CONVERSIONS, OVERFLOWS, corner, integer, pair
+from operators import FROM_INTS, TO_INTS
 from reals import edge, printed, usual
-from sorts import BITS, BOOL, INT, INTS, NUMBERS, REAL, REALS, Free
+from sorts import BITS, BOOL, INT, INTS, NUMBERS, REAL, REALS, WIDE, Free
 from text import BINARY, HEXADECIMAL, Atom, is_word
 from trees import indexed, keyword, listed, numeral, string, symbol, word
 
 NAMES = "x y z p q r f g h a b c k!0 u1 v2 <a> ~".split() + ["a b", "", "let", "x\ny", "\xe9", "model", "sat", "error", "Int", "Real"]
 NAMES += "extract bv1 divisible success -x .".split()
 # Names of operators, which are free where their theory isn't in force.
-OPERATOR_NAMES = "and + - * div mod abs < bvadd concat bvcomp not true = ite".split()
+OPERATOR_NAMES = "and + - * div mod abs < bvadd concat bvcomp not true = ite".split() + OVERFLOWS[::2] + CONVERSIONS
 
 CORE_OPERATORS = "not => and or xor = distinct ite".split()
 INT_OPERATORS = "- + * div mod abs ite".split()
@@ -54,6 +56,8 @@ class Inventor:
         self.ints = INTS in context.theories
         self.bits = BITS in context.theories
         self.reals = REALS in context.theories
+        self.overflows = self.bits and WIDE in context.theories
+        self.converts = self.overflows and self.ints
         self.constants, self.functions = {}, {}
         for name, rank in context.ranks.items():
             (self.functions if rank.parameters else self.constants).setdefault(rank.result, []).append((name, rank.parameters))
@@ -184,14 +188,14 @@ class Inventor:
         """Names of operators with this result."""
         if sort == BOOL:
             on_reals = REAL_RELATIONS * (2 - self.ints) * self.reals + ["is_int"] * (self.ints and self.reals)
-            return CORE_OPERATORS + INT_RELATIONS * self.ints + on_reals + BIT_RELATIONS * self.bits
+            return CORE_OPERATORS + INT_RELATIONS * self.ints + on_reals + BIT_RELATIONS * self.bits + OVERFLOWS * self.overflows
         if sort == INT:
-            return INT_OPERATORS + ["to_int"] * self.reals
+            return INT_OPERATORS + ["to_int"] * self.reals + sorted(TO_INTS) * self.converts
         if sort == REAL:
             return REAL_OPERATORS + ["to_real"] * self.ints
         if type(sort) is Free:
             return ["ite"]
-        return SAME_WIDTH + OTHER_WIDTHS + ["bvcomp"] * (4 * (sort == 1))
+        return SAME_WIDTH + OTHER_WIDTHS + ["bvcomp"] * (4 * (sort == 1)) + list(FROM_INTS) * self.converts
 
     def application(self, name, sort, size, scope):
         """The application of an operator, of this result."""
@@ -212,6 +216,8 @@ class Inventor:
             found = self.on_numbers(name, sort, count, inner, scope)
             if found is not None:
                 return found
+        if name in CONVERSIONS or name in OVERFLOWS:
+            return self.on_bounds(name, sort, inner, scope)
         if name == "ite":
             return [head, self.term(BOOL, inner, scope), self.term(sort, inner, scope), self.term(sort, inner, scope)]
         if name in ("=", "distinct"):
@@ -258,6 +264,19 @@ class Inventor:
             # Divisors that are numbers, and not 0 mostly.
             arguments[1:] = [self.literal(REAL) for _ in arguments[1:]]
         return [symbol(name)] + arguments
+
+    def on_bounds(self, name, sort, inner, scope):
+        """A conversion or an overflow predicate, of values at corners now and then."""
+        rng = self.rng
+        at_corner = rng.random() < 0.4
+        width = rng.choice(self.widths)
+        if name in FROM_INTS:
+            return [indexed(name, sort), integer(rng, sort) if at_corner else self.term(INT, inner, scope)]
+        if name in TO_INTS or name == "bvnego":
+            return [symbol(name), self.vector(corner(rng, width), width) if at_corner else self.term(width, inner, scope)]
+        if at_corner:
+            return [symbol(name)] + [self.vector(number, width) for number in pair(rng, width)]
+        return [symbol(name), self.term(width, inner, scope), self.term(width, inner, scope)]
 
     def second(self, name, width):
         """A second argument that matters for an operator, now and then: no divisor, or a shift about the width."""

@@ -1,11 +1,12 @@
 """Printed models: their items, their cost, and what they make of the assertions in force and of the assumptions of their check."""
 from fractions import Fraction
 
+from operators import FROM_INTS, ON_OVERFLOW, TO_INTS
 from script import Assertion, Declaration, Definition, is_define_fun
 from sorts import INT, REAL, WIDE, Faulty, element_sort, like_element, of_abbreviation, sort_of
-from terms import Apply, Context, Let, Literal, Note, Use, Variable, check_definition, check_rank
+from terms import Apply, Context, Let, Literal, Note, Use, Variable, check_definition, check_rank, taken
 from text import begins_with, is_symbol
-from values import OPEN, Abstract
+from values import LOWEST, OPEN, Abstract
 
 
 class Structure:
@@ -42,6 +43,8 @@ class Structure:
             if self.reached is not None:
                 self.reached["operator " + node.operator.name] += 1
                 count_numbers(self.reached, node, values, value)
+                if OPEN not in values:
+                    count_conversion(self.reached, node, values, value)
             return value
         if kind is Variable:
             return variables[node.number]
@@ -74,6 +77,22 @@ def count_numbers(reached, node, values, value):
         reached["wide: a fraction by " + name] += 1
     if value is OPEN and OPEN not in values and (REAL in node.sorts or name == "/"):
         reached["wide: open by %s%s" % (name, " of 0" if name == "/" and 0 in values[1:] else "")] += 1
+
+
+def count_conversion(reached, node, values, value):
+    """Counts what overflow predicates and conversions make of known values, and of which widths these are."""
+    name = node.operator.name
+    if name in ON_OVERFLOW:
+        reached["wide: %s %s" % (name, "true" if value else "false")] += 1
+        reached["wide: overflow of %d bits" % node.sorts[0]] += 1
+    elif name in TO_INTS:
+        reached["wide: conversion of %d bits" % node.sorts[0]] += 1
+        if value is OPEN:
+            reached["wide: open by " + name] += 1
+        elif value < 0:
+            reached["wide: %s %s" % (name, "below 0" if value > LOWEST else "of the lowest integer")] += 1
+    elif name in FROM_INTS and values[0] != value:
+        reached["wide: %s of a number %s" % (name, "below 0" if values[0] < 0 else "too large")] += 1
 
 
 class ItemFault(Exception):
@@ -157,7 +176,7 @@ def define_item(item, force, declared, ranks, bodies, reached=None):
         set_aside(item, context, force.ranks[name], reached)
         return
     if name not in declared and (name in force.ranks or name in context.operators):
-        raise Faulty("F7")
+        raise Faulty("F7", taken(context, name, "an item"))
     ranks[name], bodies[name] = check_definition(context, *item[2:], rank=declared.get(name))
     if reached is not None and force.profile == WIDE and like_element(name):
         reached["wide: item by the name of " + ("an abbreviation" if of_abbreviation(name, force.abbreviations) else "no sort")] += 1

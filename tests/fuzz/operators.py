@@ -2,7 +2,7 @@
 import re
 
 import values as v
-from sorts import BITS, BOOL, CORE, INT, INTS, NUMBERS, REAL, REALS, WIDEST, Faulty, is_bits
+from sorts import BITS, BOOL, CORE, INT, INTS, NUMBERS, REAL, REALS, WIDE, WIDEST, Faulty, is_bits
 from text import NUMERAL, is_kind
 
 LARGEST_INDEX = 2**64 - 1
@@ -208,8 +208,38 @@ def operators_on_reals():
     return reals, both
 
 
+def operators_on_overflow():
+    """The operators without indexes that the profile `wide` has on bit vectors, by name, and those which need Ints too."""
+    overflows, conversions = {}, {}
+
+    def to_bool(width):
+        return BOOL
+
+    def to_int(width):
+        return INT
+
+    def put(name, count, meaning):
+        overflows[name] = Operator(name, vectors(count, count, to_bool), with_width(meaning))
+
+    put("bvnego", 1, lambda a, m: v.beyond_signed(-v.signed(a[0], m), m))
+    put("bvuaddo", 2, lambda a, m: v.beyond(a[0] + a[1], m))
+    put("bvumulo", 2, lambda a, m: v.beyond(a[0] * a[1], m))
+    put("bvusubo", 2, lambda a, m: v.beyond(a[0] - a[1], m))
+    put("bvsaddo", 2, lambda a, m: v.beyond_signed(v.signed(a[0], m) + v.signed(a[1], m), m))
+    put("bvsmulo", 2, lambda a, m: v.beyond_signed(v.signed(a[0], m) * v.signed(a[1], m), m))
+    put("bvssubo", 2, lambda a, m: v.beyond_signed(v.signed(a[0], m) - v.signed(a[1], m), m))
+    put("bvsdivo", 2, v.division_overflows)
+    for name in ("ubv_to_int", "bv2nat"):
+        conversions[name] = Operator(name, vectors(1, 1, to_int), plain(lambda a: v.known(a[0])))
+    conversions["sbv_to_int"] = Operator("sbv_to_int", vectors(1, 1, to_int), with_width(lambda a, m: v.signed(a[0], m)))
+    return overflows, conversions
+
+
 TABLES = operators()
 ON_REALS, WITH_INTS = operators_on_reals()
+ON_OVERFLOW, TO_INTS = operators_on_overflow()
+# From integers to bit vectors, with an index.
+FROM_INTS = ("int_to_bv", "int2bv")
 TABLE_OF = {}
 
 
@@ -222,35 +252,57 @@ def operators_in(theories):
         if REALS in theories:
             table.update(ON_REALS)
             table.update(WITH_INTS if INTS in theories else {})
+        if WIDE in theories and BITS in theories:
+            table.update(ON_OVERFLOW)
+            table.update(TO_INTS if INTS in theories else {})
         TABLE_OF[theories] = table
     return TABLE_OF[theories]
 
 
+def is_name_of_wide(name):
+    """Whether a name is that of an overflow predicate or a conversion in the profile `wide`."""
+    return name in ON_OVERFLOW or name in TO_INTS or name in FROM_INTS
+
+
+def without_theory(name, theories):
+    """What is counted where such a name is unknown for want of a theory."""
+    if WIDE not in theories or not is_name_of_wide(name):
+        return None
+    kind = "an overflow predicate" if name in ON_OVERFLOW else "a conversion"
+    return "%s without %s, F3" % (kind, INTS if BITS in theories else BITS)
+
+
 NAMED_VECTOR = re.compile("bv(0|[1-9][0-9]*)")
-# The names with indexes: the theory, and how many indexes.
+# The names with indexes: the theories that they need, and how many indexes.
 INDEXED = {
-    "divisible": (INTS, 1),
-    "extract": (BITS, 2),
-    "repeat": (BITS, 1),
-    "zero_extend": (BITS, 1),
-    "sign_extend": (BITS, 1),
-    "rotate_left": (BITS, 1),
-    "rotate_right": (BITS, 1),
+    "divisible": ({INTS}, 1),
+    "extract": ({BITS}, 2),
+    "repeat": ({BITS}, 1),
+    "zero_extend": ({BITS}, 1),
+    "sign_extend": ({BITS}, 1),
+    "rotate_left": ({BITS}, 1),
+    "rotate_right": ({BITS}, 1),
 }
+INDEXED.update((name, ({WIDE, BITS, INTS}, 1)) for name in FROM_INTS)
 
 
 def indexed_operator(name, indexes, theories):
     """The operator `(_ name index ..)`, the indexes being numerals and symbols; F3 if there is none of that name, F5 for its indexes."""
     vector = NAMED_VECTOR.fullmatch(name)
-    theory, count = (BITS, 1) if vector else INDEXED.get(name, (None, 0))
-    if theory not in theories:
-        raise Faulty("F3")
+    needed, count = ({BITS}, 1) if vector else INDEXED.get(name, ({None}, 0))
+    if not needed <= theories:
+        raise Faulty("F3", without_theory(name, theories) if name in FROM_INTS else None)
+    wrong = "a wrong index of %s, F5" % name if name in FROM_INTS else None
     if len(indexes) != count or not all(is_kind(index, NUMERAL) for index in indexes):
-        raise Faulty("F5")
+        raise Faulty("F5", wrong)
     numbers = [int(index.text) for index in indexes]
     if max(numbers) > LARGEST_INDEX:
-        raise Faulty("F5")
+        raise Faulty("F5", wrong)
     i = numbers[0]
+    if name in FROM_INTS:
+        if not 1 <= i <= WIDEST:
+            raise Faulty("F5", wrong)
+        return Operator(name, some(1, 1, INT, i), plain(lambda a: a[0] % (1 << i)))
     if vector:
         number = int(vector.group(1))
         if not 1 <= i <= WIDEST or number >= 1 << i:

@@ -149,7 +149,7 @@ FAULTS = templates(
 )
 # The first of both are rarer otherwise: what needs integers, and what needs the very sort.
 FAULTS += FAULTS[:7] * 2
-MIXES += MIXES[:4] * 2
+MIXES += MIXES[:4] * 4
 # Commands about the sort.
 COMMANDS = templates(
     """

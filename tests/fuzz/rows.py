@@ -7,6 +7,8 @@ from collections import namedtuple
 Stored = namedtuple("Stored", "script answers print_success steps file")
 
 STEP = re.compile(rb"\\(?:([ntr\\{}#\-])|x([0-9A-Fa-f]{2})|\*([0-9]+|#)\{)|([{}])|([^\\{}]+)|(\\)")
+# What is another in each repetition.
+COUNTED = re.compile(rb"\\(?:[#\-]|\*#)")
 SIGNS = {b"n": b"\n", b"t": b"\t", b"r": b"\r", b"\\": b"\\", b"{": b"{", b"}": b"}"}
 
 
@@ -27,9 +29,14 @@ def decoded(text, place=0, count=0, inside=False):
             out.append(bytes([int(code, 16)]))
         elif times:
             end = place
-            for number in range(1, (count if times == b"#" else int(times)) + 1):
+            total = count if times == b"#" else int(times)
+            for number in range(1, total + 1):
                 piece, end = decoded(text, place, number, True)
                 out.append(piece)
+                if COUNTED.search(text, place, end) is None:
+                    # All others are the same.
+                    out.append(piece * (total - 1))
+                    break
             place = end
         elif brace == b"}" and inside:
             return b"".join(out), place

@@ -24,6 +24,7 @@ import time
 import traceback
 from collections import Counter, namedtuple
 
+import conversions
 import reals
 from dialogues import Dialogue, invent
 from inventor import ALL_OPERATORS
@@ -33,7 +34,7 @@ from spines import invent_spine
 from text import read
 from trees import copied, lists_in, written
 from validator import STATUS, STEPS, report, with_deep_stack
-from wide import invent_wide, widened
+from wide import invent_conversions, invent_wide, widened
 
 HERE = os.path.dirname(os.path.abspath(__file__))
 TOP = os.path.dirname(os.path.dirname(HERE))
@@ -96,7 +97,7 @@ GLOBALS += ["global: fault C7 F7, %s whose level is gone" % kind for kind in NAM
 GLOBALS += ["global: %s with %s whose level is gone" % (word, kind) for word in ("assert", "check-sat-assuming") for kind in NAMED]
 GLOBALS += ["global: declare-const with an abbreviation whose level is gone"]
 GLOBALS += ["global: model with names whose levels are gone: " + end for end in ("lacks a name", "item F7", "refuted", "confirmed")]
-OTHERS += ASSUMING + GLOBALS
+OTHERS += ASSUMING + GLOBALS + conversions.FREE
 REQUIRED = LINES + OTHERS + ["operator " + name for name in ALL_OPERATORS]
 # What the profile `wide` has to reach besides.
 WIDE_KINDS = ["wide: " + what for what in (
@@ -128,6 +129,8 @@ WIDE_KINDS += ["wide: a fraction by " + name for name in "- + * / ite".split()]
 WIDE_KINDS += ["wide: open by " + name for name in ("-", "+", "*", "/", "/ of 0")]
 WIDE_KINDS += ["wide: numbers of the other sort as %s, F4" % what for what in ("arguments", "a body", "a rank")]
 WIDE_KINDS += ["wide: an operator of integers with a Real, F4", "wide: a decimal without Reals, F3", "wide: the sort Real without Reals, F3"]
+# Conversions and overflow.
+WIDE_KINDS += conversions.KINDS
 # What it hardly reaches: a label whose level is gone is set aside in it, and an operator's name is rare.
 NOT_WIDE = "global: model with names whose levels are gone: item F7"
 WITH_STEPS = ["model: too long", "limit on steps", "assuming: too long by its literals", "assuming: as long as the limit"]
@@ -437,7 +440,7 @@ class Streams:
 class Fuzzer:
     """Runs seeds, and counts what they reach."""
 
-    def __init__(self, program, with_steps, corpus, folder, mutated, profile, sorts, spines, with_reals):
+    def __init__(self, program, with_steps, corpus, folder, mutated, profile, sorts, spines, with_reals, converting):
         # Files in memory, where there are such, are written ten times as fast.
         memory = "/dev/shm" if os.access("/dev/shm", os.W_OK) else None
         self.work = tempfile.mkdtemp(prefix="smtcheck-fuzz-", dir=memory)
@@ -450,6 +453,7 @@ class Fuzzer:
         self.sorts = sorts
         self.spines = spines
         self.with_reals = with_reals
+        self.converting = converting
         self.counts = Counter()
         self.differences = 0
         self.slowest = (0.0, None)
@@ -475,6 +479,9 @@ class Fuzzer:
         if self.spines:
             self.counts["dialogue with a spine"] += 1
             return invent_spine(seed, self.profile)
+        if self.converting:
+            self.counts["dialogue invented"] += 1
+            return invent_conversions(seed, self.with_steps, self.profile)
         if self.corpus.dialogues and rng.random() < 0.2 and not self.sorts and not self.with_reals:
             self.counts["dialogue mutated"] += 1
             found = self.corpus.mutated(seed, self.with_steps)
@@ -603,7 +610,7 @@ class Fuzzer:
         print(
             "difference at seed %d: %s\n  alone: tests/fuzz.sh 1 %d%s, or in %s: %s %s script answers\nexpected:\n%sfound:\n%s%s"
             % (
-                seed, trouble, seed, " wide" * (self.profile == WIDE) + " --mutated" * self.mutated, folder, self.program.path, " ".join(options), expected, found,
+                seed, trouble, seed, " wide" * (self.profile == WIDE) + " --mutated" * self.mutated + " --conversions" * self.converting, folder, self.program.path, " ".join(options), expected, found,
                 small.strip("\n"),
             ),
             flush=True,
@@ -746,13 +753,16 @@ def main():
         "--spines", action="store_true", help="invent each dialogue with a term that nests deep, up to 2,000 frames; no kind has to be reached"
     )
     parser.add_argument("--reals", action="store_true", help="in `wide`, let each dialogue aim at reals; no kind has to be reached")
+    parser.add_argument(
+        "--conversions", action="store_true", help="let each dialogue aim at conversions and overflow, or in `base` at their names; likewise"
+    )
     parser.add_argument("-j", dest="jobs", type=int, default=1, help="how many run side by side")
     chosen = parser.parse_args()
     if not os.access(chosen.program, os.X_OK) or not stat.S_ISREG(os.stat(chosen.program).st_mode):
         sys.exit("fuzz: no program: " + chosen.program)
     with_steps = knows_steps(chosen.program) if chosen.steps_option == "ask" else chosen.steps_option == "on"
     folder = chosen.folder or os.path.join(tempfile.gettempdir(), "smtcheck-differences")
-    kinds = chosen.mutated, chosen.profile, chosen.sorts, chosen.spines, chosen.reals
+    kinds = chosen.mutated, chosen.profile, chosen.sorts, chosen.spines, chosen.reals, chosen.conversions
     settings = os.path.abspath(chosen.program), with_steps, chosen.rows, folder, *kinds
     seeds = range(chosen.seed, chosen.seed + chosen.number)
     size = max(1, min(2000, -(-len(seeds) // max(1, chosen.jobs))))
@@ -768,7 +778,8 @@ def main():
     if chosen.mutated:
         counts["different stored dialogues"] = len(sources)
         counts["different stored dialogues of solvers"] = sum(map(of_solver, sources))
-    required = [] if chosen.mutated or chosen.sorts or chosen.spines or chosen.reals else REQUIRED + WITH_STEPS * with_steps
+    aimed = chosen.mutated or chosen.sorts or chosen.spines or chosen.reals or chosen.conversions
+    required = [] if aimed else REQUIRED + WITH_STEPS * with_steps
     if required and chosen.profile == WIDE:
         required = [name for name in required if name != NOT_WIDE] + WIDE_KINDS
     table(counts, required)

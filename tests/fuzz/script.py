@@ -2,7 +2,7 @@
 from collections import namedtuple
 
 from sorts import BASE, BOOL, INT, LOGICS, THEORIES, WIDE, WIDE_SORTS, Faulty, Free
-from terms import Body, Context, Rank, check_assertion, check_definition, check_literal, is_binding
+from terms import Body, Context, Rank, check_assertion, check_definition, check_literal, is_binding, taken
 from text import KEYWORD, NUMERAL, RESERVED, STRING, Atom, begins_with, is_kind, is_symbol
 
 MOST_LEVELS = 10000
@@ -258,7 +258,7 @@ class Force:
             self.bring(Abbreviation(*place, name, Free(number, name) if word == "declare-sort" else context.sort(parts[2])))
             return
         if context.is_taken(name):
-            raise Faulty("F7")
+            raise Faulty("F7", taken(context, name, "a definition" if word == "define-fun" else "a declaration"))
         if word == "define-fun":
             rank, body = check_definition(context, *parts[1:])
             self.bring(Definition(*place, name, rank, body))

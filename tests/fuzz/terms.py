@@ -1,7 +1,7 @@
 """Terms: the checker, which finds the sort of a tree and makes a node of it, or finds its first fault."""
 from collections import namedtuple
 
-from operators import indexed_operator, operators_in
+from operators import FROM_INTS, ON_OVERFLOW, TO_INTS, indexed_operator, operators_in, without_theory
 from sorts import BITS, BOOL, INT, INTS, NUMBERS, REAL, REALS, WIDE, WIDEST, Faulty, Free, element_sort, of_abbreviation, sort_of
 from text import BINARY, DECIMAL, HEXADECIMAL, KEYWORD, NUMERAL, RESERVED, STRING, SYMBOL, begins_with, is_kind, is_symbol, is_word
 from values import HIGHEST, OPEN, decimal, element
@@ -173,7 +173,7 @@ class Checker:
             if self.labels is None or any(number <= bound for number in self.used[used:]):
                 raise Faulty("F8")
             if self.context.is_taken(name) or any(label.name == name for label in self.labels):
-                raise Faulty("F7")
+                raise Faulty("F7", taken(self.context, name, "a label"))
             self.labels.append(Label(name, sort, node))
         return sort, Note(node)
 
@@ -197,11 +197,10 @@ class Checker:
         elif head.text in self.context.operators:
             operator = self.context.operators[head.text]
         else:
-            raise Faulty("F3")
+            raise Faulty("F3", None if head.text in FROM_INTS else without_theory(head.text, self.context.theories))
         result = operator.result(sorts)
         if result is None:
-            of_real = REAL in sorts and all(sort in NUMBERS for sort in sorts) and operator.result((INT,) * len(sorts))
-            raise Faulty("F4", "an operator of integers with a Real, F4" if of_real else None)
+            raise Faulty("F4", misfit(operator, sorts))
         return result, Apply(operator, nodes, sorts)
 
 
@@ -209,6 +208,21 @@ def indexed_form(tree):
     """The form of a list that begins with `_`."""
     if len(tree) < 3 or not is_symbol(tree[1]) or not all(is_kind(i, NUMERAL) or is_kind(i, SYMBOL) for i in tree[2:]):
         raise Faulty("F1")
+
+
+def misfit(operator, sorts):
+    """What is counted where an operator does not accept its arguments."""
+    if REAL in sorts and all(sort in NUMBERS for sort in sorts) and operator.result((INT,) * len(sorts)):
+        return "an operator of integers with a Real, F4"
+    if operator.name in ON_OVERFLOW:
+        return "arguments of an overflow predicate, F4"
+    return "arguments of a conversion, F4" if operator.name in TO_INTS or operator.name in FROM_INTS else None
+
+
+def taken(context, name, what):
+    """What is counted where something new may not have a name."""
+    of_operator = name in context.operators and (name in ON_OVERFLOW or name in TO_INTS)
+    return "%s by the name of an overflow predicate or a conversion, F7" % what if of_operator else None
 
 
 def mixed(what, found, wanted):

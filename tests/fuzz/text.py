@@ -3,6 +3,7 @@
 A tree is an Atom or a Python list of trees. Bytes are read as characters of the same number, so that a place in the string is a place in
 the text.
 """
+import gc
 import re
 import sys
 from collections import namedtuple
@@ -30,6 +31,7 @@ RESERVED_WORDS = frozenset(COMMAND_WORDS + OTHER_WORDS)
 
 LETTERS = r"A-Za-z~!@$%^&*_\-+=<>.?/"
 BLANK = re.compile(r"(?:[\t\n\r ]+|;[^\n\r]*)*")
+OPENING, CLOSING = re.compile(r"\(+"), re.compile(r"\)+")
 NUMBER = re.compile(r"(?:0|[1-9][0-9]*)(\.[0-9]*)?")
 HASH = re.compile(r"#(?:x[0-9A-Fa-f]*|b[01]*)?")
 # A string or a quoted symbol up to what ends it.
@@ -103,6 +105,18 @@ def token_at(text, place):
 
 def read(data, ended=True, deepest=DEEPEST["wide"]):
     """The reading of a text, or of a beginning of one if it has not ended."""
+    # (nothing that is read is garbage, and to look for some among a million lists takes as long as to read them)
+    looks = gc.isenabled()
+    gc.disable()
+    try:
+        return reading_of(data, ended, deepest)
+    finally:
+        if looks:
+            gc.enable()
+
+
+def reading_of(data, ended, deepest):
+    """The same, whatever garbage there is."""
     text = data.decode("latin-1")
     size = len(text)
     top = []
@@ -115,18 +129,25 @@ def read(data, ended=True, deepest=DEEPEST["wide"]):
             return Reading(top, Flaw("X3", size) if ended and above else None, ended)
         first = text[place]
         if first == "(":
-            if len(above) == deepest:
-                return Reading(top, Flaw("X2", place), ended)
-            above.append(here)
-            here = []
-            place += 1
+            # (parentheses side by side are read at once, which is quicker)
+            end = OPENING.match(text, place).end()
+            fits = min(end - place, deepest - len(above))
+            for _ in range(fits):
+                above.append(here)
+                here = []
+            if place + fits < end:
+                return Reading(top, Flaw("X2", place + fits), ended)
+            place = end
         elif first == ")":
-            if not above:
-                return Reading(top, Flaw("X1", place), ended)
-            done = here
-            here = above.pop()
-            here.append(done)
-            place += 1
+            end = CLOSING.match(text, place).end()
+            fits = min(end - place, len(above))
+            for _ in range(fits):
+                done = here
+                here = above.pop()
+                here.append(done)
+            if place + fits < end:
+                return Reading(top, Flaw("X1", place + fits), ended)
+            place = end
         else:
             atom, end = token_at(text, place)
             if atom is None:

@@ -8,6 +8,7 @@ import sys
 import threading
 
 from models import CONFIRMED, items_of, judged
+from operators import is_name_of_wide
 from script import CHANGING, CHECKS, Abbreviation, Assertion, Declaration, Definition, Force, Refused, command_of, is_literal
 from script import is_define_const, is_option
 from sorts import BASE, LOGICS, WIDE, WIDE_LOGICS, WIDE_SORTS, element_sort
@@ -230,6 +231,7 @@ class Dialogue:
         self.count_change(command, "")
         self.count_uses(command)
         assumed = self.force.take(number, command)
+        self.count_free(number)
         if command.word in CHECKS:
             self.take_check(number, command, answer.text, assumed)
         elif command.word == "get-model":
@@ -273,6 +275,14 @@ class Dialogue:
         if form_of(tree):
             self.count("wide: " + form_of(tree))
         self.defined.update(thing.name for thing in self.force.of_kind(Definition))
+
+    def count_free(self, number):
+        """Counts what a command named as a conversion or an overflow predicate, where that is no operator."""
+        if self.reached is None:
+            return
+        for thing in self.force.brought[-2:]:
+            if thing.command == number and type(thing) in (Declaration, Definition) and is_name_of_wide(thing.name):
+                self.count("free name of a conversion or an overflow predicate: " + self.words_of(thing))
 
     def count_logic(self, command, answer):
         """Counts the logics that are set in the profile `wide`, and their answers."""

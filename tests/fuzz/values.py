@@ -251,6 +251,24 @@ def extended_signed(values, m, more):
     return signed(values[0], m) % (1 << (m + more))
 
 
+def beyond(number, m):
+    """Whether no bit vector is this number."""
+    return not 0 <= number < 1 << m
+
+
+def beyond_signed(number, m):
+    """Whether no signed reading is this number."""
+    return not -(1 << (m - 1)) <= number < 1 << (m - 1)
+
+
+def division_overflows(values, m):
+    """bvsdivo: whether the quotient of the signed readings, rounded towards 0, is none; by 0 it is not asked."""
+    s, t = signed(values[0], m), signed(values[1], m)
+    if t == 0:
+        return False
+    return beyond_signed(abs(s) // abs(t) * (1 if (s < 0) == (t < 0) else -1), m)
+
+
 def rotated_left(values, m, places):
     """The bits go to the left, and come in at the right."""
     places %= m

@@ -3,7 +3,9 @@ import random
 
 from dialogues import AIMS, Dialogue, Story, aims, is_right_form, soup_of
 from flaws import LETTERS, SORT_LETTERS, templates
+import conversions
 import reals
+from conversions import ConversionAims
 from inventor import BEHIND_AS, ELEMENT_NAMES, NAMES
 from script import Definition
 from sorts import BOOL, INT, INTS, LOGICS, REAL, REALS, WIDE, WIDE_LOGICS, WIDE_SORTS, Faulty, Free, element_sort
@@ -18,7 +20,8 @@ REAL_AIMS = aims(
         "real name": 12, "real item": 8,
     },
 )
-WIDE_AIMS = AIMS + REAL_AIMS + aims("global", {"late": 6, "twice": 6}) + aims(
+CONVERSION_AIMS = aims("conversion", conversions.COUNTS)
+WIDE_AIMS = AIMS + REAL_AIMS + CONVERSION_AIMS + aims("global", {"late": 6, "twice": 6}) + aims(
     "wide",
     {
         "repeated": 8, "rank": 32, "gone": 4, "inner": 4, "logic": 14, "assumed": 12, "const": 20, "bare": 10, "declared": 3, "twice": 2,
@@ -80,7 +83,7 @@ TWO_MEANINGS = [
     for whose in ("constant", "label", "declared", "function", "gone", "abbreviation")
 ]
 TWO_MEANINGS += [("item", "as"), ("abbreviation", "body"), ("abbreviation", "item"), ("none", "item"), ("none", "told")] * 2
-TWO_MEANINGS += [("label", "told"), ("declared", "told"), ("none", "told"), ("abbreviation", "item")]
+TWO_MEANINGS += [("label", "told"), ("declared", "told"), ("none", "told"), ("abbreviation", "item"), ("item", "as"), ("item", "as")]
 TWO_MEANINGS += [("variable", where) for where in ("body", "as", "applied")]
 SORT_NAMES = ("U", "V", "S", "my sort", "U!val", "x", "uc_U", "Elem", "", "let", "!val!0", "_")
 # Sorts whose elements have names of 31 bytes, and of 32.
@@ -112,14 +115,14 @@ def reformed(tree):
     return tree
 
 
-class WideStory(Story):
+class WideStory(ConversionAims, Story):
     """A story in the profile `wide`."""
 
     PROFILE = WIDE
     LOGIC_NAMES = sorted(LOGICS[WIDE]) + ["ALL", "QF_BV", "QF_LIA", "QF_UFBV", "ALL_SUPPORTED"] * 8 + ["AX", "QF_AX"] * 3 + reals.USUAL * 2
     SHORT_SORTS = ("word", "S", "String", "BitVec", "x", "let", "T", "U", "V", "V", "W")
 
-    def __init__(self, rng, aim, turn, with_steps, sorts, with_reals=False):
+    def __init__(self, rng, aim, turn, with_steps, sorts=False, logics=None):
         super().__init__(rng, aim, turn, with_steps)
         # The sorts that were declared, also those that are gone: what was ever their name.
         self.sorts_met = []
@@ -128,8 +131,8 @@ class WideStory(Story):
         self.defined = set()
         self.sorted = 0.2 if sorts else rng.choice((0, 0, 0.05, 0.2))
         self.begins_with_sort = sorts
-        if with_reals:
-            self.LOGIC_NAMES = reals.USUAL
+        if logics:
+            self.LOGIC_NAMES = logics
 
     # Commands and answers
 
@@ -711,19 +714,6 @@ class WideStory(Story):
 
     # Reals
 
-    def begin_with(self, logics):
-        """The start again, in one of these logics or in none; whether the script goes on."""
-        self.do(listed("reset"))
-        if not self.over and self.rng.random() < 0.85:
-            # A solver that knows the logic, so that it is set.
-            self.do(listed("set-logic", self.rng.choice(logics)), symbol("success") if self.force.print_success else None)
-        return not self.over
-
-    def new_name(self):
-        """A name that was not used."""
-        self.fresh += 1
-        return "r%d" % self.fresh
-
     def a_real(self):
         """A constant of the sort Real and a function of a real, by their names, or None."""
         constant, function = self.new_name(), self.new_name()
@@ -732,16 +722,6 @@ class WideStory(Story):
         if not self.over:
             self.do(listed("declare-fun", function, [symbol("Real")], result))
         return None if self.over else (constant, function)
-
-    def assert_and_check(self, tree, keep=False):
-        """An assertion of a term, or of what it is equal to, and a check with a right model."""
-        if not self.over:
-            self.assert_tree(self.exact(tree), keep)
-        self.check_reals()
-
-    def check_reals(self):
-        """A check with a right model, or with one in which a value is another."""
-        self.right_check(["wrong"] * self.rng.choice((0, 0, 1, 2)))
 
     def aim_at_real_operator(self):
         """An operator on numbers; then one argument more or less."""
@@ -765,7 +745,7 @@ class WideStory(Story):
         for _ in range(2):
             if not self.over:
                 self.assert_tree(self.exact(self.inventor().term(REAL if REALS in self.force.theories else BOOL, 6, {})))
-        self.check_reals()
+        self.check_numbers()
 
     def aim_at_edge(self):
         """A term over numbers at the bounds of what is known."""
@@ -792,7 +772,9 @@ class WideStory(Story):
             if self.rng.random() < 0.2:
                 tree = self.inventor().spoiled(self.inventor().term(BOOL, 4, {}), tree)
             self.assert_tree(tree)
-            self.check_reals()
+            if not self.over and self.rng.random() < 0.3:
+                self.assert_tree(reals.filled(copied(reals.MIXES[self.turn % 4]), {"CONSTANT": names[0], "NAME": names[1]}))
+            self.check_numbers()
 
     def aim_at_lacking(self):
         """What reals bring, where they or integers are not there."""
@@ -819,7 +801,7 @@ class WideStory(Story):
             tree = self.inventor().spoiled(self.inventor().term(BOOL, 4, {}), tree)
         if not self.over:
             self.assert_tree(tree)
-        self.check_reals()
+        self.check_numbers()
 
     def aim_at_real_command(self):
         """A command that names the sort."""
@@ -828,7 +810,7 @@ class WideStory(Story):
         names = {"NAME": self.new_name()}
         if not self.over:
             self.do(reals.filled(copied(reals.COMMANDS[self.turn % len(reals.COMMANDS)]), names))
-        self.check_reals()
+        self.check_numbers()
 
     def aim_at_real_name(self):
         """A new name that is an operator's, or is not where the logic lacks a theory."""
@@ -848,7 +830,7 @@ class WideStory(Story):
         elif kind == 4:
             self.do(listed("assert", [word("let"), [[name, symbol("true")]], rng.choice((name, [name, numeral(1), numeral(2)]))]))
         if kind < 5:
-            self.check_reals()
+            self.check_numbers()
         else:
             item = [word("define-fun"), name, [], symbol("Bool"), symbol("true")]
             self.sat_with(lambda items: self.put(items, item))
@@ -922,12 +904,27 @@ def widened(seed, dialogue):
     return Dialogue(written(commands), written(answers), dialogue.print_success, dialogue.steps)
 
 
+class PlainStory(ConversionAims, Story):
+    """A story in the profile `base`, where the names of conversions and overflow predicates are free."""
+
+
 def invent_wide(seed, with_steps=False, sorts=False, with_reals=False):
     """The dialogue of a seed in the profile `wide`; with limits on steps, beginning with a declared sort, or aiming at reals, if it is said."""
     if with_reals:
         rng = random.Random(seed)
         found = REAL_AIMS + [(None, None, 0, 1)] * 40
-        return WideStory(rng, found[seed % len(found)], seed // len(found), with_steps, sorts, True).tell()
+        return WideStory(rng, found[seed % len(found)], seed // len(found), with_steps, sorts, reals.USUAL).tell()
     if seed % 29 == 11 and not sorts:
         return soup_of(random.Random(seed))
     return WideStory(random.Random(seed), WIDE_AIMS[seed % len(WIDE_AIMS)], seed // len(WIDE_AIMS), with_steps, sorts).tell()
+
+
+def invent_conversions(seed, with_steps, profile):
+    """The dialogue of a seed that aims at conversions and overflow predicates, or at their names."""
+    rng = random.Random(seed)
+    found = CONVERSION_AIMS if profile == WIDE else aims("conversion", conversions.COUNTS_IN_BASE)
+    found = found + [(None, None, 0, 1)] * 30
+    aim, turn = found[seed % len(found)], seed // len(found)
+    if profile == WIDE:
+        return WideStory(rng, aim, turn, with_steps, logics=conversions.USUAL).tell()
+    return PlainStory(rng, aim, turn, with_steps).tell()

@@ -3,6 +3,7 @@ pub mod BitLawLemmas
 pub mod BitwiseLemmas
 pub mod LiteralLemmas
 pub mod ModuloLemmas
+pub mod OverflowLemmas
 pub mod PartLemmas
 pub mod PlaceLemmas
 pub mod RoundingLemmas

@@ -1,8 +1,8 @@
--- SMT-LIB 2.6, theory FixedSizeBitVectors and logic QF_BV: what the operators make of bit vectors. s and t
--- are numbers of m bits, unless another width is said; a number stands for its bits, or for an integer modulo
--- 2 ^ m.
-use Rattle.std.specs.Prelude.{ℕ, zero, suc, ◌+◌, ◌-◌, ◌*◌, ◌/◌, ◌%◌, ◌^◌, ℤ, pos, neg_ℤ, int_lt, int_div}
-use Rattle.std.specs.Prelude.{int_rem, Bool, ◌==◌, if◌then◌else◌}
+-- SMT-LIB 2.6, theory FixedSizeBitVectors and logic QF_BV: what the operators make of bit vectors, and whether it
+-- overflows (SMT-LIB 2.7). s and t are numbers of m bits, unless another width is said; a number stands for its bits,
+-- or for an integer modulo 2 ^ m.
+use Rattle.std.specs.Prelude.{ℕ, zero, suc, ◌+◌, ◌-◌, ◌*◌, ◌/◌, ◌%◌, ◌^◌, ℤ, pos, ◌+ℤ◌, ◌-ℤ◌, ◌*ℤ◌, neg_ℤ, int_le}
+use Rattle.std.specs.Prelude.{int_lt, int_div, int_rem, Bool, false, ◌||◌, ◌==◌, if◌then◌else◌}
 use Rattle.std.specs.Int.{bit_at, int_div_euclid, int_rem_euclid}
 use Rattle.smt_bits.specs.BitVector.{from_bits, is_negative, modulo, signed}
 
@@ -26,6 +26,39 @@ bvudiv m s t = if t == 0 then 2 ^ m - 1 else s / t
 
 abbrev pub bvurem : ℕ → ℕ → ℕ → ℕ
 bvurem m s t = if t == 0 then s else s % t
+
+-- ---- whether an exact result is no number of m bits, or no integer that m bits are, read as signed
+
+abbrev pub overflows : ℕ → ℤ → Bool
+overflows m z = int_lt z (pos 0) || int_le (pos (2 ^ m)) z
+
+abbrev pub overflows_signed : ℕ → ℤ → Bool
+overflows_signed m z = int_lt z (neg_ℤ (pos (2 ^ (m - 1)))) || int_le (pos (2 ^ (m - 1))) z
+
+abbrev pub bvuaddo : ℕ → ℕ → ℕ → Bool
+bvuaddo m s t = overflows m (pos s +ℤ pos t)
+
+abbrev pub bvusubo : ℕ → ℕ → ℕ → Bool
+bvusubo m s t = overflows m (pos s -ℤ pos t)
+
+abbrev pub bvumulo : ℕ → ℕ → ℕ → Bool
+bvumulo m s t = overflows m (pos s *ℤ pos t)
+
+abbrev pub bvnego : ℕ → ℕ → Bool
+bvnego m s = overflows_signed m (neg_ℤ (signed m s))
+
+abbrev pub bvsaddo : ℕ → ℕ → ℕ → Bool
+bvsaddo m s t = overflows_signed m (signed m s +ℤ signed m t)
+
+abbrev pub bvssubo : ℕ → ℕ → ℕ → Bool
+bvssubo m s t = overflows_signed m (signed m s -ℤ signed m t)
+
+abbrev pub bvsmulo : ℕ → ℕ → ℕ → Bool
+bvsmulo m s t = overflows_signed m (signed m s *ℤ signed m t)
+
+-- there is no quotient by 0; `int_div` rounds towards 0
+abbrev pub bvsdivo : ℕ → ℕ → ℕ → Bool
+bvsdivo m s t = if t == 0 then false else overflows_signed m (int_div (signed m s) (signed m t))
 
 -- ---- bit by bit
 

@@ -4,7 +4,7 @@ use Rattle.std.proofs.Common.{Option, Some, None, option_map, slice_get, refl, a
 use Rattle.std.proofs.lemmas.List.{length-map, map-append}
 use Rattle.std.proofs.lemmas.Option.{slice_get-map}
 use Rattle.std.specs.List.{list_all, list_any}
-use Rattle.std.specs.Prelude.{ℤ, fold, option_and_then, unwrap_or}
+use Rattle.std.specs.Prelude.{ℤ, pos, ◌^◌, fold, option_and_then, unwrap_or}
 use Rattle.smt_bits.specs.BitVector.{BitVector}
 use Rattle.smt_ratios.specs.Known.{known_decimal, known_negative}
 use Rattle.smt_ratios.specs.Rational as rational
@@ -23,10 +23,14 @@ use Rattle.smt_theory.specs.declared.op.Op.{Op}
 use Rattle.smt_theory.specs.declared.op.Op.TheVariants.{Core, Ints, Reals, Bits}
 use Rattle.smt_theory.specs.declared.op.RealsOp.{RealsOp}
 use Rattle.smt_theory.specs.declared.op.RealsOp.TheVariants as reals
-use Rattle.smt_values.specs.BitOperations.{unary_vector}
+use Rattle.smt_theory.specs.declared.op.BitsUnary.{BitsUnary}
+use Rattle.smt_theory.specs.declared.op.BitsUnary.TheVariants as unary
+use Rattle.smt_values.specs.BitOperations.{width_from_int}
+use Rattle.smt_values.specs.KnownOperations.{known_on_bits}
 use Rattle.smt_values.specs.Element.{Element, Truth, Integer, Fraction, Vector, Abstract}
 use Rattle.smt_values.specs.ElementNumbers.{numbered, numbered_in}
-use Rattle.smt_values.specs.KnownBitOperations.{known_bits, none_given, the_only, two_of_one_width}
+use Rattle.smt_values.specs.KnownBitOperations.{known_bits, known_bits_of_int, known_number as known_bits_number}
+use Rattle.smt_values.specs.KnownBitOperations.{known_of_one, none_given, the_only, two_of_one_width}
 use Rattle.smt_values.specs.KnownNumbers.{is_known_fraction, known_calculated, known_division, known_mixed}
 use Rattle.smt_values.specs.KnownNumbers.{known_number, known_reals}
 use Rattle.smt_values.specs.KnownOperations.{as_disjunction, decided, is_known, known_core, known_ints, known_integer}
@@ -246,11 +250,28 @@ module _ (g : Renaming) (injective : IsInjective g) where
   reals_under reals.IsInt (a ∷ []) = refl
   reals_under _ _ = refl
 
+  number_under : (v : BitVector) → under (known_bits_number v) ≡ known_bits_number v
+  number_under v = by (nat_lt v.number (2 ^ 127))
+    where
+      by : (b : Bool) → under (cond b (Some (Integer (pos v.number))) None) ≡ cond b (Some (Integer (pos v.number))) None
+      by true = refl
+      by false = refl
+
+  unary_under : (op : BitsUnary) (o : Option BitVector)
+      → under (option_and_then (known_of_one op) o) ≡ option_and_then (known_of_one op) o
+  unary_under op None = refl
+  unary_under unary.Not (Some v) = refl
+  unary_under unary.Negate (Some v) = refl
+  unary_under unary.NegateOverflows (Some v) = refl
+  unary_under unary.ToInt (Some v) = number_under v
+  unary_under unary.ToIntOlder (Some v) = number_under v
+  unary_under unary.SignedToInt (Some v) = refl
+
   bits_under : (op : BitsOp) (vs : List BitVector) → under (known_bits op vs) ≡ known_bits op vs
   bits_under (bits.Constant x n) vs = vectors_stay _ (none_given vs)
   bits_under bits.Concat vs = vectors_stay (λ v. v) _
   bits_under (bits.Extract i j) vs = vectors_stay (λ v. v) _
-  bits_under (bits.Unary op) vs = vectors_stay (unary_vector op) (the_only vs)
+  bits_under (bits.Unary op) vs = unary_under op (the_only vs)
   bits_under (bits.Folded op) vs = vectors_stay (λ v. v) _
   bits_under (bits.Binary op) vs = vectors_stay _ (two_of_one_width vs)
   bits_under (bits.Comparison op) vs = truths_stay _ (two_of_one_width vs)
@@ -260,6 +281,12 @@ module _ (g : Renaming) (injective : IsInjective g) where
   bits_under (bits.SignExtend i) vs = vectors_stay (λ v. v) _
   bits_under (bits.RotateLeft i) vs = vectors_stay _ (the_only vs)
   bits_under (bits.RotateRight i) vs = vectors_stay _ (the_only vs)
+  bits_under (bits.FromInt n) vs = refl
+  bits_under (bits.FromIntOlder n) vs = refl
+
+  bits_of_int_under : (n : ℕ) (zs : List ℤ) → under (known_bits_of_int n zs) ≡ known_bits_of_int n zs
+  bits_of_int_under n (z ∷ []) = refl
+  bits_of_int_under n _ = refl
 
   of_known : {A : Type 0} (f : List A → Option Element) → ((xs : List A) → under (f xs) ≡ f xs)
       → (o : Option (List A)) → option_and_then f o ≡ under (option_and_then f o)
@@ -285,9 +312,15 @@ module _ (g : Renaming) (injective : IsInjective g) where
   step_under (Reals op) vs =
       ap (λ os. option_and_then (known_reals op) (all_known os)) (maps_known known_number number_known vs)
       ∙ of_known (known_reals op) (reals_under op) (all_known (map known_number vs))
-  step_under (Bits op) vs =
-      ap (λ os. option_and_then (known_bits op) (all_known os)) (maps_known known_vector vector_known vs)
-      ∙ of_known (known_bits op) (bits_under op) (all_known (map known_vector vs))
+  step_under (Bits op) vs = by (width_from_int op)
+    where
+      by : (o : Option ℕ) → known_on_bits o op (map under vs) ≡ under (known_on_bits o op vs)
+      by (Some n) =
+          ap (λ os. option_and_then (known_bits_of_int n) (all_known os)) (maps_known known_integer integer_known vs)
+          ∙ of_known (known_bits_of_int n) (bits_of_int_under n) (all_known (map known_integer vs))
+      by None =
+          ap (λ os. option_and_then (known_bits op) (all_known os)) (maps_known known_vector vector_known vs)
+          ∙ of_known (known_bits op) (bits_under op) (all_known (map known_vector vs))
 
   -- ---- nodes
 

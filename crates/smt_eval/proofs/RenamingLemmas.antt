@@ -26,7 +26,9 @@ use Rattle.smt_theory.specs.declared.op.Op.{Op}
 use Rattle.smt_theory.specs.declared.op.Op.TheVariants.{Core, Ints, Reals, Bits}
 use Rattle.smt_theory.specs.declared.op.RealsOp.{RealsOp}
 use Rattle.smt_theory.specs.declared.op.RealsOp.TheVariants as reals
-use Rattle.smt_values.specs.BitOperations.{operate_bits}
+use Rattle.smt_theory.specs.declared.op.BitsUnary.TheVariants as unary
+use Rattle.smt_values.specs.BitOperations.{bits_of_int, operate_bits, width_from_int}
+use Rattle.smt_values.specs.Operations.{operate_on_bits}
 use Rattle.smt_values.specs.Element.{Element, Truth, Integer, Fraction, Vector, Abstract}
 use Rattle.smt_values.specs.Lists.{are_chained, are_distinct}
 use Rattle.smt_values.specs.Numbers.{Quotient, calculated, divided, element_of_number, is_fraction, number_of}
@@ -202,7 +204,12 @@ module _ (g : Renaming) (injective : IsInjective g) where
   bits_stay (bits.Constant x n) vs = refl
   bits_stay bits.Concat (s ∷ rest) = refl
   bits_stay (bits.Extract i j) (s ∷ []) = refl
-  bits_stay (bits.Unary op) (s ∷ []) = refl
+  bits_stay (bits.Unary unary.Not) (s ∷ []) = refl
+  bits_stay (bits.Unary unary.Negate) (s ∷ []) = refl
+  bits_stay (bits.Unary unary.NegateOverflows) (s ∷ []) = refl
+  bits_stay (bits.Unary unary.ToInt) (s ∷ []) = refl
+  bits_stay (bits.Unary unary.ToIntOlder) (s ∷ []) = refl
+  bits_stay (bits.Unary unary.SignedToInt) (s ∷ []) = refl
   bits_stay (bits.Folded op) (s ∷ rest) = refl
   bits_stay (bits.Binary op) (s ∷ t ∷ []) = refl
   bits_stay (bits.Comparison op) (s ∷ t ∷ []) = refl
@@ -213,6 +220,10 @@ module _ (g : Renaming) (injective : IsInjective g) where
   bits_stay (bits.RotateLeft i) (s ∷ []) = refl
   bits_stay (bits.RotateRight i) (s ∷ []) = refl
   bits_stay _ _ = refl
+
+  bits_of_int_stay : (n : ℕ) (zs : List ℤ) → renamed g (bits_of_int n zs) ≡ bits_of_int n zs
+  bits_of_int_stay n (z ∷ []) = refl
+  bits_of_int_stay n _ = refl
 
   result_renamed : (z : DivisionByZero) (op : Op) (es : List Element)
       → operate z op (all_renamed es) ≡ renamed g (operate z op es)
@@ -231,8 +242,11 @@ module _ (g : Renaming) (injective : IsInjective g) where
   result_renamed z (Reals op) es =
       ap (operate_reals z.ratios op) (kept number_of number_stays es)
       ∙ sym (reals_stay z.ratios op (map number_of es))
-  result_renamed z (Bits op) es =
-      ap (operate_bits op) (kept vector_of vector_stays es) ∙ sym (bits_stay op (map vector_of es))
+  result_renamed z (Bits op) es = by (width_from_int op)
+    where
+      by : (o : Option ℕ) → operate_on_bits o op (all_renamed es) ≡ renamed g (operate_on_bits o op es)
+      by (Some n) = ap (bits_of_int n) (kept integer_of integer_stays es) ∙ sym (bits_of_int_stay n (map integer_of es))
+      by None = ap (operate_bits op) (kept vector_of vector_stays es) ∙ sym (bits_stay op (map vector_of es))
 
   -- ---- elements that keep their names
 
@@ -408,7 +422,12 @@ module _ (names : List (List ℕ)) where
   bits_named (bits.Constant x n) vs = tt
   bits_named bits.Concat (s ∷ rest) = tt
   bits_named (bits.Extract i j) (s ∷ []) = tt
-  bits_named (bits.Unary op) (s ∷ []) = tt
+  bits_named (bits.Unary unary.Not) (s ∷ []) = tt
+  bits_named (bits.Unary unary.Negate) (s ∷ []) = tt
+  bits_named (bits.Unary unary.NegateOverflows) (s ∷ []) = tt
+  bits_named (bits.Unary unary.ToInt) (s ∷ []) = tt
+  bits_named (bits.Unary unary.ToIntOlder) (s ∷ []) = tt
+  bits_named (bits.Unary unary.SignedToInt) (s ∷ []) = tt
   bits_named (bits.Folded op) (s ∷ rest) = tt
   bits_named (bits.Binary op) (s ∷ t ∷ []) = tt
   bits_named (bits.Comparison op) (s ∷ t ∷ []) = tt
@@ -420,6 +439,10 @@ module _ (names : List (List ℕ)) where
   bits_named (bits.RotateRight i) (s ∷ []) = tt
   bits_named _ _ = tt
 
+  bits_of_int_named : (n : ℕ) (zs : List ℤ) → IsOfName (IsAmong names) (bits_of_int n zs)
+  bits_of_int_named n (z ∷ []) = tt
+  bits_of_int_named n _ = tt
+
   result_named : (z : DivisionByZero) (op : Op) (es : List Element)
       → AllRelated (λ d e. IsOfName (IsAmong names) e) es es → IsOfName (IsAmong names) (operate z op es)
   result_named z (Core op) es all = core_named op es all
@@ -430,7 +453,11 @@ module _ (names : List (List ℕ)) where
       by true = numbers_named op (map number_of es)
       by false = ints_named z op (map integer_of es)
   result_named z (Reals op) es all = reals_named z.ratios op (map number_of es)
-  result_named z (Bits op) es all = bits_named op (map vector_of es)
+  result_named z (Bits op) es all = by (width_from_int op)
+    where
+      by : (o : Option ℕ) → IsOfName (IsAmong names) (operate_on_bits o op es)
+      by (Some n) = bits_of_int_named n (map integer_of es)
+      by None = bits_named op (map vector_of es)
 
   named_kept : IsKept (IsAmong names) IsSameOf
   named_kept = record {

@@ -444,7 +444,7 @@ fn has_label(attributes: Trees<'_>) -> bool {
 }
 
 // The name and what comes after it of a binding or a parameter.
-fn named(tree: Tree<'_>) -> Option<(&[u8], Tree<'_>)> {
+pub(crate) fn named(tree: Tree<'_>) -> Option<(&[u8], Tree<'_>)> {
     let Tree::List(parts) = tree else {
         return None;
     };

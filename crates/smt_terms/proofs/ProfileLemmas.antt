@@ -2,14 +2,28 @@
 use Rattle.std.proofs.Common.{◌≡◌, ℕ, Bool, true, false, cond, not, ◌&&◌, ◌||◌, List, [], ◌∷◌, ◌++◌, map}
 use Rattle.std.proofs.Common.{Option, Some, None, is_some, Result, Ok, Err, refl, ap, sym, ◌∙◌, subst}
 use Rattle.std.specs.Option.{option_or}
-use Rattle.std.specs.Prelude.{bytes_eq, codes}
+use Rattle.std.specs.Prelude.{bytes_eq, codes, ok_or, option_map}
 use Rattle.smt_trees.specs.Sexp as sexp
 use Rattle.smt_trees.specs.Sexp.{Sexp, Sexps, Atom, Reserved, Items, Nil, Cons, Symbol, Keyword, Numeral}
 use Rattle.smt_trees.specs.Sexp.{Hexadecimal, Binary}
 use Rattle.smt_trees.specs.declared.reserved.Word.TheVariants.{As, Bang, Let, Underscore}
-use Rattle.smt_theory.specs.Operators.{is_plain_operator}
+use Rattle.std.proofs.lemmas.Slice.Eq.{bytes_eq-Decides}
+use Rattle.smt_theory.specs.Bits.{added_op, bits_named, constant_digits, conversion_plain, indexed_bits}
+use Rattle.smt_theory.specs.Bits.{indexed_constant, indexed_other, named_among, only_width, overflow_plain}
+use Rattle.smt_theory.specs.Core.{core_named}
+use Rattle.smt_theory.specs.Index.{IndexView}
+use Rattle.smt_theory.specs.Ints.{ints_named}
+use Rattle.smt_theory.specs.Operators.{has_ints_op, indexed_op, is_plain_operator, op_by, plain_op}
+use Rattle.smt_theory.specs.Reals.{has_reals_op, reals_named}
+use Rattle.smt_theory.specs.declared.op.BitsOp.{BitsOp}
+use Rattle.smt_theory.specs.declared.op.BitsOp.TheVariants.{FromInt, FromIntOlder}
+use Rattle.smt_theory.specs.declared.op.Op.{Op}
+use Rattle.smt_theory.specs.declared.op.Op.TheVariants.{Core, Ints, Reals, Bits}
+use Rattle.smt_theory.specs.declared.op.OpFault.{OpFault}
+use Rattle.smt_theory.specs.declared.op.OpFault.TheVariants as ops
+use Rattle.smt_theory.specs.declared.op.OpFault.TheVariants.{Index as WrongIndex}
 use Rattle.smt_theory.specs.Sort.{is_same_sort}
-use Rattle.smt_theory.specs.Words.{look_up, result_and_then}
+use Rattle.smt_theory.specs.Words.{if_passes, look_up, result_and_then}
 use Rattle.smt_theory.specs.Sort.{Sort, Boolean, Real}
 use Rattle.smt_theory.specs.declared.theories.Theories.{Theories}
 use Rattle.smt_forms.specs.Bindings.{are_attributes, are_bindings}
@@ -18,10 +32,11 @@ use Rattle.smt_forms.specs.ItemForm.{ItemForm}
 use Rattle.smt_forms.specs.Labels.{labels_among, labels_in, labels_in_bindings}
 use Rattle.smt_terms.specs.Elements.{ElementNames}
 use Rattle.smt_terms.specs.Checking.{bound_in, flaw_of_label, flaw_of_labels, sort_alone, sort_applied, sort_in}
-use Rattle.smt_terms.specs.Checking.{sort_of_call, sort_of_symbol, sort_unless_variable, sorts_in, unless}
+use Rattle.smt_terms.specs.Checking.{sort_of_call, sort_of_operator, sort_of_plain, sort_of_symbol, sort_unless_element}
+use Rattle.smt_terms.specs.Checking.{sort_unless_variable, sorts_in, unless}
+use Rattle.smt_terms.specs.Elements.{element_among}
 use Rattle.smt_terms.specs.Labels.{Labels, Refused, with_labels}
 use Rattle.smt_terms.specs.WellSorted.{KeepsElements}
-use Rattle.smt_theory.specs.Operators.{op_by}
 use Rattle.smt_terms.specs.Definitions.{definition, definition_in, parameters_named}
 use Rattle.smt_terms.specs.Freshness.{is_bound, is_element, is_element_name, is_taken_undeclared, item_elements, name_flaw}
 use Rattle.smt_terms.specs.Items.{form_in, has_rank_of, is_defined_in, item_in, items_before}
@@ -37,7 +52,7 @@ use Rattle.smt_faults.specs.declared.term_flaw.TermFlaw.TheVariants.{Unknown, Un
 use Rattle.smt_terms.proofs.CheckerLemmas.{Scope}
 use Rattle.smt_terms.proofs.ItemLemmas.{is_named, item_behind}
 use Rattle.smt_terms.proofs.ItemSortLemmas.{no_fault}
-use Rattle.smt_terms.proofs.KeptLemmas.{kept-element, kept-else, kept-qualified, kept-steps, kept-then, no_rank, unless-none}
+use Rattle.smt_terms.proofs.KeptLemmas.{kept-else, kept-qualified, kept-steps, kept-then, no_rank, unless-none}
 use Rattle.smt_terms.proofs.WrittenLemmas.{form_defined}
 use Rattle.smt_terms.proofs.RepeatedLemmas.{item_kept, taken_by}
 
@@ -48,11 +63,6 @@ wider names elements =
 
 abbrev wide_sorts : SortNames → SortNames
 wide_sorts names = record names { theories = record names.theories { wide = true } }
-
-same-steps : {A B : Type 0} (r s : Result A TermFlaw) (next more : A → Result B TermFlaw) → r ≡ s
-    → ((x : A) → next x ≡ more x) → result_and_then r next ≡ result_and_then s more
-same-steps (Ok x) s next more e h = h x ∙ ap (λ q. result_and_then q more) e
-same-steps (Err f) s next more e h = ap (λ q. result_and_then q more) e
 
 -- ## Sorts
 
@@ -112,52 +122,183 @@ refused-faults names elements scope term (x ∷ xs) refused =
     (refused-faults (behind ((x, term) ∷ []) names) elements scope term xs
     (refused-behind ((x, term) ∷ []) names.labels refused))
 
--- more elements change no sort of a symbol
-wide-symbol : (names : Names) (elements : Option ElementNames) → KeepsElements names.elements elements → (x : List ℕ)
+-- an operator that there is without the wide profile is there in it too
+or-kept : {A : Type 0} (first second more : Option A) (x : A) → (second ≡ Some x → more ≡ Some x)
+    → option_or first second ≡ Some x → option_or first more ≡ Some x
+or-kept None second more x kept h = kept h
+or-kept (Some y) second more x kept h = h
+
+added-kept : (theories : Theories) (x : List ℕ) (op : Op) → option_map Bits (added_op theories x) ≡ Some op
+    → option_map Bits (added_op (record theories { wide = true }) x) ≡ Some op
+added-kept theories x op h = by theories.wide h
+  where
+    found : Option BitsOp
+    found = option_or (named_among overflow_plain x) (cond theories.ints (named_among conversion_plain x) None)
+
+    by : (wide : Bool) → option_map Bits (cond (wide && theories.bits) found None) ≡ Some op
+        → option_map Bits (cond (true && theories.bits) found None) ≡ Some op
+    by true g = g
+    by false g = cc
+
+plain-kept : (theories : Theories) (x : List ℕ) (op : Op) → plain_op theories x ≡ Some op
+    → plain_op (record theories { wide = true }) x ≡ Some op
+plain-kept theories x op =
+    or-kept (option_map Core (core_named x)) _ _ op
+    (or-kept (option_map Ints (if_passes (has_ints_op theories) (ints_named x))) _ _ op
+    (or-kept (cond theories.bits (option_map Bits (bits_named x)) None) _ _ op
+    (or-kept (option_map Reals (if_passes (has_reals_op theories) (reals_named x))) _ _ op
+    (added-kept theories x op))))
+
+other-kept : (converts : Bool) (x : List ℕ) (indexes : List IndexView) (op : BitsOp)
+    → indexed_other false x indexes ≡ Ok op → indexed_other converts x indexes ≡ Ok op
+other-kept converts x indexes op h =
+    by (bytes_eq x (codes "int_to_bv")) (bytes_eq x (codes "int2bv")) (bytes_eq-Decides x (codes "int_to_bv")).0
+    (bytes_eq-Decides x (codes "int2bv")).0 h
+  where
+    constant : List ℕ → Result BitsOp OpFault
+    constant symbol = indexed_constant (constant_digits symbol) indexes
+
+    by : (a b : Bool) → (a ≡ true → x ≡ codes "int_to_bv") → (b ≡ true → x ≡ codes "int2bv")
+        → cond (a && false) (ok_or (option_map FromInt (only_width indexes)) WrongIndex)
+        (cond (b && false) (ok_or (option_map FromIntOlder (only_width indexes)) WrongIndex) (constant x)) ≡ Ok op
+        → cond (a && converts) (ok_or (option_map FromInt (only_width indexes)) WrongIndex)
+        (cond (b && converts) (ok_or (option_map FromIntOlder (only_width indexes)) WrongIndex) (constant x)) ≡ Ok op
+    by true true is so g = let e : constant (codes "int_to_bv") ≡ Ok op = ap constant (sym (is refl)) ∙ g in cc
+    by true false is so g = let e : constant (codes "int_to_bv") ≡ Ok op = ap constant (sym (is refl)) ∙ g in cc
+    by false true is so g = let e : constant (codes "int2bv") ≡ Ok op = ap constant (sym (so refl)) ∙ g in cc
+    by false false is so g = g
+
+else-kept : {A F : Type 0} (b : Bool) (first second more : Result A F) (x : A) → (second ≡ Ok x → more ≡ Ok x)
+    → cond b first second ≡ Ok x → cond b first more ≡ Ok x
+else-kept true first second more x kept h = h
+else-kept false first second more x kept h = kept h
+
+bits-kept : (converts : Bool) (x : List ℕ) (indexes : List IndexView) (op : BitsOp)
+    → indexed_bits false x indexes ≡ Ok op → indexed_bits converts x indexes ≡ Ok op
+bits-kept converts x indexes op =
+    else-kept (bytes_eq x (codes "extract")) _ _ _ op
+    (else-kept (bytes_eq x (codes "repeat")) _ _ _ op
+    (else-kept (bytes_eq x (codes "zero_extend")) _ _ _ op
+    (else-kept (bytes_eq x (codes "sign_extend")) _ _ _ op
+    (else-kept (bytes_eq x (codes "rotate_left")) _ _ _ op
+    (else-kept (bytes_eq x (codes "rotate_right")) _ _ _ op
+    (other-kept converts x indexes op))))))
+
+mapped-kept : (first more : Result BitsOp OpFault) (op : Op) → ((o : BitsOp) → first ≡ Ok o → more ≡ Ok o)
+    → result_and_then first (λ o. Ok (Bits o)) ≡ Ok op → result_and_then more (λ o. Ok (Bits o)) ≡ Ok op
+mapped-kept (Ok o) more op kept h = ap (λ r. result_and_then r (λ o. Ok (Bits o))) (kept o refl) ∙ h
+mapped-kept (Err fault) more op kept h = cc
+
+indexed-kept : (theories : Theories) (x : List ℕ) (indexes : List IndexView) (op : Op)
+    → indexed_op theories x indexes ≡ Ok op → indexed_op (record theories { wide = true }) x indexes ≡ Ok op
+indexed-kept theories x indexes op =
+    else-kept (theories.ints && bytes_eq x (codes "divisible")) _ _ _ op
+    (then-kept theories.bits _ _ (Err ops.Unknown) op (by theories.wide))
+  where
+    then-kept : (b : Bool) (first more second : Result Op OpFault) (x : Op) → (first ≡ Ok x → more ≡ Ok x)
+        → cond b first second ≡ Ok x → cond b more second ≡ Ok x
+    then-kept true first more second x kept h = kept h
+    then-kept false first more second x kept h = h
+
+    by : (wide : Bool) → result_and_then (indexed_bits ((wide && theories.bits) && theories.ints) x indexes)
+        (λ o. Ok (Bits o)) ≡ Ok op
+        → result_and_then (indexed_bits ((true && theories.bits) && theories.ints) x indexes) (λ o. Ok (Bits o)) ≡ Ok op
+    by true h = h
+    by false h = mapped-kept (indexed_bits false x indexes) _ op
+        (bits-kept ((true && theories.bits) && theories.ints) x indexes) h
+
+-- an operator of a name, with or without indexes, is the same in the wide profile
+abbrev AreKept : Result Op OpFault → Result Op OpFault → Type 0
+AreKept first more = (op : Op) → first ≡ Ok op → more ≡ Ok op
+
+operators-kept : (theories : Theories) (x : List ℕ) (indexes : List IndexView)
+    → AreKept (op_by theories x indexes) (op_by (record theories { wide = true }) x indexes)
+operators-kept theories x [] op h =
+    by (plain_op theories x) (λ o is. plain-kept theories x o is) h
+  where
+    by : (o : Option Op) → ((p : Op) → o ≡ Some p → plain_op (record theories { wide = true }) x ≡ Some p)
+        → ok_or o ops.Unknown ≡ Ok op → ok_or (plain_op (record theories { wide = true }) x) ops.Unknown ≡ Ok op
+    by None kept g = cc
+    by (Some p) kept g = ap (λ o. ok_or o ops.Unknown) (kept p refl) ∙ g
+operators-kept theories x (i ∷ indexes) op h = indexed-kept theories x (i ∷ indexes) op h
+
+operator-kept : (first more : Result Op OpFault) (args : List Sort) (sort : Sort) → AreKept first more
+    → sort_of_operator first args ≡ Ok sort → sort_of_operator more args ≡ Ok sort
+operator-kept (Ok op) more args sort kept h = ap (λ r. sort_of_operator r args) (kept op refl) ∙ h
+operator-kept (Err ops.Unknown) more args sort kept h = cc
+operator-kept (Err ops.Index) more args sort kept h = cc
+
+alone-kept : (o : Option Sort) (first more : Result Op OpFault) (sort : Sort) → AreKept first more
+    → sort_of_operator first [] ≡ Ok sort → sort_unless_element o more ≡ Ok sort
+alone-kept o (Ok op) more sort kept h = ap (sort_unless_element o) (kept op refl) ∙ by o
+  where
+    by : (o : Option Sort) → sort_unless_element o (Ok op) ≡ Ok sort
+    by None = h
+    by (Some s) = h
+alone-kept o (Err ops.Unknown) more sort kept h = cc
+alone-kept o (Err ops.Index) more sort kept h = cc
+
+-- elements, where there were none, change no sort of a symbol
+wide-symbol : (names : Names) (elements : Option ElementNames) → names.elements ≡ None → (x : List ℕ)
     (o : Option Sort) (r : Option Rank) (sort : Sort) → look_up names.ranks x ≡ r
     → sort_of_symbol names x o ≡ Ok sort → sort_of_symbol (wider names elements) x o ≡ Ok sort
-wide-symbol names elements keeps x (Some s) r sort is h = h
-wide-symbol names elements keeps x None (Some rank) sort is h =
+wide-symbol names elements none x (Some s) r sort is h = h
+wide-symbol names elements none x None (Some rank) sort is h =
     ap (λ q. sort_alone (wider names elements) x q) is ∙ sym (ap (λ q. sort_alone names x q) is) ∙ h
-wide-symbol names elements keeps x None None sort is h =
+wide-symbol names elements none x None None sort is h =
     ap (λ q. sort_alone (wider names elements) x q) is
-    ∙ kept-element names.elements elements x (op_by names.theories x []) sort keeps
-    (sym (ap (λ q. sort_alone names x q) is) ∙ h)
+    ∙ alone-kept (element_among elements x) (op_by names.theories x []) _ sort (operators-kept names.theories x [])
+    (sym (ap (λ es. sort_unless_element (element_among es x) (op_by names.theories x [])) none)
+    ∙ sym (ap (λ q. sort_alone names x q) is) ∙ h)
 
-same-applied : (names : Names) (elements : Option ElementNames) (f : Identifier) (args : List Sort)
-    → sort_applied (wider names elements) f args ≡ sort_applied names f args
-same-applied names elements (Plain f) args = refl
-same-applied names elements (Indexed f indexes) args = refl
+wide-applied : (names : Names) (elements : Option ElementNames) (f : Identifier) (args : List Sort) (sort : Sort)
+    → sort_applied names f args ≡ Ok sort → sort_applied (wider names elements) f args ≡ Ok sort
+wide-applied names elements (Plain f) args sort h = by (look_up names.ranks f) h
+  where
+    by : (o : Option Rank) → sort_of_plain names f o args ≡ Ok sort
+        → sort_of_plain (wider names elements) f o args ≡ Ok sort
+    by None g = operator-kept (op_by names.theories f []) _ args sort (operators-kept names.theories f []) g
+    by (Some rank) g = g
+wide-applied names elements (Indexed f indexes) args sort h =
+    operator-kept (op_by names.theories f indexes) _ args sort (operators-kept names.theories f indexes) h
 
-same-call : (names : Names) (elements : Option ElementNames) (scope : Scope) (f : Identifier) (args : List Sort)
-    → sort_of_call (wider names elements) scope f args ≡ sort_of_call names scope f args
-same-call names elements scope (Plain f) args =
-    ap (sort_unless_variable (look_up scope f)) (same-applied names elements (Plain f) args)
-same-call names elements scope (Indexed f indexes) args = same-applied names elements (Indexed f indexes) args
+wide-call : (names : Names) (elements : Option ElementNames) (scope : Scope) (f : Identifier) (args : List Sort)
+    (sort : Sort) → sort_of_call names scope f args ≡ Ok sort
+    → sort_of_call (wider names elements) scope f args ≡ Ok sort
+wide-call names elements scope (Plain f) args sort h = by (look_up scope f) h
+  where
+    by : (o : Option Sort) → sort_unless_variable o (sort_applied names (Plain f) args) ≡ Ok sort
+        → sort_unless_variable o (sort_applied (wider names elements) (Plain f) args) ≡ Ok sort
+    by None g = wide-applied names elements (Plain f) args sort g
+    by (Some s) g = g
+wide-call names elements scope (Indexed f indexes) args sort h =
+    wide-applied names elements (Indexed f indexes) args sort h
 
 -- a term keeps its sort where no label may be given
 mutual
-  wide-sort : (names : Names) (elements : Option ElementNames) → KeepsElements names.elements elements
+  wide-sort : (names : Names) (elements : Option ElementNames) → names.elements ≡ None
       → names.labels ≡ Refused → (scope : Scope) (t : Sexp) (sort : Sort)
       → sort_in names scope t ≡ Ok sort → sort_in (wider names elements) scope t ≡ Ok sort
-  wide-sort names elements keeps refused scope (Atom Symbol x) sort h =
-      wide-symbol names elements keeps x (look_up scope x) (look_up names.ranks x) sort refl h
-  wide-sort names elements keeps refused scope (Atom Numeral x) sort h = h
-  wide-sort names elements keeps refused scope (Atom Hexadecimal x) sort h = h
-  wide-sort names elements keeps refused scope (Atom Binary x) sort h = h
-  wide-sort names elements keeps refused scope (Atom sexp.Decimal x) sort h =
+  wide-sort names elements none refused scope (Atom Symbol x) sort h =
+      wide-symbol names elements none x (look_up scope x) (look_up names.ranks x) sort refl h
+  wide-sort names elements none refused scope (Atom Numeral x) sort h = h
+  wide-sort names elements none refused scope (Atom Hexadecimal x) sort h = h
+  wide-sort names elements none refused scope (Atom Binary x) sort h = h
+  wide-sort names elements none refused scope (Atom sexp.Decimal x) sort h =
       wide-reals names.theories names.theories.reals sort h
-  wide-sort names elements keeps refused scope (Atom sexp.Text x) sort h = cc
-  wide-sort names elements keeps refused scope (Atom Keyword x) sort h = cc
-  wide-sort names elements keeps refused scope (Reserved word) sort h = cc
-  wide-sort names elements keeps refused scope (Items Nil) sort h = cc
-  wide-sort names elements keeps refused scope (Items (Cons (Reserved Underscore) parts)) sort h =
-      same-steps (indexed parts) (indexed parts) (λ f. sort_applied (wider names elements) f [])
-      (λ f. sort_applied names f []) refl (λ f. same-applied names elements f []) ∙ h
-  wide-sort names elements keeps refused scope (Items (Cons (Reserved As) parts)) sort h =
-      kept-qualified names.elements elements names.ranks names.ranks parts sort keeps
+  wide-sort names elements none refused scope (Atom sexp.Text x) sort h = cc
+  wide-sort names elements none refused scope (Atom Keyword x) sort h = cc
+  wide-sort names elements none refused scope (Reserved word) sort h = cc
+  wide-sort names elements none refused scope (Items Nil) sort h = cc
+  wide-sort names elements none refused scope (Items (Cons (Reserved Underscore) parts)) sort h =
+      kept-steps (indexed parts) (indexed parts) (λ f. sort_applied names f [])
+      (λ f. sort_applied (wider names elements) f []) sort (λ f is. is)
+      (λ f i. wide-applied names elements f [] sort i) h
+  wide-sort names elements none refused scope (Items (Cons (Reserved As) parts)) sort h =
+      kept-qualified names.elements elements names.ranks names.ranks parts sort
+      (subst (λ e. KeepsElements e elements) (sym none) tt)
       (λ x rank none some. absurd (no_rank (look_up names.ranks x) rank none some)) h
-  wide-sort names elements keeps refused scope
+  wide-sort names elements none refused scope
       (Items (Cons (Reserved Let) (Cons (Items bindings) (Cons body Nil)))) sort h =
       let ls = labels_in_bindings bindings in
       kept-then (are_bindings bindings)
@@ -168,11 +309,11 @@ mutual
       (kept-steps (bound_in names scope [] bindings) (bound_in (wider names elements) scope [] bindings)
       (λ bound. sort_in (behind ls names) (bound ++ scope) body)
       (λ bound. sort_in (behind ls (wider names elements)) (bound ++ scope) body) sort
-      (wide-bound names elements keeps refused scope [] bindings)
-      (λ bound. wide-sort (behind ls names) elements keeps (refused-behind ls names.labels refused)
+      (wide-bound names elements none refused scope [] bindings)
+      (λ bound. wide-sort (behind ls names) elements none (refused-behind ls names.labels refused)
       (bound ++ scope) body sort)) h
-  wide-sort names elements keeps refused scope (Items (Cons (Reserved Let) args)) sort h = cc
-  wide-sort names elements keeps refused scope (Items (Cons (Reserved Bang) (Cons term attributes))) sort h =
+  wide-sort names elements none refused scope (Items (Cons (Reserved Let) args)) sort h = cc
+  wide-sort names elements none refused scope (Items (Cons (Reserved Bang) (Cons term attributes))) sort h =
       let ls = labels_in term in
       let xs = labels_among attributes in
       kept-then (are_attributes attributes)
@@ -183,11 +324,11 @@ mutual
       (kept-steps (sort_in names scope term) (sort_in (wider names elements) scope term)
       (λ s. unless (flaw_of_labels (behind ls names) scope term xs) (Ok s))
       (λ s. unless (flaw_of_labels (behind ls (wider names elements)) scope term xs) (Ok s)) sort
-      (wide-sort names elements keeps refused scope term)
+      (wide-sort names elements none refused scope term)
       (λ s i. ap (λ o. unless o (Ok s))
       (refused-faults (behind ls names) elements scope term xs (refused-behind ls names.labels refused)) ∙ i)) h
-  wide-sort names elements keeps refused scope (Items (Cons (Reserved Bang) args)) sort h = cc
-  wide-sort names elements keeps refused scope (Items (Cons head args)) sort h =
+  wide-sort names elements none refused scope (Items (Cons (Reserved Bang) args)) sort h = cc
+  wide-sort names elements none refused scope (Items (Cons head args)) sort h =
       kept-steps (applied head args) (applied head args)
       (λ f. result_and_then (sorts_in names scope args) (λ ss. sort_of_call names scope f ss))
       (λ f. result_and_then (sorts_in (wider names elements) scope args)
@@ -195,29 +336,29 @@ mutual
       (λ f is. is)
       (λ f. kept-steps (sorts_in names scope args) (sorts_in (wider names elements) scope args)
       (λ ss. sort_of_call names scope f ss) (λ ss. sort_of_call (wider names elements) scope f ss) sort
-      (wide-sorts names elements keeps refused scope args)
-      (λ ss i. same-call names elements scope f ss ∙ i)) h
+      (wide-sorts names elements none refused scope args)
+      (λ ss i. wide-call names elements scope f ss sort i)) h
 
-  wide-sorts : (names : Names) (elements : Option ElementNames) → KeepsElements names.elements elements
+  wide-sorts : (names : Names) (elements : Option ElementNames) → names.elements ≡ None
       → names.labels ≡ Refused → (scope : Scope) (ts : Sexps) (sorts : List Sort)
       → sorts_in names scope ts ≡ Ok sorts → sorts_in (wider names elements) scope ts ≡ Ok sorts
-  wide-sorts names elements keeps refused scope Nil sorts h = h
-  wide-sorts names elements keeps refused scope (Cons x xs) sorts h =
+  wide-sorts names elements none refused scope Nil sorts h = h
+  wide-sorts names elements none refused scope (Cons x xs) sorts h =
       let ls = labels_in x in
       kept-steps (sort_in names scope x) (sort_in (wider names elements) scope x)
       (λ s. result_and_then (sorts_in (behind ls names) scope xs) (λ ss. Ok (s ∷ ss)))
       (λ s. result_and_then (sorts_in (behind ls (wider names elements)) scope xs) (λ ss. Ok (s ∷ ss))) sorts
-      (wide-sort names elements keeps refused scope x)
+      (wide-sort names elements none refused scope x)
       (λ s. kept-steps (sorts_in (behind ls names) scope xs) (sorts_in (behind ls (wider names elements)) scope xs)
       (λ ss. Ok (s ∷ ss)) (λ ss. Ok (s ∷ ss)) sorts
-      (wide-sorts (behind ls names) elements keeps (refused-behind ls names.labels refused) scope xs)
+      (wide-sorts (behind ls names) elements none (refused-behind ls names.labels refused) scope xs)
       (λ ss i. i)) h
 
-  wide-bound : (names : Names) (elements : Option ElementNames) → KeepsElements names.elements elements
+  wide-bound : (names : Names) (elements : Option ElementNames) → names.elements ≡ None
       → names.labels ≡ Refused → (scope bound : Scope) (bs : Sexps) (vs : Scope)
       → bound_in names scope bound bs ≡ Ok vs → bound_in (wider names elements) scope bound bs ≡ Ok vs
-  wide-bound names elements keeps refused scope bound Nil vs h = h
-  wide-bound names elements keeps refused scope bound
+  wide-bound names elements none refused scope bound Nil vs h = h
+  wide-bound names elements none refused scope bound
       (Cons (Items (Cons (Atom Symbol x) (Cons term Nil))) rest) vs h =
       let ls = labels_in term in
       kept-else (is_bound bound x)
@@ -228,10 +369,10 @@ mutual
       (kept-steps (sort_in names scope term) (sort_in (wider names elements) scope term)
       (λ s. bound_in (behind ls names) scope (bound ++ (x, s) ∷ []) rest)
       (λ s. bound_in (behind ls (wider names elements)) scope (bound ++ (x, s) ∷ []) rest) vs
-      (wide-sort names elements keeps refused scope term)
-      (λ s. wide-bound (behind ls names) elements keeps (refused-behind ls names.labels refused) scope
+      (wide-sort names elements none refused scope term)
+      (λ s. wide-bound (behind ls names) elements none (refused-behind ls names.labels refused) scope
       (bound ++ (x, s) ∷ []) rest vs)) h
-  wide-bound names elements keeps refused scope bound _ vs h = cc
+  wide-bound names elements none refused scope bound _ vs h = cc
 
 -- ## Items
 
@@ -251,28 +392,35 @@ wide-parameters sorts earlier (p ∷ ps) qs h =
 
 -- a definition stays where elements may be named
 wide-definition : (names : Names) (elements : Option ElementNames) (x : List ℕ) (ps : Scope) (sort : Sort) (body : Sexp)
-    (e : Entry) → KeepsElements names.elements elements → names.labels ≡ Refused
+    (e : Entry) → names.elements ≡ None → names.labels ≡ Refused
     → definition_in names x ps sort body ≡ Ok e → definition_in (wider names elements) x ps sort body ≡ Ok e
-wide-definition names elements x ps sort body e keeps refused =
+wide-definition names elements x ps sort body e none refused =
     kept-steps (sort_in names ps body) (sort_in (wider names elements) ps body)
     (λ found. cond (is_same_sort found sort) (Ok (definition x ps sort body)) (Err IllSorted))
     (λ found. cond (is_same_sort found sort) (Ok (definition x ps sort body)) (Err IllSorted)) e
-    (wide-sort names elements keeps refused ps body) (λ found h. h)
+    (wide-sort names elements none refused ps body) (λ found h. h)
 
--- no element's name comes where the profile is not the wide one
-none_lent : (script : Signature) (more : Option ElementNames) → script.theories.wide ≡ false
-    → KeepsElements (item_elements script) more
-none_lent script more narrow =
-    subst (λ b. KeepsElements (cond b (Some (record {
+-- terms name no elements where the profile is not the wide one
+none_named : (script : Signature) → script.theories.wide ≡ false → item_elements script ≡ None
+none_named script narrow =
+    ap (λ b. cond b (Some (record {
       sorts = sort_names_of script;
       taken = map (λ (e : Entry). e.name) script.entries;
-    })) None) more) (sym narrow) tt
+    })) None) narrow
+
+-- a name that may be an item's stays so where it is no operator's
+taken-kept : (d k l p q : Bool) → q ≡ false → (not d && ((k || l) || p)) ≡ false
+    → (not d && ((k || l) || q)) ≡ false
+taken-kept true k l p q e h = refl
+taken-kept false true l p q e h = cc
+taken-kept false false true p q e h = cc
+taken-kept false false false p q e h = e
 
 -- what an item of these parts defines
 wide-form : (script : Signature) (earlier : List Entry) (form : ItemForm) (e : Entry)
     → script.theories.wide ≡ false → is_element_name (widened script) form.name ≡ false
-    → form_in script earlier form ≡ Ok e → form_in (widened script) earlier form ≡ Ok e
-wide-form script earlier form e narrow apart h =
+    → is_plain_operator (widened script).theories form.name ≡ false → form_in script earlier form ≡ Ok e → form_in (widened script) earlier form ≡ Ok e
+wide-form script earlier form e narrow apart new h =
     let names = names_of (items_before script earlier) in
     let wide = names_of (items_before (widened script) earlier) in
     let fits = λ (ps : Scope) (s : Sort). has_rank_of (declared_named script.entries form.name)
@@ -281,9 +429,12 @@ wide-form script earlier form e narrow apart h =
     let fit = no_fault script earlier form.name n.0 in
     let flaw : name_flaw (widened script) earlier form.name ≡ None =
     ap (λ o. cond (is_some o) (Some BoundTwice)
-    (cond (is_element_name (widened script) form.name || is_taken_undeclared script form.name) (Some NotFresh) None)) fit.0
-    ∙ ap (λ b. cond (b || is_taken_undeclared script form.name) (Some NotFresh) None) apart
-    ∙ ap (λ b. cond b (Some NotFresh) None) fit.1 in
+    (cond (is_element_name (widened script) form.name || is_taken_undeclared (widened script) form.name)
+    (Some NotFresh) None)) fit.0
+    ∙ ap (λ b. cond (b || is_taken_undeclared (widened script) form.name) (Some NotFresh) None) apart
+    ∙ ap (λ b. cond b (Some NotFresh) None) (taken-kept (is_some (declared_named script.entries form.name))
+    (is_element (names_of script) form.name) (is_some (look_up (ranks_of script.entries) form.name))
+    (is_plain_operator script.theories form.name) (is_plain_operator (widened script).theories form.name) new fit.1) in
     ap (λ o. unless o (item_behind (widened script) earlier form)) flaw
     ∙ kept-steps (parameters_named (sort_names_of script) [] form.parameters)
     (parameters_named (sort_names_of (widened script)) [] form.parameters)
@@ -300,7 +451,7 @@ wide-form script earlier form e narrow apart h =
     (λ s. kept-else (not (fits ps s)) (definition_in names form.name ps s form.body)
     (definition_in wide form.name ps s form.body) IllSorted e
     (wide-definition names (item_elements (widened script)) form.name ps s form.body e
-    (none_lent script (item_elements (widened script)) narrow) refl))) n.1
+    (none_named script narrow) refl))) n.1
 
 -- a name that is fit for an item is no definition's
 undefined : (n d k l p : Bool) → n ≡ l → (not d && ((k || l) || p)) ≡ false → (n && not d) ≡ false
@@ -325,8 +476,9 @@ already_wide script is = λ i. record script { theories = record script.theories
 
 pub same_item : (script : Signature) (earlier : List Entry) (tree : Sexp) (e : Entry)
     → item_in script earlier tree ≡ Ok (Some e) → is_element_name (widened script) e.name ≡ false
+    → is_plain_operator (widened script).theories e.name ≡ false
     → item_in (widened script) earlier tree ≡ Ok (Some e)
-same_item script earlier tree e h apart = by script.theories.wide refl
+same_item script earlier tree e h apart new = by script.theories.wide refl
   where
     by : (b : Bool) → script.theories.wide ≡ b → item_in (widened script) earlier tree ≡ Ok (Some e)
     by true is = ap (λ s. item_in s earlier tree) (already_wide script is) ∙ h
@@ -336,4 +488,5 @@ same_item script earlier tree e h apart = by script.theories.wide refl
         (ap (λ b. b && not (is_element_name (widened script) t.0.name)) (not_defined script earlier t.0 e t.2))
         ∙ ap (λ r. result_and_then r (λ d. Ok (Some d)))
         (wide-form script earlier t.0 e is
-        (ap (is_element_name (widened script)) (sym (form_defined script earlier t.0 e t.2).name) ∙ apart) t.2)
+        (ap (is_element_name (widened script)) (sym (form_defined script earlier t.0 e t.2).name) ∙ apart)
+        (ap (is_plain_operator (widened script).theories) (sym (form_defined script earlier t.0 e t.2).name) ∙ new) t.2)

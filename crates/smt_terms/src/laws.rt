@@ -26,6 +26,7 @@ ghost use Rattle.smt_terms.specs.Signature.{Entry, KeepsRank, Names, Signature, 
 ghost use Rattle.smt_terms.specs.Signature.{names_of, no_names, sort_names_of};
 ghost use Rattle.smt_terms.specs.TermsOf.{AreTermsOf};
 ghost use Rattle.smt_terms.specs.Freshness.{is_element_name, is_taken, item_elements};
+ghost use Rattle.smt_theory.specs.Operators.{is_plain_operator};
 ghost use Rattle.smt_terms.specs.WellSorted.{AreIntroduced, IsWellSorted, Keeps};
 ghost use Rattle.smt_terms.specs.Written.{AreLabelsOf, IsDeclaredAs, IsDefinedAs, IsPrintedAs};
 ghost use Rattle.smt_terms.specs.declared.library.Library.{Library};
@@ -76,10 +77,11 @@ pub fn repeated_items_are_set_aside()
 }
 
 /// An item that defines a name without the wide profile defines the same in the wide profile, unless its name has there
-/// the form of those of elements of a declared sort.
+/// the form of those of elements of a declared sort, or is that of an operator.
 pub fn items_are_the_same_in_the_wide_profile()
     ensures { (script : Signature) (earlier : List Entry) (tree : Sexp) (e : Entry)
         → item_in script earlier tree ≡ Ok (Some e) → is_element_name (widened script) e.name ≡ false
+        → is_plain_operator (widened script).theories e.name ≡ false
         → item_in (widened script) earlier tree ≡ Ok (Some e) }
 {}
 

@@ -1,12 +1,12 @@
 -- Why no operator is found: none has the name, or none with that name has the indexes.
 use Rattle.std.proofs.Common.{◌≡◌, ◌≢◌, ◌⊎◌, inl, inr, ℕ, ◌++◌, Bool, true, false, cond, ◌&&◌, ◌||◌, List, [], ◌∷◌}
-use Rattle.std.proofs.Common.{Option, Some, None, Result, Ok, Err, refl, sym, ap}
-use Rattle.std.specs.Prelude.{IsTrue, bytes_eq, codes, ok_or}
+use Rattle.std.proofs.Common.{Option, Some, None, Result, Ok, Err, refl, sym, ap, subst}
+use Rattle.std.specs.Prelude.{IsTrue, bytes_eq, codes, ok_or, option_map}
 use Rattle.std.proofs.lemmas.Slice.Eq.{bytes_eq-Decides}
-use Rattle.smt_theory.proofs.BitsOperatorLemmas.{constant_digits-own}
+use Rattle.smt_theory.proofs.BitsOperatorLemmas.{constant_digits-own, conversions_of}
 use Rattle.smt_theory.proofs.OperatorLemmas.{op_by-name, op_by-own}
 use Rattle.smt_theory.specs.Bits.{AreInRange, bits_indexes, constant_by, constant_digits, extract_by}
-use Rattle.smt_theory.specs.Bits.{indexed_bits, indexed_constant, repeat_by}
+use Rattle.smt_theory.specs.Bits.{has_bits_op, has_conversions, indexed_bits, indexed_constant, only_width, repeat_by}
 use Rattle.smt_theory.specs.Index.{IndexView}
 use Rattle.smt_theory.specs.Numbers.{is_numeral}
 use Rattle.smt_theory.specs.Operators.{IsIndexedName, IsNameOf, IsOfTheories, IsOperatorBy, IsOperatorOf}
@@ -17,6 +17,7 @@ use Rattle.smt_theory.specs.declared.op.BitsOp.{BitsOp}
 use Rattle.smt_theory.specs.declared.op.BitsOp.TheVariants.{Constant, Concat, Extract, Unary, Folded, Binary}
 use Rattle.smt_theory.specs.declared.op.BitsOp.TheVariants.{Comparison as BitsComparison, Comp, Repeat}
 use Rattle.smt_theory.specs.declared.op.BitsOp.TheVariants.{ZeroExtend, SignExtend, RotateLeft, RotateRight}
+use Rattle.smt_theory.specs.declared.op.BitsOp.TheVariants.{FromInt, FromIntOlder}
 use Rattle.smt_theory.specs.declared.op.IntsOp.TheVariants.{Arithmetic, Comparison, Mod, Abs, Divisible}
 use Rattle.smt_theory.specs.declared.op.Op.{Op}
 use Rattle.smt_theory.specs.declared.op.Op.TheVariants.{Core, Ints, Reals, Bits}
@@ -49,6 +50,8 @@ plain_in_range (ZeroExtend i) e = tt
 plain_in_range (SignExtend i) e = tt
 plain_in_range (RotateLeft i) e = tt
 plain_in_range (RotateRight i) e = tt
+plain_in_range (FromInt n) e = cc
+plain_in_range (FromIntOlder n) e = cc
 
 plain_of : (theories : Theories) (op : Op) → IsOfTheories theories op → indexes_of op ≡ []
     → IsOperatorOf theories op
@@ -97,16 +100,25 @@ bits_made (Some op) = (Some (Bits op), refl)
 -- by the name of an operator on bit vectors
 bits_by : (theories : Theories) (symbol : List ℕ) (found : Option BitsOp) (indexes : List IndexView)
     → IsTrue theories.bits → bytes_eq symbol (codes "divisible") ≡ false
-    → indexed_bits symbol indexes ≡ ok_or found WrongIndex → Made (indexed_op theories symbol indexes)
-bits_by theories symbol found indexes here other is = rw (other, here, is) (by theories.ints)
+    → indexed_bits (has_conversions theories) symbol indexes ≡ ok_or found WrongIndex
+    → Made (indexed_op theories symbol indexes)
+bits_by theories symbol found indexes here other is = rw (is, other, here) (by theories.ints)
   where
     by : (b : Bool) → Made (cond (b && false) (ok_or (divisible_by indexes) WrongIndex)
         (result_and_then (ok_or found WrongIndex) (λ op. Ok (Bits op))))
     by true = bits_made found
     by false = bits_made found
 
+-- by the name of one that makes a bit vector of an integer
+converted_made : (theories : Theories) (symbol : List ℕ) (found : Option BitsOp) (indexes : List IndexView)
+    → IsTrue (has_conversions theories) → bytes_eq symbol (codes "divisible") ≡ false
+    → indexed_bits true symbol indexes ≡ ok_or found WrongIndex → Made (indexed_op theories symbol indexes)
+converted_made theories symbol found indexes here other is =
+    bits_by theories symbol found indexes (conversions_of theories here).1 other
+    (subst (λ c. indexed_bits c symbol indexes ≡ ok_or found WrongIndex) (sym here) is)
+
 bits_named_made : (theories : Theories) (symbol : List ℕ) (op : BitsOp) (indexes : List IndexView)
-    → IsTrue theories.bits → IsNameOf (Bits op) symbol → bits_indexes op ≢ []
+    → IsTrue (has_bits_op theories op) → IsNameOf (Bits op) symbol → bits_indexes op ≢ []
     → Made (indexed_op theories symbol indexes)
 bits_named_made theories symbol (Constant number width) indexes here h some =
     rw h.1 (bits_by theories (codes "bv" ++ h.0) (constant_by h.0 indexes) indexes here refl (rw h.2 refl))
@@ -122,6 +134,10 @@ bits_named_made theories symbol (RotateLeft i) indexes here h some =
     rw h (bits_by theories (codes "rotate_left") _ indexes here refl refl)
 bits_named_made theories symbol (RotateRight i) indexes here h some =
     rw h (bits_by theories (codes "rotate_right") _ indexes here refl refl)
+bits_named_made theories symbol (FromInt n) indexes here h some = rw h (converted_made theories (codes "int_to_bv")
+    (option_map FromInt (only_width indexes)) indexes here refl refl)
+bits_named_made theories symbol (FromIntOlder n) indexes here h some = rw h (converted_made theories (codes "int2bv")
+    (option_map FromIntOlder (only_width indexes)) indexes here refl refl)
 bits_named_made theories symbol Concat indexes here h some = absurd (some refl)
 bits_named_made theories symbol (Unary op) indexes here h some = absurd (some refl)
 bits_named_made theories symbol (Folded op) indexes here h some = absurd (some refl)
@@ -160,25 +176,43 @@ abbrev IsTold : Theories → List ℕ → Result Op OpFault → Type 0
 IsTold theories symbol answer = (answer ≡ Err Unknown) ⊎ IsIndexedName theories symbol
 
 bits_told : (theories : Theories) (symbol : List ℕ) (indexes : List IndexView) → IsTrue theories.bits
-    → (indexed_bits symbol indexes ≡ Err Unknown) ⊎ IsIndexedName theories symbol
+    → (indexed_bits (has_conversions theories) symbol indexes ≡ Err Unknown) ⊎ IsIndexedName theories symbol
 bits_told theories symbol indexes here =
-    named_or (codes "extract") _ _ (Extract 0 0) (λ is. is) (λ e. cc)
-    (named_or (codes "repeat") _ _ (Repeat 0) (λ is. is) (λ e. cc)
-    (named_or (codes "zero_extend") _ _ (ZeroExtend 0) (λ is. is) (λ e. cc)
-    (named_or (codes "sign_extend") _ _ (SignExtend 0) (λ is. is) (λ e. cc)
-    (named_or (codes "rotate_left") _ _ (RotateLeft 0) (λ is. is) (λ e. cc)
-    (named_or (codes "rotate_right") _ _ (RotateRight 0) (λ is. is) (λ e. cc)
-    (constant (constant_digits symbol) (constant_digits-own symbol)))))))
+    named_or (codes "extract") _ _ (Extract 0 0) here (λ is. is) (λ e. cc)
+    (named_or (codes "repeat") _ _ (Repeat 0) here (λ is. is) (λ e. cc)
+    (named_or (codes "zero_extend") _ _ (ZeroExtend 0) here (λ is. is) (λ e. cc)
+    (named_or (codes "sign_extend") _ _ (SignExtend 0) here (λ is. is) (λ e. cc)
+    (named_or (codes "rotate_left") _ _ (RotateLeft 0) here (λ is. is) (λ e. cc)
+    (named_or (codes "rotate_right") _ _ (RotateRight 0) here (λ is. is) (λ e. cc)
+    (converting_or (codes "int_to_bv") _ _ (FromInt 0) (λ so. so) (λ is. is) (λ e. cc)
+    (converting_or (codes "int2bv") _ _ (FromIntOlder 0) (λ so. so) (λ is. is) (λ e. cc)
+    (constant (constant_digits symbol) (constant_digits-own symbol)))))))))
   where
+    converting_or : (name : List ℕ) (this others : Result BitsOp OpFault) (op : BitsOp)
+        → (IsTrue (has_conversions theories) → IsTrue (has_bits_op theories op))
+        → (symbol ≡ name → IsNameOf (Bits op) symbol) → bits_indexes op ≢ []
+        → (others ≡ Err Unknown) ⊎ IsIndexedName theories symbol
+        → (cond (bytes_eq symbol name && has_conversions theories) this others ≡ Err Unknown)
+        ⊎ IsIndexedName theories symbol
+    converting_or name this others op there named some rest =
+        by (bytes_eq symbol name) (has_conversions theories) (bytes_eq-Decides symbol name).0 (λ e. e)
+      where
+        by : (b c : Bool) → (b ≡ true → symbol ≡ name) → (c ≡ true → IsTrue (has_conversions theories))
+            → (cond (b && c) this others ≡ Err Unknown) ⊎ IsIndexedName theories symbol
+        by true true is so = inr (Bits op, there (so refl), named (is refl), some)
+        by true false is so = rest
+        by false c is so = rest
+
     named_or : (name : List ℕ) (this others : Result BitsOp OpFault) (op : BitsOp)
+        → IsTrue (has_bits_op theories op)
         → (symbol ≡ name → IsNameOf (Bits op) symbol) → bits_indexes op ≢ []
         → (others ≡ Err Unknown) ⊎ IsIndexedName theories symbol
         → (cond (bytes_eq symbol name) this others ≡ Err Unknown) ⊎ IsIndexedName theories symbol
-    named_or name this others op named some rest = by (bytes_eq symbol name) (bytes_eq-Decides symbol name).0
+    named_or name this others op there named some rest = by (bytes_eq symbol name) (bytes_eq-Decides symbol name).0
       where
         by : (b : Bool) → (b ≡ true → symbol ≡ name)
             → (cond b this others ≡ Err Unknown) ⊎ IsIndexedName theories symbol
-        by true is = inr (Bits op, here, named (is refl), some)
+        by true is = inr (Bits op, there, named (is refl), some)
         by false is = rest
 
     constant : (o : Option (List ℕ))
@@ -195,7 +229,8 @@ told theories symbol indexes = by theories.ints (bytes_eq symbol (codes "divisib
   where
     or_bits : (bits : Bool) → (bits ≡ true → IsTrue theories.bits)
         → IsTold theories symbol
-        (cond bits (result_and_then (indexed_bits symbol indexes) (λ op. Ok (Bits op))) (Err Unknown))
+        (cond bits (result_and_then (indexed_bits (has_conversions theories) symbol indexes) (λ op. Ok (Bits op)))
+        (Err Unknown))
     or_bits false b = inl refl
     or_bits true b = elim (bits_told theories symbol indexes (b refl))
         [ inl e ↦ inl (ap (λ a. result_and_then a (λ op. Ok (Bits op))) e) | inr name ↦ inr name ]
@@ -204,7 +239,8 @@ told theories symbol indexes = by theories.ints (bytes_eq symbol (codes "divisib
         → (named ≡ true → symbol ≡ codes "divisible") → (bits ≡ true → IsTrue theories.bits)
         → IsTold theories symbol
         (cond (ints && named) (ok_or (divisible_by indexes) WrongIndex)
-        (cond bits (result_and_then (indexed_bits symbol indexes) (λ op. Ok (Bits op))) (Err Unknown)))
+        (cond bits (result_and_then (indexed_bits (has_conversions theories) symbol indexes) (λ op. Ok (Bits op)))
+        (Err Unknown)))
     by true true bits i n b = inr (Ints (Divisible 0), rw (i refl) refl, n refl, λ e. cc)
     by true false bits i n b = or_bits bits b
     by false named bits i n b = or_bits bits b

@@ -1,6 +1,6 @@
 -- Operators are found by their own names and indexes, and by no others.
 use Rattle.std.proofs.Common.{◌≡◌, inl, inr, ℕ, ◌<◌, Bool, true, false, cond, ◌&&◌, ◌||◌, List, [], ◌∷◌, Option}
-use Rattle.std.proofs.Common.{Some, None, Result, Ok, Err, length, map, nat_eq, nat_lt, refl, sym, subst}
+use Rattle.std.proofs.Common.{Some, None, Result, Ok, Err, length, map, nat_eq, nat_lt, refl, sym, subst, ◌∙◌}
 use Rattle.std.proofs.Common.{rules}
 use Rattle.std.specs.Prelude.{IsTrue, bytes_eq, codes, option_map, ok_or}
 use Rattle.std.specs.Option.{option_or}
@@ -10,8 +10,9 @@ use Rattle.std.proofs.lemmas.Slice.Eq.{bytes_eq-Decides}
 use Rattle.smt_theory.proofs.BitsOperatorLemmas.{bits_found, indexed_bits-own}
 use Rattle.smt_theory.proofs.LookUpLemmas.{Each, find_named, map-some, ok_or-Ok, option_or-some, passes-some}
 use Rattle.smt_theory.proofs.LookUpLemmas.{when-some}
-use Rattle.smt_theory.specs.Bits.{AreInRange, IsBitsName, bits_indexes, bits_name, bits_named}
-use Rattle.smt_theory.specs.Bits.{bits_plain, indexed_bits}
+use Rattle.smt_theory.specs.Bits.{AreInRange, IsBitsName, added_op, bits_indexes, bits_name, bits_named}
+use Rattle.smt_theory.specs.Bits.{bits_plain, conversion_plain, has_bits_op, has_conversions, indexed_bits}
+use Rattle.smt_theory.specs.Bits.{named_among, overflow_plain}
 use Rattle.smt_theory.specs.Core.{core_name, core_plain, core_named}
 use Rattle.smt_theory.specs.Ints.{ints_name, ints_plain, ints_named}
 use Rattle.smt_theory.specs.Operators.{plain_op, indexed_op, op_by, indexes_of, has_ints_op, IsNameOf}
@@ -81,20 +82,57 @@ reals_own theories symbol op h =
     let own = find_named reals_name (λ _. Unit {0}) symbol reals_plain found.0 (search rules) passed.1 in
     subst (λ op. IsFound theories symbol [] op) found.2 (passed.0, own.0, refl)
 
--- a plain operator on bit vectors is in range without indexes
-abbrev IsPlainBits : BitsOp → Type 0
-IsPlainBits op = AreInRange op × ((symbol : List ℕ) → symbol ≡ bits_name op → IsBitsName op symbol)
-    × ([] ≡ bits_indexes op)
+-- a plain operator on bit vectors is in range without indexes, and is there where this is so of the theories
+abbrev IsPlainBits : (Theories → Bool) → BitsOp → Type 0
+IsPlainBits there op = AreInRange op × ((symbol : List ℕ) → symbol ≡ bits_name op → IsBitsName op symbol)
+    × ([] ≡ bits_indexes op) × ((theories : Theories) → has_bits_op theories op ≡ there theories)
 
-each_plain_bits : Each IsPlainBits bits_plain
+each_plain_bits : Each (IsPlainBits (λ theories. theories.bits)) bits_plain
 each_plain_bits = search rules
+
+each_overflow : Each (IsPlainBits (λ theories. theories.wide && theories.bits)) overflow_plain
+each_overflow = search rules
+
+each_conversion : Each (IsPlainBits has_conversions) conversion_plain
+each_conversion = search rules
+
+among_own : (theories : Theories) (there : Theories → Bool) (ops : List BitsOp) (symbol : List ℕ) (op : BitsOp)
+    → Each (IsPlainBits there) ops → IsTrue (there theories) → named_among ops symbol ≡ Some op
+    → IsFound theories symbol [] (Bits op)
+among_own theories there ops symbol op each here h =
+    let own = find_named bits_name (IsPlainBits there) symbol ops op each h in
+    ((own.1.3 theories ∙ here, own.1.0), own.1.1 symbol own.0, own.1.2)
 
 bits_own : (theories : Theories) (symbol : List ℕ) (op : Op) → IsTrue theories.bits
     → option_map Bits (bits_named symbol) ≡ Some op → IsFound theories symbol [] op
 bits_own theories symbol op bits h =
     let found = map-some Bits (bits_named symbol) op h in
-    let own = find_named bits_name IsPlainBits symbol bits_plain found.0 each_plain_bits found.1 in
-    subst (λ op. IsFound theories symbol [] op) found.2 ((bits, own.1.0), own.1.1 symbol own.0, own.1.2)
+    subst (λ op. IsFound theories symbol [] op) found.2
+    (among_own theories (λ theories. theories.bits) bits_plain symbol found.0 each_plain_bits bits found.1)
+
+added_own : (theories : Theories) (symbol : List ℕ) (op : Op) → option_map Bits (added_op theories symbol) ≡ Some op
+    → IsFound theories symbol [] op
+added_own theories symbol op h =
+    let found = map-some Bits (added_op theories symbol) op h in
+    subst (λ op. IsFound theories symbol [] op) found.2
+    (by found.0 theories.wide theories.bits theories.ints (λ e. e) (λ e. e) found.1)
+  where
+    by : (b : BitsOp) (wide bits ints : Bool) → ((wide && bits) ≡ true → IsTrue (theories.wide && theories.bits))
+        → ((wide && bits && ints) ≡ true → IsTrue (has_conversions theories))
+        → cond (wide && bits) (option_or (named_among overflow_plain symbol)
+        (cond ints (named_among conversion_plain symbol) None)) None ≡ Some b → IsFound theories symbol [] (Bits b)
+    by b true true true both all h = elim (option_or-some (named_among overflow_plain symbol) _ b h) [
+      | inl e ↦ among_own theories (λ theories. theories.wide && theories.bits) overflow_plain symbol b each_overflow
+          (both refl) e
+      | inr e ↦ among_own theories has_conversions conversion_plain symbol b each_conversion (all refl) e
+    ]
+    by b true true false both all h = elim (option_or-some (named_among overflow_plain symbol) _ b h) [
+      | inl e ↦ among_own theories (λ theories. theories.wide && theories.bits) overflow_plain symbol b each_overflow
+          (both refl) e
+      | inr e ↦ cc
+    ]
+    by b true false ints both all h = cc
+    by b false bits ints both all h = cc
 
 plain_own : (theories : Theories) (symbol : List ℕ) (op : Op)
     → ok_or (plain_op theories symbol) Unknown ≡ Ok op → IsFound theories symbol [] op
@@ -107,7 +145,10 @@ plain_own theories symbol op h =
         | inr e ↦ elim (option_or-some (cond theories.bits (option_map Bits (bits_named symbol)) None) _ op e) [
           | inl e ↦ (let own = when-some theories.bits (option_map Bits (bits_named symbol)) op e
               in bits_own theories symbol op own.0 own.1)
-          | inr e ↦ reals_own theories symbol op e
+          | inr e ↦ elim (option_or-some (option_map Reals (if_passes (has_reals_op theories) (reals_named symbol))) _ op e) [
+            | inl e ↦ reals_own theories symbol op e
+            | inr e ↦ added_own theories symbol op e
+          ]
         ]
       ]
     ]
@@ -126,14 +167,14 @@ divisible_own (Number n ∷ []) op h = by (nat_lt 0 n) (search rules) h
     by false is h = cc
 
 bits_indexed_own : (theories : Theories) (symbol : List ℕ) (indexes : List IndexView) (op : Op)
-    (found : Result BitsOp OpFault) → indexed_bits symbol indexes ≡ found
+    (found : Result BitsOp OpFault) → indexed_bits (has_conversions theories) symbol indexes ≡ found
     → IsTrue theories.bits → result_and_then found (λ op. Ok (Bits op)) ≡ Ok op
     → IsFound theories symbol indexes op
 bits_indexed_own theories symbol indexes op (Err fault) is bits h = cc
 bits_indexed_own theories symbol indexes op (Ok o) is bits h =
-    let own = indexed_bits-own symbol indexes o is in
+    let own = indexed_bits-own theories bits symbol indexes o is in
     let e : Bits o ≡ op = cc in
-    subst (λ op. IsFound theories symbol indexes op) e ((bits, own.0), own.1, own.2)
+    subst (λ op. IsFound theories symbol indexes op) e ((own.0, own.1), own.2, own.3)
 
 indexed_own : (theories : Theories) (symbol : List ℕ) (indexes : List IndexView) (op : Op)
     → indexed_op theories symbol indexes ≡ Ok op
@@ -151,18 +192,17 @@ indexed_own theories symbol indexes op h =
         subst (λ op. IsFound theories symbol indexes op) e ((ints, own.3), is, own.2)
 
     or_bits : (bits : Bool) → (bits ≡ true → IsTrue theories.bits)
-        → cond bits (result_and_then (indexed_bits symbol indexes) (λ op. Ok (Bits op))) (Err Unknown) ≡ Ok op
-        → IsFound theories symbol indexes op
-    or_bits true b h =
-        bits_indexed_own theories symbol indexes op (indexed_bits symbol indexes) refl (b refl) h
+        → cond bits (result_and_then (indexed_bits (has_conversions theories) symbol indexes) (λ op. Ok (Bits op)))
+        (Err Unknown) ≡ Ok op → IsFound theories symbol indexes op
+    or_bits true b h = bits_indexed_own theories symbol indexes op
+        (indexed_bits (has_conversions theories) symbol indexes) refl (b refl) h
     or_bits false b h = cc
 
     by : (ints named bits : Bool) → (ints ≡ true → IsTrue theories.ints)
         → (named ≡ true → symbol ≡ codes "divisible") → (bits ≡ true → IsTrue theories.bits)
         → cond (ints && named) (ok_or (divisible_by indexes) WrongIndex)
-        (cond bits (result_and_then (indexed_bits symbol indexes) (λ op. Ok (Bits op))) (Err Unknown))
-        ≡ Ok op
-        → IsFound theories symbol indexes op
+        (cond bits (result_and_then (indexed_bits (has_conversions theories) symbol indexes) (λ op. Ok (Bits op)))
+        (Err Unknown)) ≡ Ok op → IsFound theories symbol indexes op
     by true true bits i n b h = found (i refl) (n refl) (divisible_by indexes) refl h
     by true false bits i n b h = or_bits bits b h
     by false named bits i n b h = or_bits bits b h
@@ -207,24 +247,31 @@ reals_found : (theories : Theories) (op : RealsOp) → IsOperatorOf theories (Re
 reals_found theories Divide h = by theories.ints theories.bits
   where
     by : (ints bits : Bool) → ok_or (option_or (option_map Ints (if_passes (λ op. ints || theories.reals && is_of_reals op) None))
-        (option_or (cond bits None None) (option_map Reals (if_passes (has_reals_op theories) (Some Divide))))) Unknown ≡ Ok (Reals Divide)
+        (option_or (cond bits None None) (option_or (option_map Reals (if_passes (has_reals_op theories) (Some Divide)))
+        (option_map Bits (added_op theories (codes "/")))))) Unknown ≡ Ok (Reals Divide)
     by true true = rw h refl
     by true false = rw h refl
     by false true = rw h refl
     by false false = rw h refl
 reals_found theories ToReal h = by theories.bits
   where
-    by : (bits : Bool) → ok_or (option_or (cond bits None None) (option_map Reals (if_passes (has_reals_op theories) (Some ToReal)))) Unknown ≡ Ok (Reals ToReal)
+    by : (bits : Bool) → ok_or (option_or (cond bits None None)
+        (option_or (option_map Reals (if_passes (has_reals_op theories) (Some ToReal)))
+        (option_map Bits (added_op theories (codes "to_real"))))) Unknown ≡ Ok (Reals ToReal)
     by true = rw h refl
     by false = rw h refl
 reals_found theories ToInt h = by theories.bits
   where
-    by : (bits : Bool) → ok_or (option_or (cond bits None None) (option_map Reals (if_passes (has_reals_op theories) (Some ToInt)))) Unknown ≡ Ok (Reals ToInt)
+    by : (bits : Bool) → ok_or (option_or (cond bits None None)
+        (option_or (option_map Reals (if_passes (has_reals_op theories) (Some ToInt)))
+        (option_map Bits (added_op theories (codes "to_int"))))) Unknown ≡ Ok (Reals ToInt)
     by true = rw h refl
     by false = rw h refl
 reals_found theories IsInt h = by theories.bits
   where
-    by : (bits : Bool) → ok_or (option_or (cond bits None None) (option_map Reals (if_passes (has_reals_op theories) (Some IsInt)))) Unknown ≡ Ok (Reals IsInt)
+    by : (bits : Bool) → ok_or (option_or (cond bits None None)
+        (option_or (option_map Reals (if_passes (has_reals_op theories) (Some IsInt)))
+        (option_map Bits (added_op theories (codes "is_int"))))) Unknown ≡ Ok (Reals IsInt)
     by true = rw h refl
     by false = rw h refl
 

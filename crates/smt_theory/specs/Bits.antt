@@ -1,8 +1,9 @@
--- SMT-LIB 2.6, theory FixedSizeBitVectors and logic QF_BV: the operators by name and indexes, each with its shape.
+-- SMT-LIB 2.6, theory FixedSizeBitVectors and logic QF_BV: the operators by name and indexes, each with its shape. The
+-- profile Wide adds those of SMT-LIB 2.7, with the older names of conversions.
 use Rattle.std.specs.Prelude.{ℕ, ◌≡◌, ◌<◌, ◌≤◌, ◌^◌, ◌++◌, List, [], ◌∷◌, Bool, true, false, ◌&&◌, ◌==◌, IsTrue}
 use Rattle.std.specs.Prelude.{Option, Some, None, Result, Err, option_map, ok_or, nat_le, nat_lt, find}
 use Rattle.std.specs.Prelude.{bytes_eq, codes, if◌then◌else◌}
-use Rattle.std.specs.Option.{option_and_then}
+use Rattle.std.specs.Option.{option_and_then, option_or}
 use Rattle.std.specs.Str.Parse.{digits_value}
 use Rattle.smt_theory.specs.Index.{IndexView, Number}
 use Rattle.smt_theory.specs.Numbers.{is_numeral}
@@ -14,20 +15,29 @@ use Rattle.smt_theory.specs.declared.op.BitsBinary.TheVariants.{ShiftRight, Shif
 use Rattle.smt_theory.specs.declared.op.BitsComparison.TheVariants.{UnsignedLess, UnsignedAtMost}
 use Rattle.smt_theory.specs.declared.op.BitsComparison.TheVariants.{UnsignedGreater, UnsignedAtLeast}
 use Rattle.smt_theory.specs.declared.op.BitsComparison.TheVariants.{SignedLess, SignedAtMost, SignedGreater}
-use Rattle.smt_theory.specs.declared.op.BitsComparison.TheVariants.{SignedAtLeast}
+use Rattle.smt_theory.specs.declared.op.BitsComparison.TheVariants.{SignedAtLeast, UnsignedAddOverflows}
+use Rattle.smt_theory.specs.declared.op.BitsComparison.TheVariants.{SignedAddOverflows, UnsignedMultiplyOverflows}
+use Rattle.smt_theory.specs.declared.op.BitsComparison.TheVariants.{SignedMultiplyOverflows}
+use Rattle.smt_theory.specs.declared.op.BitsComparison.TheVariants.{UnsignedSubtractOverflows}
+use Rattle.smt_theory.specs.declared.op.BitsComparison.TheVariants.{SignedSubtractOverflows, SignedDivideOverflows}
 use Rattle.smt_theory.specs.declared.op.BitsFolded.TheVariants.{And, Or, Xor, Add, Multiply}
 use Rattle.smt_theory.specs.declared.op.BitsOp.{BitsOp}
 use Rattle.smt_theory.specs.declared.op.BitsOp.TheVariants.{Constant, Concat, Extract, Unary, Folded, Binary}
 use Rattle.smt_theory.specs.declared.op.BitsOp.TheVariants.{Comparison, Comp, Repeat, ZeroExtend, SignExtend}
-use Rattle.smt_theory.specs.declared.op.BitsOp.TheVariants.{RotateLeft, RotateRight}
-use Rattle.smt_theory.specs.declared.op.BitsUnary.TheVariants.{Not, Negate}
+use Rattle.smt_theory.specs.declared.op.BitsOp.TheVariants.{RotateLeft, RotateRight, FromInt, FromIntOlder}
+use Rattle.smt_theory.specs.declared.op.BitsUnary.{BitsUnary}
+use Rattle.smt_theory.specs.declared.op.BitsUnary.TheVariants.{Not, Negate, NegateOverflows, ToInt, ToIntOlder}
+use Rattle.smt_theory.specs.declared.op.BitsUnary.TheVariants.{SignedToInt}
 use Rattle.smt_theory.specs.declared.op.OpFault.{OpFault}
 use Rattle.smt_theory.specs.declared.op.OpFault.TheVariants.{Unknown, Index as WrongIndex}
 use Rattle.smt_theory.specs.declared.shapes.Arity.TheVariants.{One, Two, Several}
 use Rattle.smt_theory.specs.declared.shapes.Shape.{Shape}
-use Rattle.smt_theory.specs.declared.shapes.Shape.TheVariants.{Constant as Nullary, Vectors, Joined, OutOfRange}
+use Rattle.smt_theory.specs.declared.shapes.Shape.TheVariants.{Constant as Nullary, Uniform, Vectors, Joined}
+use Rattle.smt_theory.specs.declared.shapes.Shape.TheVariants.{OutOfRange}
+use Rattle.smt_theory.specs.declared.shapes.Made.{Made}
 use Rattle.smt_theory.specs.declared.shapes.Made.TheVariants.{Same, Given, Slice, Times, Longer}
-use Rattle.smt_theory.specs.Sort.{Boolean, Bits}
+use Rattle.smt_theory.specs.declared.theories.Theories.{Theories}
+use Rattle.smt_theory.specs.Sort.{Boolean, Int, Bits}
 
 -- the name of an operator; of a constant what stands before its numeral
 abbrev pub bits_name : BitsOp → List ℕ
@@ -36,6 +46,10 @@ bits_name Concat = codes "concat"
 bits_name (Extract i j) = codes "extract"
 bits_name (Unary Not) = codes "bvnot"
 bits_name (Unary Negate) = codes "bvneg"
+bits_name (Unary NegateOverflows) = codes "bvnego"
+bits_name (Unary ToInt) = codes "ubv_to_int"
+bits_name (Unary ToIntOlder) = codes "bv2nat"
+bits_name (Unary SignedToInt) = codes "sbv_to_int"
 bits_name (Folded And) = codes "bvand"
 bits_name (Folded Or) = codes "bvor"
 bits_name (Folded Xor) = codes "bvxor"
@@ -61,14 +75,23 @@ bits_name (Comparison SignedLess) = codes "bvslt"
 bits_name (Comparison SignedAtMost) = codes "bvsle"
 bits_name (Comparison SignedGreater) = codes "bvsgt"
 bits_name (Comparison SignedAtLeast) = codes "bvsge"
+bits_name (Comparison UnsignedAddOverflows) = codes "bvuaddo"
+bits_name (Comparison SignedAddOverflows) = codes "bvsaddo"
+bits_name (Comparison UnsignedMultiplyOverflows) = codes "bvumulo"
+bits_name (Comparison SignedMultiplyOverflows) = codes "bvsmulo"
+bits_name (Comparison UnsignedSubtractOverflows) = codes "bvusubo"
+bits_name (Comparison SignedSubtractOverflows) = codes "bvssubo"
+bits_name (Comparison SignedDivideOverflows) = codes "bvsdivo"
 bits_name Comp = codes "bvcomp"
 bits_name (Repeat i) = codes "repeat"
 bits_name (ZeroExtend i) = codes "zero_extend"
 bits_name (SignExtend i) = codes "sign_extend"
 bits_name (RotateLeft i) = codes "rotate_left"
 bits_name (RotateRight i) = codes "rotate_right"
+bits_name (FromInt n) = codes "int_to_bv"
+bits_name (FromIntOlder n) = codes "int2bv"
 
--- the plain operators
+-- the plain operators of every profile
 abbrev pub bitwise_plain : List BitsOp
 bitwise_plain =
     Unary Not ∷ Unary Negate ∷ Folded And ∷ Folded Or ∷ Folded Xor ∷ Folded Add ∷ Folded Multiply ∷ Comp ∷ []
@@ -95,7 +118,29 @@ named_among ops symbol = find (λ op. bytes_eq symbol (bits_name op)) ops
 abbrev pub bits_named : List ℕ → Option BitsOp
 bits_named symbol = named_among bits_plain symbol
 
--- whether a symbol begins with `bv`, as constants do and all plain operators but `concat`
+-- those that the profile Wide adds: whether a result overflows, and, with integers too, bit vectors to integers
+abbrev pub overflow_plain : List BitsOp
+overflow_plain =
+    Unary NegateOverflows ∷ Comparison UnsignedAddOverflows ∷ Comparison SignedAddOverflows
+    ∷ Comparison UnsignedMultiplyOverflows ∷ Comparison SignedMultiplyOverflows
+    ∷ Comparison UnsignedSubtractOverflows ∷ Comparison SignedSubtractOverflows
+    ∷ Comparison SignedDivideOverflows ∷ []
+
+abbrev pub conversion_plain : List BitsOp
+conversion_plain = Unary ToInt ∷ Unary ToIntOlder ∷ Unary SignedToInt ∷ []
+
+-- whether integers become bit vectors in these theories, and bit vectors integers
+abbrev pub has_conversions : Theories → Bool
+has_conversions theories = theories.wide && theories.bits && theories.ints
+
+abbrev pub added_op : Theories → List ℕ → Option BitsOp
+added_op theories symbol =
+    if theories.wide && theories.bits then
+    option_or (named_among overflow_plain symbol)
+    (if theories.ints then named_among conversion_plain symbol else None)
+    else None
+
+-- whether a symbol begins with `bv`, as constants do and all plain operators of every profile but `concat`
 abbrev pub begins_with_bv : List ℕ → Bool
 begins_with_bv (b ∷ v ∷ rest) = b == 98 && v == 118
 begins_with_bv _ = false
@@ -111,11 +156,15 @@ abbrev pub only_number : List IndexView → Option ℕ
 only_number (Number i ∷ []) = Some i
 only_number _ = None
 
+-- the width that is the only index
+abbrev pub only_width : List IndexView → Option ℕ
+only_width indexes = option_and_then width_of (only_number indexes)
+
 abbrev pub constant_by : List ℕ → List IndexView → Option BitsOp
 constant_by digits indexes =
     option_and_then (λ width. if nat_lt (digits_value 10 digits) (2 ^ width)
     then Some (Constant (digits_value 10 digits) width) else None)
-    (option_and_then width_of (only_number indexes))
+    (only_width indexes)
 
 abbrev pub extract_by : List IndexView → Option BitsOp
 extract_by (Number i ∷ Number j ∷ []) = if nat_le j i then Some (Extract i j) else None
@@ -129,9 +178,18 @@ abbrev pub indexed_constant : Option (List ℕ) → List IndexView → Result Bi
 indexed_constant None indexes = Err Unknown
 indexed_constant (Some digits) indexes = ok_or (constant_by digits indexes) WrongIndex
 
+-- one that makes a bit vector of an integer, where there are those, or a constant
+abbrev pub indexed_other : Bool → List ℕ → List IndexView → Result BitsOp OpFault
+indexed_other converts symbol indexes =
+    if bytes_eq symbol (codes "int_to_bv") && converts
+    then ok_or (option_map FromInt (only_width indexes)) WrongIndex
+    else if bytes_eq symbol (codes "int2bv") && converts
+    then ok_or (option_map FromIntOlder (only_width indexes)) WrongIndex
+    else indexed_constant (constant_digits symbol) indexes
+
 -- the operator `(_ symbol index ..)`
-abbrev pub indexed_bits : List ℕ → List IndexView → Result BitsOp OpFault
-indexed_bits symbol indexes =
+abbrev pub indexed_bits : Bool → List ℕ → List IndexView → Result BitsOp OpFault
+indexed_bits converts symbol indexes =
     if bytes_eq symbol (codes "extract") then ok_or (extract_by indexes) WrongIndex
     else if bytes_eq symbol (codes "repeat") then ok_or (repeat_by indexes) WrongIndex
     else if bytes_eq symbol (codes "zero_extend")
@@ -142,7 +200,7 @@ indexed_bits symbol indexes =
     then ok_or (option_map RotateLeft (only_number indexes)) WrongIndex
     else if bytes_eq symbol (codes "rotate_right")
     then ok_or (option_map RotateRight (only_number indexes)) WrongIndex
-    else indexed_constant (constant_digits symbol) indexes
+    else indexed_other converts symbol indexes
 
 -- ---- the form of each operator
 
@@ -161,6 +219,8 @@ bits_indexes (ZeroExtend i) = Number i ∷ []
 bits_indexes (SignExtend i) = Number i ∷ []
 bits_indexes (RotateLeft i) = Number i ∷ []
 bits_indexes (RotateRight i) = Number i ∷ []
+bits_indexes (FromInt n) = Number n ∷ []
+bits_indexes (FromIntOlder n) = Number n ∷ []
 bits_indexes _ = []
 
 -- the operator's indexes are in range
@@ -168,16 +228,61 @@ abbrev pub AreInRange : BitsOp → Type 0
 AreInRange (Constant number width) = (1 ≤ width) × (width ≤ 128) × (number < 2 ^ width)
 AreInRange (Extract i j) = j ≤ i
 AreInRange (Repeat i) = 0 < i
+AreInRange (FromInt n) = (1 ≤ n) × (n ≤ 128)
+AreInRange (FromIntOlder n) = (1 ≤ n) × (n ≤ 128)
 AreInRange _ = Unit {0}
 
+-- ---- which there are
+
+-- whether it makes an integer of a bit vector, or a bit vector of an integer
+abbrev pub is_conversion : BitsOp → Bool
+is_conversion (Unary ToInt) = true
+is_conversion (Unary ToIntOlder) = true
+is_conversion (Unary SignedToInt) = true
+is_conversion (FromInt n) = true
+is_conversion (FromIntOlder n) = true
+is_conversion _ = false
+
+-- whether it tells that a result overflows
+abbrev pub is_overflow : BitsOp → Bool
+is_overflow (Unary NegateOverflows) = true
+is_overflow (Comparison UnsignedAddOverflows) = true
+is_overflow (Comparison SignedAddOverflows) = true
+is_overflow (Comparison UnsignedMultiplyOverflows) = true
+is_overflow (Comparison SignedMultiplyOverflows) = true
+is_overflow (Comparison UnsignedSubtractOverflows) = true
+is_overflow (Comparison SignedSubtractOverflows) = true
+is_overflow (Comparison SignedDivideOverflows) = true
+is_overflow _ = false
+
+-- whether these theories have the operator
+abbrev pub has_bits_op : Theories → BitsOp → Bool
+has_bits_op theories op =
+    if is_conversion op then has_conversions theories
+    else if is_overflow op then theories.wide && theories.bits
+    else theories.bits
+
 -- ---- how each takes its arguments
+
+-- what is made of one bit vector
+abbrev pub made_of_one : BitsUnary → Made
+made_of_one Not = Same
+made_of_one Negate = Same
+made_of_one NegateOverflows = Given Boolean
+made_of_one ToInt = Given Int
+made_of_one ToIntOlder = Given Int
+made_of_one SignedToInt = Given Int
+
+-- of an integer a bit vector of so many bits
+abbrev pub shape_from_int : ℕ → Shape
+shape_from_int n = if nat_le 1 n && nat_le n 128 then Uniform One Int (Bits n) else OutOfRange
 
 abbrev pub bits_shape : BitsOp → Shape
 bits_shape (Constant number n) =
     if nat_le 1 n && nat_le n 128 && nat_lt number (2 ^ n) then Nullary (Bits n) else OutOfRange
 bits_shape Concat = Joined
 bits_shape (Extract i j) = Vectors One (Slice i j)
-bits_shape (Unary op) = Vectors One Same
+bits_shape (Unary op) = Vectors One (made_of_one op)
 bits_shape (Folded op) = Vectors Several Same
 bits_shape (Binary op) = Vectors Two Same
 bits_shape (Comparison op) = Vectors Two (Given Boolean)
@@ -187,6 +292,8 @@ bits_shape (ZeroExtend i) = Vectors One (Longer i)
 bits_shape (SignExtend i) = Vectors One (Longer i)
 bits_shape (RotateLeft i) = Vectors One Same
 bits_shape (RotateRight i) = Vectors One Same
+bits_shape (FromInt n) = shape_from_int n
+bits_shape (FromIntOlder n) = shape_from_int n
 
 -- whether an operator holds a number
 abbrev pub bits_number : BitsOp → Bool
@@ -197,6 +304,8 @@ bits_number (ZeroExtend i) = true
 bits_number (SignExtend i) = true
 bits_number (RotateLeft i) = true
 bits_number (RotateRight i) = true
+bits_number (FromInt n) = true
+bits_number (FromIntOlder n) = true
 bits_number _ = false
 
 -- ---- the one plain operator that a name can be, as its length and some of its bytes tell

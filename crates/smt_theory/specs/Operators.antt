@@ -4,8 +4,8 @@ use Rattle.std.specs.Prelude.{ℕ, true, false, ◌≡◌, ◌≢◌, ◌<◌, L
 use Rattle.std.specs.Prelude.{Result, Ok, Err, is_some, option_map, ok_or, bytes_eq, codes}
 use Rattle.std.specs.Prelude.{if◌then◌else◌}
 use Rattle.std.specs.Option.{option_or}
-use Rattle.smt_theory.specs.Bits.{AreInRange, IsBitsName, bits_indexes, bits_name, bits_named}
-use Rattle.smt_theory.specs.Bits.{indexed_bits}
+use Rattle.smt_theory.specs.Bits.{AreInRange, IsBitsName, added_op, bits_indexes, bits_name, bits_named}
+use Rattle.smt_theory.specs.Bits.{has_bits_op, has_conversions, indexed_bits}
 use Rattle.smt_theory.specs.Core.{core_name, core_named}
 use Rattle.smt_theory.specs.Index.{IndexView, Number}
 use Rattle.smt_theory.specs.Ints.{divisible_by, ints_name, ints_named}
@@ -47,7 +47,8 @@ plain_op theories symbol =
     option_or (option_map Core (core_named symbol))
     (option_or (option_map Ints (if_passes (has_ints_op theories) (ints_named symbol)))
     (option_or (if theories.bits then option_map Bits (bits_named symbol) else None)
-    (option_map Reals (if_passes (has_reals_op theories) (reals_named symbol)))))
+    (option_or (option_map Reals (if_passes (has_reals_op theories) (reals_named symbol)))
+    (option_map Bits (added_op theories symbol)))))
 
 -- whether a name is a plain operator's, so that nothing new may have it
 abbrev pub is_plain_operator : Theories → List ℕ → Bool
@@ -57,7 +58,8 @@ is_plain_operator theories symbol = is_some (plain_op theories symbol)
 abbrev pub indexed_op : Theories → List ℕ → List IndexView → Result Op OpFault
 indexed_op theories symbol indexes =
     if theories.ints && bytes_eq symbol (codes "divisible") then ok_or (divisible_by indexes) WrongIndex
-    else if theories.bits then result_and_then (indexed_bits symbol indexes) (λ op. Ok (Bits op))
+    else if theories.bits
+    then result_and_then (indexed_bits (has_conversions theories) symbol indexes) (λ op. Ok (Bits op))
     else Err Unknown
 
 -- the operator of a symbol with indexes
@@ -85,7 +87,7 @@ IsOperatorOf theories (Core op) = Unit {0}
 IsOperatorOf theories (Ints (Divisible n)) = IsTrue theories.ints × (0 < n)
 IsOperatorOf theories (Ints op) = IsTrue (has_ints_op theories op)
 IsOperatorOf theories (Reals op) = IsTrue (has_reals_op theories op)
-IsOperatorOf theories (Bits op) = IsTrue theories.bits × AreInRange op
+IsOperatorOf theories (Bits op) = IsTrue (has_bits_op theories op) × AreInRange op
 
 -- the symbol with these indexes is this operator of the theories
 abbrev pub IsOperatorBy : Theories → List ℕ → List IndexView → Op → Type 0
@@ -99,7 +101,7 @@ abbrev pub IsOfTheories : Theories → Op → Type 0
 IsOfTheories theories (Core op) = Unit {0}
 IsOfTheories theories (Ints op) = IsTrue (has_ints_op theories op)
 IsOfTheories theories (Reals op) = IsTrue (has_reals_op theories op)
-IsOfTheories theories (Bits op) = IsTrue theories.bits
+IsOfTheories theories (Bits op) = IsTrue (has_bits_op theories op)
 
 -- some operator of the theories without indexes, or with some, has this name
 abbrev pub IsPlainName : Theories → List ℕ → Type 0

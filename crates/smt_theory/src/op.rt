@@ -102,7 +102,8 @@ pub enum RealsOp {
     IsInt,
 }
 
-/// An operator of the theory FixedSizeBitVectors, or one that the logic QF_BV adds.
+/// An operator of the theory FixedSizeBitVectors, one that the logic QF_BV adds, or one of SMT-LIB 2.7: whether a
+/// result overflows, and integers to bit vectors and back.
 #[derive(Clone, Copy)]
 pub enum BitsOp {
     /// `(_ bvX n)`: the number X in n bits; an operator where X is below 2^n.
@@ -126,6 +127,10 @@ pub enum BitsOp {
     RotateLeft(u64),
     /// `(_ rotate_right i)`
     RotateRight(u64),
+    /// `(_ int_to_bv n)`, which makes n bits of an integer.
+    FromInt(Width),
+    /// `(_ int2bv n)`, the older name of the same.
+    FromIntOlder(Width),
 }
 
 /// An operator on one bit vector.
@@ -135,6 +140,14 @@ pub enum BitsUnary {
     Not,
     /// `bvneg`
     Negate,
+    /// `bvnego`: whether the negative does not fit.
+    NegateOverflows,
+    /// `ubv_to_int`, which makes an integer.
+    ToInt,
+    /// `bv2nat`, the older name of the same.
+    ToIntOlder,
+    /// `sbv_to_int`: the same of the signed reading.
+    SignedToInt,
 }
 
 /// An operator on two or more bit vectors that is applied from the left.
@@ -181,7 +194,7 @@ pub enum BitsBinary {
     ShiftRightSigned,
 }
 
-/// A relation on two bit vectors.
+/// A relation on two bit vectors. One whose name ends with `Overflows` holds where the exact result does not fit.
 #[derive(Clone, Copy)]
 pub enum BitsComparison {
     /// `bvult`
@@ -200,6 +213,20 @@ pub enum BitsComparison {
     SignedGreater,
     /// `bvsge`
     SignedAtLeast,
+    /// `bvuaddo`
+    UnsignedAddOverflows,
+    /// `bvsaddo`
+    SignedAddOverflows,
+    /// `bvumulo`
+    UnsignedMultiplyOverflows,
+    /// `bvsmulo`
+    SignedMultiplyOverflows,
+    /// `bvusubo`
+    UnsignedSubtractOverflows,
+    /// `bvssubo`
+    SignedSubtractOverflows,
+    /// `bvsdivo`
+    SignedDivideOverflows,
 }
 
 /// Why an identifier names no operator.

@@ -1,5 +1,5 @@
 -- Arguments that are all known, and are of the sorts of a rank, give a result that is known, unless it is a number.
-use Rattle.std.proofs.Common.{◌≡◌, ◌⊎◌, inl, inr, ℕ, suc, ◌+◌, ◌*◌, ◌≤◌, ◌<◌, Bool, true, false, not}
+use Rattle.std.proofs.Common.{◌≢◌, ◌∙◌, ◌≡◌, ◌⊎◌, inl, inr, ℕ, suc, ◌+◌, ◌*◌, ◌≤◌, ◌<◌, Bool, true, false, not}
 use Rattle.std.proofs.Common.{cond, List, [], ◌∷◌, Option, Some, None, get_or, is_some, length, nat_lt, nat_le, refl}
 use Rattle.std.proofs.Common.{sym, ap, subst, arith, rules}
 use Rattle.std.specs.List.{list_all, list_any, sum}
@@ -17,7 +17,11 @@ use Rattle.smt_theory.specs.declared.op.BitsFolded.{BitsFolded}
 use Rattle.smt_theory.specs.declared.op.BitsOp.{BitsOp}
 use Rattle.smt_theory.specs.declared.op.BitsOp.TheVariants.{Constant, Concat, Extract, Unary, Folded, Binary}
 use Rattle.smt_theory.specs.declared.op.BitsOp.TheVariants.{Comparison, Comp, Repeat, ZeroExtend, SignExtend}
-use Rattle.smt_theory.specs.declared.op.BitsOp.TheVariants.{RotateLeft, RotateRight}
+use Rattle.smt_theory.specs.declared.op.BitsOp.TheVariants.{RotateLeft, RotateRight, FromInt, FromIntOlder}
+use Rattle.smt_theory.specs.declared.op.BitsUnary.{BitsUnary}
+use Rattle.smt_theory.specs.declared.op.BitsUnary.TheVariants.{Not, Negate, NegateOverflows, ToInt, ToIntOlder}
+use Rattle.smt_theory.specs.declared.op.BitsUnary.TheVariants.{SignedToInt}
+use Rattle.smt_theory.specs.Bits.{shape_from_int}
 use Rattle.smt_theory.specs.declared.op.CoreOp.{CoreOp}
 use Rattle.smt_theory.specs.declared.op.CoreOp.TheVariants.{True, False, Not, Implies, And, Or, Xor, Equal}
 use Rattle.smt_theory.specs.declared.op.CoreOp.TheVariants.{Distinct, Ite}
@@ -35,7 +39,8 @@ use Rattle.smt_values.proofs.BitSortLemmas.{one, sum-cons, two, vector_is}
 use Rattle.smt_values.proofs.NumberKnownLemmas.{AreNumeric, all_numeric, integers_known, numbers_known}
 use Rattle.smt_values.specs.BitOperations.{folded_vector}
 use Rattle.smt_values.specs.Element.{Element, Truth, Integer, Fraction, Vector, Abstract, IsOfSort, AreOfSorts}
-use Rattle.smt_values.specs.KnownBitOperations.{known_bits, known_folded}
+use Rattle.smt_values.specs.KnownBitOperations.{known_bits, known_bits_of_int, known_folded}
+use Rattle.smt_values.specs.KnownOperations.{known_on_bits}
 use Rattle.smt_values.specs.KnownNumbers.{is_known_fraction, known_mixed, known_numbers}
 use Rattle.smt_values.specs.KnownOperations.{as_disjunction, decided, is_known, known_core, known_ints}
 use Rattle.smt_values.specs.KnownOperations.{known_integers}
@@ -319,7 +324,7 @@ reals_need IsInt sorts sort r none = one_need sorts r.0 none
 of_one : (op : BitsOp) (m : ℕ) (sorts : List Sort) (es : List Element) → sorts ≡ BitsSort m ∷ []
     → AreOfSorts sorts es
     → ((v : BitVector) → v.width ≡ m → IsSome (known_bits op (v ∷ [])))
-    → IsSome (known_step (Bits op) (map Some es))
+    → IsSome (known_on_bits None op (map Some es))
 of_one op m sorts es is h each =
     let all = subst (λ ss. AreOfSorts ss es) is h in
     let o = one m es all in
@@ -328,7 +333,7 @@ of_one op m sorts es is h each =
 of_two : (op : BitsOp) (m : ℕ) (sorts : List Sort) (es : List Element) → sorts ≡ BitsSort m ∷ BitsSort m ∷ []
     → AreOfSorts sorts es
     → ((v w : BitVector) → (v.width == w.width) ≡ true → IsSome (known_bits op (v ∷ w ∷ [])))
-    → IsSome (known_step (Bits op) (map Some es))
+    → IsSome (known_on_bits None op (map Some es))
 of_two op m sorts es is h each =
     let all = subst (λ ss. AreOfSorts ss es) is h in
     let o = two m es all in
@@ -393,45 +398,79 @@ constant_known : (x n : ℕ) (es : List Element) → AreOfSorts [] es
 constant_known x n [] h = refl
 constant_known x n (e ∷ es) h = absurd h
 
+-- of an integer so many bits
+from_int_known : (n : ℕ) (sorts : List Sort) (sort : Sort) (es : List Element) → HasShape (shape_from_int n) sorts sort
+    → AreOfSorts sorts es → IsSome (option_and_then (known_bits_of_int n) (known_integers (map Some es)))
+from_int_known n sorts sort es r h = by (nat_le 1 n && nat_le n 128) r
+  where
+    of_int : (es : List Element) → AreOfSorts (Int ∷ []) es
+        → IsSome (option_and_then (known_bits_of_int n) (known_integers (map Some es)))
+    of_int [] h = absurd h
+    of_int (Truth b ∷ es) h = absurd h.0
+    of_int (Fraction top low ∷ es) h = absurd h.0
+    of_int (Vector v ∷ es) h = absurd h.0
+    of_int (Abstract name ∷ es) h = absurd h.0
+    of_int (Integer z ∷ []) h = refl
+    of_int (Integer z ∷ e ∷ es) h = absurd h.1
+
+    by : (b : Bool) → HasShape (cond b (Uniform One Int (BitsSort n)) OutOfRange) sorts sort
+        → IsSome (option_and_then (known_bits_of_int n) (known_integers (map Some es)))
+    by true r = of_int es (subst (λ ss. AreOfSorts ss es) r.0 h)
+    by false r = absurd r
+
+-- what is made of one vector, but for its number as an integer
+unary_known : (op : BitsUnary) (v : BitVector) → op ≢ ToInt → op ≢ ToIntOlder
+    → IsSome (known_bits (Unary op) (v ∷ []))
+unary_known Not v new older = refl
+unary_known Negate v new older = refl
+unary_known NegateOverflows v new older = refl
+unary_known ToInt v new older = absurd (new refl)
+unary_known ToIntOlder v new older = absurd (older refl)
+unary_known SignedToInt v new older = refl
+
 pub bits_known : (op : BitsOp) (sorts : List Sort) (sort : Sort) (es : List Element)
-    → HasRank (Bits op) sorts sort → AreOfSorts sorts es → IsSome (known_step (Bits op) (map Some es))
-bits_known (Constant x n) sorts sort es r h = by (nat_le 1 n && nat_le n 128 && nat_lt x (2 ^ n)) r
+    → HasRank (Bits op) sorts sort → AreOfSorts sorts es → op ≢ Unary ToInt → op ≢ Unary ToIntOlder
+    → IsSome (known_step (Bits op) (map Some es))
+bits_known (Constant x n) sorts sort es r h new older = by (nat_le 1 n && nat_le n 128 && nat_lt x (2 ^ n)) r
   where
     by : (b : Bool) → HasShape (cond b (Nullary (BitsSort n)) OutOfRange) sorts sort
         → IsSome (known_step (Bits (Constant x n)) (map Some es))
     by true r = constant_known x n es (subst (λ ss. AreOfSorts ss es) r.0 h)
     by false r = absurd r
-bits_known Concat sorts sort es r h = parts_known r.0 sorts es r.1 r.2 r.3 h
-bits_known (Extract i j) sorts sort es r h =
+bits_known Concat sorts sort es r h new older = parts_known r.0 sorts es r.1 r.2 r.3 h
+bits_known (Extract i j) sorts sort es r h new older =
     of_one (Extract i j) r.0 sorts es r.1 h (λ v width.
     let a : nat_le j i ≡ true = (let le = r.2.0 in search rules) in
     let less : i < v.width = (let le = r.2.1 in omega arith) in
     let b : nat_lt i v.width ≡ true = search rules in
     rw (a, b) refl)
-bits_known (Unary op) sorts sort es r h = of_one (Unary op) r.0 sorts es r.1 h (λ v width. refl)
-bits_known (Folded op) sorts sort es r h = several_known op r.0 sorts es r.1 h
-bits_known (Binary op) sorts sort es r h = of_two (Binary op) r.0 sorts es r.1 h (λ v w same. rw same refl)
-bits_known (Comparison op) sorts sort es r h =
+bits_known (Unary op) sorts sort es r h new older =
+    of_one (Unary op) r.0 sorts es r.1 h (λ v width. unary_known op v (λ e. new (ap Unary e)) (λ e. older (ap Unary e)))
+bits_known (Folded op) sorts sort es r h new older = several_known op r.0 sorts es r.1 h
+bits_known (Binary op) sorts sort es r h new older = of_two (Binary op) r.0 sorts es r.1 h (λ v w same. rw same refl)
+bits_known (Comparison op) sorts sort es r h new older =
     of_two (Comparison op) r.0 sorts es r.1 h (λ v w same. rw same refl)
-bits_known Comp sorts sort es r h = of_two Comp r.0 sorts es r.1 h (λ v w same. rw same refl)
-bits_known (Repeat i) sorts sort es r h =
+bits_known Comp sorts sort es r h new older = of_two Comp r.0 sorts es r.1 h (λ v w same. rw same refl)
+bits_known (Repeat i) sorts sort es r h new older =
     of_one (Repeat i) r.0 sorts es r.1 h (λ v width.
     let a : nat_le 1 i ≡ true = (let some = r.2.0 in search rules) in
     let fits : i * v.width ≤ 128 = rw width r.2.1 in
     let b : nat_le (i * v.width) 128 ≡ true = search rules in
     rw (a, b) refl)
-bits_known (ZeroExtend i) sorts sort es r h =
+bits_known (ZeroExtend i) sorts sort es r h new older =
     of_one (ZeroExtend i) r.0 sorts es r.1 h (λ v width.
     let fits : v.width + i ≤ 128 = rw width r.2.0 in
     let b : nat_le (v.width + i) 128 ≡ true = search rules in
     rw b refl)
-bits_known (SignExtend i) sorts sort es r h =
+bits_known (SignExtend i) sorts sort es r h new older =
     of_one (SignExtend i) r.0 sorts es r.1 h (λ v width.
     let fits : v.width + i ≤ 128 = rw width r.2.0 in
     let b : nat_le (v.width + i) 128 ≡ true = search rules in
     rw b refl)
-bits_known (RotateLeft i) sorts sort es r h = of_one (RotateLeft i) r.0 sorts es r.1 h (λ v width. refl)
-bits_known (RotateRight i) sorts sort es r h = of_one (RotateRight i) r.0 sorts es r.1 h (λ v width. refl)
+bits_known (RotateLeft i) sorts sort es r h new older = of_one (RotateLeft i) r.0 sorts es r.1 h (λ v width. refl)
+bits_known (RotateRight i) sorts sort es r h new older = of_one (RotateRight i) r.0 sorts es r.1 h (λ v width. refl)
+bits_known (FromInt n) sorts sort es r h new older = from_int_known n sorts sort es r h
+bits_known (FromIntOlder n) sorts sort es r h new older = from_int_known n sorts sort es r h
 
 -- ---- all
 
@@ -440,12 +479,18 @@ pub result_known : (op : Op) (sorts : List Sort) (sort : Sort) (es : List Elemen
 result_known (Core op) sorts sort es r h other = core_known op sorts sort es r h
 result_known (Ints op) sorts sort es r h other = ints_known op sorts sort es r h other
 result_known (Reals op) sorts sort es r h other = reals_known op sorts sort es r h other
-result_known (Bits op) sorts sort es r h other = bits_known op sorts sort es r h
+result_known (Bits op) sorts sort es r h other =
+    bits_known op sorts sort es r h (λ e. integer (subst (λ o. HasRank (Bits o) sorts sort) e r).2)
+    (λ e. integer (subst (λ o. HasRank (Bits o) sorts sort) e r).2)
+  where
+    integer : sort ≡ Int → ⊥
+    integer e = let is : true ≡ false = sym (ap is_number e) ∙ other in cc
 
 pub without_numbers : (op : Op) (sorts : List Sort) (sort : Sort) (es : List Element) → HasRank op sorts sort
     → AreOfSorts sorts es → All (λ s. is_number s ≡ false) sorts
-    → IsSome (known_step op (map Some es))
-without_numbers (Core op) sorts sort es r h none = core_known op sorts sort es r h
-without_numbers (Ints op) sorts sort es r h none = absurd (ints_need op sorts sort r none)
-without_numbers (Reals op) sorts sort es r h none = absurd (reals_need op sorts sort r none)
-without_numbers (Bits op) sorts sort es r h none = bits_known op sorts sort es r h
+    → op ≢ Bits (Unary ToInt) → op ≢ Bits (Unary ToIntOlder) → IsSome (known_step op (map Some es))
+without_numbers (Core op) sorts sort es r h none new older = core_known op sorts sort es r h
+without_numbers (Ints op) sorts sort es r h none new older = absurd (ints_need op sorts sort r none)
+without_numbers (Reals op) sorts sort es r h none new older = absurd (reals_need op sorts sort r none)
+without_numbers (Bits op) sorts sort es r h none new older =
+    bits_known op sorts sort es r h (λ e. new (ap Bits e)) (λ e. older (ap Bits e))

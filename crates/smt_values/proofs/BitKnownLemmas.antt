@@ -1,11 +1,11 @@
 -- What is known of bit vectors as arguments, by their number.
-use Rattle.std.proofs.Common.{◌≡◌, ◌≢◌, ◌≤◌, List, [], ◌∷◌, Option, Some, None, length, drop, get_or, refl}
+use Rattle.std.proofs.Common.{◌≡◌, ◌≢◌, ◌≤◌, ℕ, ℤ, List, [], ◌∷◌, Option, Some, None, length, drop, get_or, refl}
 use Rattle.std.proofs.Common.{sym, ap, ◌∙◌, arith}
 use Rattle.std.specs.Prelude.{map, option_map, option_and_then}
 use Rattle.smt_bits.specs.BitVector.{BitVector}
 use Rattle.smt_values.specs.declared.value.Value.{Value}
 use Rattle.smt_values.specs.Element.{known_element, known_elements}
-use Rattle.smt_values.specs.KnownBitOperations.{known_from_left, none_given, the_only, two_of_one_width}
+use Rattle.smt_values.specs.KnownBitOperations.{known_bits_of_int, known_from_left, none_given, the_only, two_of_one_width}
 use Rattle.smt_values.specs.KnownOperations.{known_vector, known_vectors}
 use Rattle.smt_values.specs.Lists.{steps_from}
 use Rattle.smt_values.proofs.KnownLoopLemmas.{then_more}
@@ -25,6 +25,11 @@ two_none [] n = refl
 two_none (v ∷ []) n = refl
 two_none (v ∷ w ∷ []) n = absurd (n refl)
 two_none (v ∷ w ∷ u ∷ vs) n = refl
+
+pub int_none : (n : ℕ) (zs : List ℤ) → length zs ≢ 1 → known_bits_of_int n zs ≡ None
+int_none n [] other = refl
+int_none n (z ∷ []) other = absurd (other refl)
+int_none n (z ∷ y ∷ zs) other = refl
 
 -- the first argument, and what is combined with it
 pub from_first : (combine : BitVector → BitVector → Option BitVector) (xs : List (Option Value))

@@ -1,19 +1,20 @@
 -- Results of operators on bit vectors are of the sorts that ranks give.
 use Rattle.std.proofs.Common.{◌≡◌, ℕ, ◌+◌, ◌-◌, ◌*◌, ◌%◌, ◌^◌, ◌<◌, ◌≤◌, Bool, true, false, cond, ◌&&◌, List, [], ◌∷◌, length}
-use Rattle.std.proofs.Common.{nat_le, nat_lt, refl, sym, ap, ◌∙◌, subst, arith, rules}
+use Rattle.std.proofs.Common.{nat_le, nat_lt, ℤ, refl, sym, ap, ◌∙◌, subst, arith, rules}
 use Rattle.std.proofs.Math.Nat.{mod-lt, one-le-mul}
 use Rattle.std.proofs.Math.Pow.{pow_mono, pow_pos}
 use Rattle.std.proofs.lemmas.List.Sums.{sum_by-cons}
 use Rattle.std.specs.List.{sum}
 use Rattle.std.specs.Prelude.{fold, map}
-use Rattle.smt_bits.specs.BitVector.{BitVector, IsVector, vector}
+use Rattle.smt_bits.specs.BitVector.{BitVector, IsVector, modulo, vector}
+use Rattle.smt_bits.specs.Readings.{IsModulo}
 use Rattle.smt_bits.specs.Operators.{bvneg, bvadd, bvsub, bvmul, bvudiv, bvurem, bvnot, bvand, bvor, bvxor}
 use Rattle.smt_bits.specs.Operators.{bvnand, bvnor, bvxnor, bvsdiv, bvsrem, bvsmod, bvshl, bvlshr, bvashr}
 use Rattle.smt_bits.specs.Operators.{bvcomp, concat, extract, repeat, sign_extend, rotate_left, rotate_right}
 use Rattle.smt_theory.specs.Ranks.{HasRank}
-use Rattle.smt_theory.specs.Shapes.{AreOf, HasShape}
-use Rattle.smt_theory.specs.declared.shapes.Arity.TheVariants.{Several}
-use Rattle.smt_theory.specs.declared.shapes.Shape.TheVariants.{Constant as Nullary, OutOfRange}
+use Rattle.smt_theory.specs.Shapes.{AreOf, HasShape, IsMade}
+use Rattle.smt_theory.specs.declared.shapes.Arity.TheVariants.{One as One1, Several}
+use Rattle.smt_theory.specs.declared.shapes.Shape.TheVariants.{Constant as Nullary, OutOfRange, Uniform}
 use Rattle.smt_theory.specs.declared.op.BitsBinary.{BitsBinary}
 use Rattle.smt_theory.specs.declared.op.BitsBinary.TheVariants.{Nand, Nor, Xnor, Subtract, DivideUnsigned}
 use Rattle.smt_theory.specs.declared.op.BitsBinary.TheVariants.{RemainderUnsigned, DivideSigned}
@@ -24,19 +25,24 @@ use Rattle.smt_theory.specs.declared.op.BitsFolded.TheVariants.{And, Or, Xor, Ad
 use Rattle.smt_theory.specs.declared.op.BitsOp.{BitsOp}
 use Rattle.smt_theory.specs.declared.op.BitsOp.TheVariants.{Constant, Concat, Extract, Unary, Folded, Binary}
 use Rattle.smt_theory.specs.declared.op.BitsOp.TheVariants.{Comparison, Comp, Repeat, ZeroExtend, SignExtend}
-use Rattle.smt_theory.specs.declared.op.BitsOp.TheVariants.{RotateLeft, RotateRight}
+use Rattle.smt_theory.specs.declared.op.BitsOp.TheVariants.{RotateLeft, RotateRight, FromInt, FromIntOlder}
 use Rattle.smt_theory.specs.declared.op.BitsUnary.{BitsUnary}
-use Rattle.smt_theory.specs.declared.op.BitsUnary.TheVariants.{Not, Negate}
+use Rattle.smt_theory.specs.declared.op.BitsUnary.TheVariants.{Not, Negate, NegateOverflows, ToInt, ToIntOlder}
+use Rattle.smt_theory.specs.declared.op.BitsUnary.TheVariants.{SignedToInt}
+use Rattle.smt_theory.specs.Bits.{made_of_one, shape_from_int}
 use Rattle.smt_theory.specs.declared.op.Op.TheVariants.{Bits}
 use Rattle.smt_theory.specs.Sort.{Sort}
-use Rattle.smt_theory.specs.Sort.{Boolean as BoolSort, Bits as BitsSort}
-use Rattle.smt_values.specs.BitOperations.{binary, concatenated, folded, folded_vector, operate_bits, unary}
+use Rattle.smt_theory.specs.Sort.{Boolean as BoolSort, Int as IntSort, Bits as BitsSort}
+use Rattle.smt_values.specs.BitOperations.{binary, bits_of_int, concatenated, folded, folded_vector, of_one as unary_element}
+use Rattle.smt_values.specs.BitOperations.{operate_bits, width_from_int}
 use Rattle.smt_values.specs.Element.{Element, Truth, Integer, Fraction, Vector, Abstract, IsOfSort, AreOfSorts}
-use Rattle.smt_values.specs.Operations.{vector_of}
+use Rattle.smt_values.specs.Operations.{integer_of, operate_on_bits, vector_of}
 
 -- the results fit their widths
 pub record ResultsFit : Type 0 where
-  pub unary_fits : (op : BitsUnary) (m s : ℕ) → unary op m s < 2 ^ m
+  pub not_fits : (m s : ℕ) → bvnot m s < 2 ^ m
+  pub negative_fits : (m s : ℕ) → bvneg m s < 2 ^ m
+  pub integer_fits : (m : ℕ) (z : ℤ) → IsModulo m z (modulo m z)
   pub folded_fits : (op : BitsFolded) (m s t : ℕ) → folded op m s t < 2 ^ m
   pub binary_fits : (op : BitsBinary) (m s t : ℕ) → 1 ≤ m → s < 2 ^ m → binary op m s t < 2 ^ m
   pub concat_fits : (m n s t : ℕ) → s < 2 ^ m → t < 2 ^ n → concat n s t < 2 ^ (m + n)
@@ -46,12 +52,6 @@ pub record ResultsFit : Type 0 where
   pub rotate_left_fits : (i m s : ℕ) → 1 ≤ m → s < 2 ^ m → rotate_left i m s < 2 ^ m
   pub rotate_right_fits : (i m s : ℕ) → 1 ≤ m → s < 2 ^ m → rotate_right i m s < 2 ^ m
   pub comp_fits : (s t : ℕ) → bvcomp s t < 2
-
--- by the operator
-pub unary_fits_by : ((m s : ℕ) → bvnot m s < 2 ^ m) → ((m s : ℕ) → bvneg m s < 2 ^ m)
-    → (op : BitsUnary) (m s : ℕ) → unary op m s < 2 ^ m
-unary_fits_by not neg Not m s = not m s
-unary_fits_by not neg Negate m s = neg m s
 
 -- every result of an operator fits, whatever the numbers are
 abbrev pub AllFit : (ℕ → ℕ → ℕ → ℕ) → Type 0
@@ -212,8 +212,39 @@ module _ (fits : ResultsFit) where
       subst (IsOfSort (BitsSort n)) (sym (ap (operate_bits op) o.is ∙ is o.v))
       (fit o.v o.width o.some o.below)
 
+  unary_of : (op : BitsUnary) (m : ℕ) (sort : Sort) (v : BitVector) → v.width ≡ m → 1 ≤ v.width
+      → IsMade (made_of_one op) m sort → IsOfSort sort (unary_element op v)
+  unary_of Not m sort v w some is =
+      subst (λ s. IsOfSort s (unary_element Not v)) (sym is) (w, (some, fits.not_fits v.width v.number))
+  unary_of Negate m sort v w some is =
+      subst (λ s. IsOfSort s (unary_element Negate v)) (sym is) (w, (some, fits.negative_fits v.width v.number))
+  unary_of NegateOverflows m sort v w some is = subst (λ s. IsOfSort s (unary_element NegateOverflows v)) (sym is) tt
+  unary_of ToInt m sort v w some is = subst (λ s. IsOfSort s (unary_element ToInt v)) (sym is) tt
+  unary_of ToIntOlder m sort v w some is = subst (λ s. IsOfSort s (unary_element ToIntOlder v)) (sym is) tt
+  unary_of SignedToInt m sort v w some is = subst (λ s. IsOfSort s (unary_element SignedToInt v)) (sym is) tt
+
+  -- of an integer so many bits
+  from_int : (n : ℕ) (sorts : List Sort) (sort : Sort) (es : List Element) → HasShape (shape_from_int n) sorts sort
+      → AreOfSorts sorts es → IsOfSort sort (bits_of_int n (map integer_of es))
+  from_int n sorts sort es r h = by (nat_le 1 n && nat_le n 128) positive r
+    where
+      positive : (nat_le 1 n && nat_le n 128) ≡ true → 1 ≤ n
+      positive e = search rules
+
+      only : (es : List Element) → 1 ≤ n → AreOfSorts (IntSort ∷ []) es
+          → IsOfSort (BitsSort n) (bits_of_int n (map integer_of es))
+      only [] some h = absurd h
+      only (e ∷ []) some h = (refl, (some, (fits.integer_fits n (integer_of e)).below))
+      only (e ∷ f ∷ es) some h = absurd h.1
+
+      by : (b : Bool) → (b ≡ true → 1 ≤ n) → HasShape (cond b (Uniform One1 IntSort (BitsSort n)) OutOfRange) sorts sort
+          → IsOfSort sort (bits_of_int n (map integer_of es))
+      by true some r = subst (λ s. IsOfSort s (bits_of_int n (map integer_of es))) (sym r.1)
+          (only es (some refl) (subst (λ ss. AreOfSorts ss es) r.0 h))
+      by false some r = absurd r
+
   pub bits : (op : BitsOp) (sorts : List Sort) (sort : Sort) (es : List Element) → HasRank (Bits op) sorts sort
-      → AreOfSorts sorts es → IsOfSort sort (operate_bits op (map vector_of es))
+      → AreOfSorts sorts es → IsOfSort sort (operate_on_bits (width_from_int op) op es)
   bits (Constant x n) sorts sort es r h = by (nat_le 1 n && nat_le n 128 && nat_lt x (2 ^ n)) positive r
     where
       positive : (nat_le 1 n && nat_le n 128 && nat_lt x (2 ^ n)) ≡ true → 1 ≤ n
@@ -232,10 +263,8 @@ module _ (fits : ResultsFit) where
       (λ v w some below. (refl, (omega arith, fits.extract_fits i j v.number)))
       (subst (λ ss. AreOfSorts ss es) r.1 h))
   bits (Unary op) sorts sort es r h =
-      subst (λ s. IsOfSort s (operate_bits (Unary op) (map vector_of es))) (sym r.2)
-      (of_one (λ v. vector v.width (unary op v.width v.number)) (Unary op) r.0 r.0 es (λ v. refl)
-      (λ v w some below. (w, (some, fits.unary_fits op v.width v.number)))
-      (subst (λ ss. AreOfSorts ss es) r.1 h))
+      let o = one r.0 es (subst (λ ss. AreOfSorts ss es) r.1 h) in
+      subst (λ vs. IsOfSort sort (operate_bits (Unary op) vs)) (sym o.is) (unary_of op r.0 sort o.v o.width o.some r.2)
   bits (Folded op) sorts sort es r h = subst (λ s. IsOfSort s (operate_bits (Folded op) (map vector_of es)))
       (sym r.2) (several_of op r.0 sorts es r.1 h)
   bits (Binary op) sorts sort es r h =
@@ -284,3 +313,5 @@ module _ (fits : ResultsFit) where
       (of_one (λ v. vector v.width (rotate_right i v.width v.number)) (RotateRight i) r.0 r.0 es (λ v. refl)
       (λ v w some below. (w, (some, fits.rotate_right_fits i v.width v.number some below)))
       (subst (λ ss. AreOfSorts ss es) r.1 h))
+  bits (FromInt n) sorts sort es r h = from_int n sorts sort es r h
+  bits (FromIntOlder n) sorts sort es r h = from_int n sorts sort es r h

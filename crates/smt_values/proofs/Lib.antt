@@ -12,6 +12,7 @@ pub mod NumberSortLemmas
 pub mod SortLemmas
 pub mod ConnectiveLemmas
 pub mod ReadingLemmas
+pub mod OverflowLemmas
 pub mod RoundingLemmas
 pub mod PairLemmas
 mod PlacesLemmas

@@ -16,9 +16,11 @@ use Rattle.smt_theory.specs.declared.op.IntsOp.TheVariants.{Arithmetic as Left, 
 use Rattle.smt_theory.specs.declared.op.IntsOp.TheVariants.{Divisible}
 use Rattle.smt_theory.specs.declared.op.Op.{Op}
 use Rattle.smt_theory.specs.declared.op.Op.TheVariants.{Core, Ints, Reals, Bits}
-use Rattle.smt_values.specs.BitOperations.{operate_bits}
-use Rattle.smt_values.specs.KnownBitOperations.{known_bits}
-use Rattle.smt_values.proofs.BitMeaningLemmas.{bits_true}
+use Rattle.smt_values.specs.BitOperations.{bits_of_int, operate_bits, width_from_int}
+use Rattle.smt_values.specs.KnownBitOperations.{known_bits, known_bits_of_int}
+use Rattle.smt_values.specs.KnownOperations.{known_on_bits}
+use Rattle.smt_values.specs.Operations.{operate_on_bits}
+use Rattle.smt_values.proofs.BitMeaningLemmas.{bits_true, int_true}
 use Rattle.smt_values.specs.Element.{Element, Truth, Integer, Fraction, Vector, Abstract, Agrees, AllAgree}
 use Rattle.smt_values.proofs.NumberMeaningLemmas.{KnownAreResults, fraction_agrees, integers_agree, mixed_true}
 use Rattle.smt_values.proofs.NumberMeaningLemmas.{numbers_true, reals_true}
@@ -418,7 +420,14 @@ known_step_true results t (Reals op) ks es h =
     strict_true (known_numbers ks) (known_reals op) (operate_reals t.ratios op (map number_of es))
     (λ rs e. subst (λ ys. Agrees (known_reals op rs) (operate_reals t.ratios op ys))
     (sym (numbers_true ks es rs h e)) (reals_true results t.ratios op rs))
-known_step_true results t (Bits op) ks es h =
-    strict_true (known_vectors ks) (known_bits op) (operate_bits op (map vector_of es))
-    (λ vs e. subst (λ ys. Agrees (known_bits op vs) (operate_bits op ys)) (sym (vectors_true ks es vs h e))
-    (bits_true op vs))
+known_step_true results t (Bits op) ks es h = by (width_from_int op)
+  where
+    by : (o : Option ℕ) → Agrees (known_on_bits o op ks) (operate_on_bits o op es)
+    by (Some n) =
+        strict_true (known_integers ks) (known_bits_of_int n) (bits_of_int n (map integer_of es))
+        (λ zs e. subst (λ ys. Agrees (known_bits_of_int n zs) (bits_of_int n ys)) (sym (integers_true ks es zs h e))
+        (int_true n zs))
+    by None =
+        strict_true (known_vectors ks) (known_bits op) (operate_bits op (map vector_of es))
+        (λ vs e. subst (λ ys. Agrees (known_bits op vs) (operate_bits op ys)) (sym (vectors_true ks es vs h e))
+        (bits_true op vs))

@@ -1,11 +1,13 @@
--- SMT-LIB 2.6, theory FixedSizeBitVectors and logic QF_BV: the meaning of the operators on bit vectors. There
--- is no limit to widths here. What an operator gives for arguments that it has no rank for is of no interest.
-use Rattle.std.specs.Prelude.{ℕ, ◌+◌, ◌-◌, ◌*◌, ◌%◌, ◌^◌, int_le, int_lt, nat_le, nat_lt, List, [], ◌∷◌, Bool}
-use Rattle.std.specs.Prelude.{false, fold}
-use Rattle.smt_bits.specs.BitVector.{BitVector, signed, vector}
+-- SMT-LIB 2.6, theory FixedSizeBitVectors and logic QF_BV, and SMT-LIB 2.7: the meaning of the operators on bit
+-- vectors. There is no limit to widths here. What an operator gives for arguments that it has no rank for is of no
+-- interest.
+use Rattle.std.specs.Prelude.{ℕ, ◌+◌, ◌-◌, ◌*◌, ◌%◌, ◌^◌, ℤ, pos, int_le, int_lt, nat_le, nat_lt, List, [], ◌∷◌}
+use Rattle.std.specs.Prelude.{Bool, false, fold, Option, Some, None}
+use Rattle.smt_bits.specs.BitVector.{BitVector, modulo, signed, vector}
 use Rattle.smt_bits.specs.Operators.{bvneg, bvadd, bvsub, bvmul, bvudiv, bvurem, bvnot, bvand, bvor, bvxor}
 use Rattle.smt_bits.specs.Operators.{bvnand, bvnor, bvxnor, bvsdiv, bvsrem, bvsmod, bvshl, bvlshr, bvashr}
 use Rattle.smt_bits.specs.Operators.{bvcomp, concat, extract, repeat, sign_extend, rotate_left, rotate_right}
+use Rattle.smt_bits.specs.Operators.{bvnego, bvuaddo, bvsaddo, bvumulo, bvsmulo, bvusubo, bvssubo, bvsdivo}
 use Rattle.smt_theory.specs.declared.op.BitsBinary.{BitsBinary}
 use Rattle.smt_theory.specs.declared.op.BitsBinary.TheVariants.{Nand, Nor, Xnor, Subtract, DivideUnsigned}
 use Rattle.smt_theory.specs.declared.op.BitsBinary.TheVariants.{RemainderUnsigned, DivideSigned}
@@ -15,22 +17,23 @@ use Rattle.smt_theory.specs.declared.op.BitsComparison.{BitsComparison}
 use Rattle.smt_theory.specs.declared.op.BitsComparison.TheVariants.{UnsignedLess, UnsignedAtMost}
 use Rattle.smt_theory.specs.declared.op.BitsComparison.TheVariants.{UnsignedGreater, UnsignedAtLeast}
 use Rattle.smt_theory.specs.declared.op.BitsComparison.TheVariants.{SignedLess, SignedAtMost, SignedGreater}
-use Rattle.smt_theory.specs.declared.op.BitsComparison.TheVariants.{SignedAtLeast}
+use Rattle.smt_theory.specs.declared.op.BitsComparison.TheVariants.{SignedAtLeast, UnsignedAddOverflows}
+use Rattle.smt_theory.specs.declared.op.BitsComparison.TheVariants.{SignedAddOverflows, UnsignedMultiplyOverflows}
+use Rattle.smt_theory.specs.declared.op.BitsComparison.TheVariants.{SignedMultiplyOverflows}
+use Rattle.smt_theory.specs.declared.op.BitsComparison.TheVariants.{UnsignedSubtractOverflows}
+use Rattle.smt_theory.specs.declared.op.BitsComparison.TheVariants.{SignedSubtractOverflows, SignedDivideOverflows}
 use Rattle.smt_theory.specs.declared.op.BitsFolded.{BitsFolded}
 use Rattle.smt_theory.specs.declared.op.BitsFolded.TheVariants.{And, Or, Xor, Add, Multiply}
 use Rattle.smt_theory.specs.declared.op.BitsOp.{BitsOp}
 use Rattle.smt_theory.specs.declared.op.BitsOp.TheVariants.{Constant, Concat, Extract, Unary, Folded, Binary}
 use Rattle.smt_theory.specs.declared.op.BitsOp.TheVariants.{Comparison, Comp, Repeat, ZeroExtend, SignExtend}
-use Rattle.smt_theory.specs.declared.op.BitsOp.TheVariants.{RotateLeft, RotateRight}
+use Rattle.smt_theory.specs.declared.op.BitsOp.TheVariants.{RotateLeft, RotateRight, FromInt, FromIntOlder}
 use Rattle.smt_theory.specs.declared.op.BitsUnary.{BitsUnary}
-use Rattle.smt_theory.specs.declared.op.BitsUnary.TheVariants.{Not, Negate}
-use Rattle.smt_values.specs.Element.{Element, Truth, Vector}
+use Rattle.smt_theory.specs.declared.op.BitsUnary.TheVariants.{Not, Negate, NegateOverflows, ToInt, ToIntOlder}
+use Rattle.smt_theory.specs.declared.op.BitsUnary.TheVariants.{SignedToInt}
+use Rattle.smt_values.specs.Element.{Element, Truth, Integer, Vector}
 
 -- ---- on numbers of m bits
-
-abbrev pub unary : BitsUnary → ℕ → ℕ → ℕ
-unary Not m s = bvnot m s
-unary Negate m s = bvneg m s
 
 abbrev pub folded : BitsFolded → ℕ → ℕ → ℕ → ℕ
 folded And m s t = bvand m s t
@@ -62,11 +65,23 @@ compares_bits SignedLess m s t = int_lt (signed m s) (signed m t)
 compares_bits SignedAtMost m s t = int_le (signed m s) (signed m t)
 compares_bits SignedGreater m s t = int_lt (signed m t) (signed m s)
 compares_bits SignedAtLeast m s t = int_le (signed m t) (signed m s)
+compares_bits UnsignedAddOverflows m s t = bvuaddo m s t
+compares_bits SignedAddOverflows m s t = bvsaddo m s t
+compares_bits UnsignedMultiplyOverflows m s t = bvumulo m s t
+compares_bits SignedMultiplyOverflows m s t = bvsmulo m s t
+compares_bits UnsignedSubtractOverflows m s t = bvusubo m s t
+compares_bits SignedSubtractOverflows m s t = bvssubo m s t
+compares_bits SignedDivideOverflows m s t = bvsdivo m s t
 
 -- ---- on vectors; where there are two, they are of one width
 
-abbrev pub unary_vector : BitsUnary → BitVector → BitVector
-unary_vector op s = vector s.width (unary op s.width s.number)
+abbrev pub of_one : BitsUnary → BitVector → Element
+of_one Not s = Vector (vector s.width (bvnot s.width s.number))
+of_one Negate s = Vector (vector s.width (bvneg s.width s.number))
+of_one NegateOverflows s = Truth (bvnego s.width s.number)
+of_one ToInt s = Integer (pos s.number)
+of_one ToIntOlder s = Integer (pos s.number)
+of_one SignedToInt s = Integer (signed s.width s.number)
 
 abbrev pub folded_vector : BitsFolded → BitVector → BitVector → BitVector
 folded_vector op s t = vector s.width (folded op s.width s.number t.number)
@@ -92,7 +107,7 @@ abbrev pub operate_bits : BitsOp → List BitVector → Element
 operate_bits (Constant x n) args = Vector (vector n (x % 2 ^ n))
 operate_bits Concat (s ∷ rest) = Vector (fold concatenated s rest)
 operate_bits (Extract i j) (s ∷ []) = Vector (vector (i - j + 1) (extract i j s.number))
-operate_bits (Unary op) (s ∷ []) = Vector (unary_vector op s)
+operate_bits (Unary op) (s ∷ []) = of_one op s
 operate_bits (Folded op) (s ∷ rest) = Vector (fold (folded_vector op) s rest)
 operate_bits (Binary op) (s ∷ t ∷ []) = Vector (binary_vector op s t)
 operate_bits (Comparison op) (s ∷ t ∷ []) = Truth (are_compared op s t)
@@ -103,3 +118,16 @@ operate_bits (SignExtend i) (s ∷ []) = Vector (vector (s.width + i) (sign_exte
 operate_bits (RotateLeft i) (s ∷ []) = Vector (rotated_left i s)
 operate_bits (RotateRight i) (s ∷ []) = Vector (rotated_right i s)
 operate_bits _ _ = Truth false
+
+-- ---- of integers
+
+-- the width of what an operator makes of an integer; the others make something of bit vectors
+abbrev pub width_from_int : BitsOp → Option ℕ
+width_from_int (FromInt n) = Some n
+width_from_int (FromIntOlder n) = Some n
+width_from_int _ = None
+
+-- the n bits of the only one of these integers
+abbrev pub bits_of_int : ℕ → List ℤ → Element
+bits_of_int n (z ∷ []) = Vector (vector n (modulo n z))
+bits_of_int n _ = Truth false

@@ -19,7 +19,9 @@ use Rattle.smt_theory.specs.declared.op.IntsOp.TheVariants.{Divisible}
 use Rattle.smt_theory.specs.declared.op.Op.{Op}
 use Rattle.smt_theory.specs.declared.op.Op.TheVariants.{Core, Ints, Reals, Bits}
 use Rattle.smt_values.specs.Element.{Element, Truth, Integer, Vector}
-use Rattle.smt_values.specs.KnownBitOperations.{known_bits}
+use Rattle.smt_theory.specs.declared.op.BitsOp.{BitsOp}
+use Rattle.smt_values.specs.BitOperations.{width_from_int}
+use Rattle.smt_values.specs.KnownBitOperations.{known_bits, known_bits_of_int}
 use Rattle.smt_values.specs.KnownNumbers.{is_known_fraction, known_mixed, known_numbers, known_reals}
 use Rattle.smt_values.specs.Lists.{all_known, are_chained, are_distinct, steps_from}
 use Rattle.smt_values.specs.Operations.{is_same, exclusive_or, compares, divides}
@@ -142,6 +144,11 @@ known_integers args = all_known (map known_integer args)
 abbrev pub known_vectors : List (Option Element) → Option (List BitVector)
 known_vectors args = all_known (map known_vector args)
 
+-- of an integer so many bits, or what is made of bit vectors
+abbrev pub known_on_bits : Option ℕ → BitsOp → List (Option Element) → Option Element
+known_on_bits (Some n) op args = option_and_then (known_bits_of_int n) (known_integers args)
+known_on_bits None op args = option_and_then (known_bits op) (known_vectors args)
+
 -- ---- all
 
 -- what is known of the result of an operator for arguments of which this much is known
@@ -151,4 +158,4 @@ known_step (Ints op) args =
     if list_any is_known_fraction args then option_and_then (known_mixed op) (known_numbers args)
     else option_and_then (known_ints op) (known_integers args)
 known_step (Reals op) args = option_and_then (known_reals op) (known_numbers args)
-known_step (Bits op) args = option_and_then (known_bits op) (known_vectors args)
+known_step (Bits op) args = known_on_bits (width_from_int op) op args

@@ -2,7 +2,8 @@
 -- Numbers and widths have no bounds here. What an operator gives for arguments that it has no rank for is of
 -- no interest.
 use Rattle.std.specs.Prelude.{ℕ, ◌%◌, ℤ, pos, ◌+ℤ◌, ◌-ℤ◌, ◌*ℤ◌, neg_ℤ, unsigned_abs, int_le, int_lt, List, []}
-use Rattle.std.specs.Prelude.{◌∷◌, Bool, true, false, not, ◌&&◌, ◌||◌, ◌==◌, map, fold, bytes_eq, if◌then◌else◌}
+use Rattle.std.specs.Prelude.{◌∷◌, Bool, true, false, not, ◌&&◌, ◌||◌, ◌==◌, Option, Some, None, map, fold, bytes_eq}
+use Rattle.std.specs.Prelude.{if◌then◌else◌}
 use Rattle.std.specs.Bool.{beq}
 use Rattle.std.specs.Int.{int_div_euclid, int_rem_euclid}
 use Rattle.std.specs.List.{list_all, list_any}
@@ -20,7 +21,8 @@ use Rattle.smt_theory.specs.declared.op.IntsOp.TheVariants.{Arithmetic as Left, 
 use Rattle.smt_theory.specs.declared.op.IntsOp.TheVariants.{Divisible}
 use Rattle.smt_theory.specs.declared.op.Op.{Op}
 use Rattle.smt_theory.specs.declared.op.Op.TheVariants.{Core, Ints, Reals, Bits}
-use Rattle.smt_values.specs.BitOperations.{operate_bits}
+use Rattle.smt_theory.specs.declared.op.BitsOp.{BitsOp}
+use Rattle.smt_values.specs.BitOperations.{bits_of_int, operate_bits, width_from_int}
 use Rattle.smt_values.specs.Element.{Element, Truth, Integer, Fraction, Vector, Abstract}
 use Rattle.smt_values.specs.Lists.{are_chained, are_distinct}
 use Rattle.smt_values.specs.Numbers.{Quotient, is_fraction, number_of, operate_numbers, operate_reals}
@@ -128,6 +130,13 @@ operate_ints z Abs (a ∷ []) = Integer (pos (unsigned_abs a))
 operate_ints z (Divisible n) (a ∷ []) = Truth (divides n a)
 operate_ints z _ _ = Truth false
 
+-- ---- theory FixedSizeBitVectors
+
+-- of an integer so many bits, or what is made of bit vectors
+abbrev pub operate_on_bits : Option ℕ → BitsOp → List Element → Element
+operate_on_bits (Some n) op args = bits_of_int n (map integer_of args)
+operate_on_bits None op args = operate_bits op (map vector_of args)
+
 -- ---- all
 
 -- What an operator makes of its arguments, where division by zero gives what z has. Of integers the operators on
@@ -138,4 +147,4 @@ operate z (Ints op) args =
     if list_any is_fraction args then operate_numbers op (map number_of args)
     else operate_ints z op (map integer_of args)
 operate z (Reals op) args = operate_reals z.ratios op (map number_of args)
-operate z (Bits op) args = operate_bits op (map vector_of args)
+operate z (Bits op) args = operate_on_bits (width_from_int op) op args

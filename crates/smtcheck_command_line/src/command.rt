@@ -19,7 +19,7 @@ use smt_theory::Profile;
 use std::alloc::{AllocError, Global};
 
 /// The version of the program and the kit that proves it, which `--version` prints after the program's name.
-const VERSION: &str = "0.11.0 (rattle-kit-13b logic dac8208d650f15bf)";
+const VERSION: &str = "0.12.0 (rattle-kit-13f logic dac8208d650f15bf)";
 
 const ABOUT: &str = "Checks the models that an SMT solver printed.
 
@@ -46,10 +46,10 @@ A script's own (set-option :print-success ..) is followed from there on.
 const PROFILE: &str = "Which language is taken; docs/LANGUAGE.md has both.
 
 base: scripts over truth values, integers and bit vectors, in the forms of SMT-LIB 2.6
-wide: the same, and forms that real scripts and models have besides: (push) and (pop) without a numeral, \
-define-const, declare-sort, terms as assumptions, the names of more logics, `unsupported` as answer to a set-logic \
-of another name, and items of a model that repeat a label or a definition of the script or tell of declared sorts, \
-as z3 prints them
+wide: the same, reals, operators of SMT-LIB 2.7 on bit vectors, and forms that real scripts and models have \
+besides: (push) and (pop) without a numeral, define-const, declare-sort, terms as assumptions, the names of more \
+logics, `unsupported` as answer to a set-logic of another name, and items of a model that repeat a label or a \
+definition of the script or tell of declared sorts, as z3 prints them
 
 [default: base]";
 

@@ -3,10 +3,10 @@
 
 ghost use Rattle.std.specs.Prelude.{◌≡◌, ◌↔◌, ℕ, List, [], ◌∷◌, Bool, true, false, Ok, Err, Option, Some, None, All};
 ghost use Rattle.std.specs.Prelude.{◌⊎◌, codes};
-ghost use Rattle.smt_theory.specs.Index.{Number};
+ghost use Rattle.smt_theory.specs.Index.{IndexView, Number};
 ghost use Rattle.smt_theory.specs.Operators.{op_by};
 ghost use Rattle.smt_theory.specs.Ranks.{rank_of};
-ghost use Rattle.smt_theory.specs.Sort.{Boolean, Int, Real, Sort};
+ghost use Rattle.smt_theory.specs.Sort.{Bits as Vector, Boolean, Int, Real, Sort};
 ghost use Rattle.smt_theory.specs.Theories.{AreWideLogicsOf, all_theories, theories_named};
 ghost use Rattle.smt_theory.specs.declared.op.Arithmetic.TheVariants as arithmetic;
 ghost use Rattle.smt_theory.specs.declared.op.BitsBinary.TheVariants as binary;
@@ -22,7 +22,7 @@ ghost use Rattle.smt_theory.specs.declared.op.IntsOp.{IntsOp};
 ghost use Rattle.smt_theory.specs.declared.op.IntsOp.TheVariants as ints;
 ghost use Rattle.smt_theory.specs.declared.op.Op.{Op};
 ghost use Rattle.smt_theory.specs.declared.op.Op.TheVariants.{Core, Ints, Reals, Bits};
-ghost use Rattle.smt_theory.specs.declared.op.OpFault.TheVariants.{Unknown};
+ghost use Rattle.smt_theory.specs.declared.op.OpFault.TheVariants.{Index, Unknown};
 ghost use Rattle.smt_theory.specs.declared.op.RealsOp.{RealsOp};
 ghost use Rattle.smt_theory.specs.declared.op.RealsOp.TheVariants as reals;
 ghost use Rattle.smt_theory.specs.declared.profile.Profile.TheVariants.{Base, Wide};
@@ -117,6 +117,53 @@ pub fn plain_names_of_vectors_are_the_standards()
         ∷ (codes "bvsle", bits.Comparison compare.SignedAtMost)
         ∷ (codes "bvsgt", bits.Comparison compare.SignedGreater)
         ∷ (codes "bvsge", bits.Comparison compare.SignedAtLeast) ∷ (codes "bvcomp", bits.Comp) ∷ []) }
+{}
+
+/// Which operator each symbol names that the profile Wide adds to those on bit vectors (SMT-LIB 2.7, theory
+/// FixedSizeBitVectors; `bv2nat` and `int2bv` are older names). Those between integers and bit vectors are there only
+/// with both, and nothing of this without the profile.
+pub fn names_that_wide_adds_to_vectors_are_those()
+    ensures plain { All (λ (row : List ℕ × BitsOp). op_by (all_theories Wide) row.0 [] ≡ Ok (Bits row.1))
+        ((codes "bvnego", bits.Unary unary.NegateOverflows)
+        ∷ (codes "bvuaddo", bits.Comparison compare.UnsignedAddOverflows)
+        ∷ (codes "bvsaddo", bits.Comparison compare.SignedAddOverflows)
+        ∷ (codes "bvumulo", bits.Comparison compare.UnsignedMultiplyOverflows)
+        ∷ (codes "bvsmulo", bits.Comparison compare.SignedMultiplyOverflows)
+        ∷ (codes "bvusubo", bits.Comparison compare.UnsignedSubtractOverflows)
+        ∷ (codes "bvssubo", bits.Comparison compare.SignedSubtractOverflows)
+        ∷ (codes "bvsdivo", bits.Comparison compare.SignedDivideOverflows)
+        ∷ (codes "ubv_to_int", bits.Unary unary.ToInt) ∷ (codes "bv2nat", bits.Unary unary.ToIntOlder)
+        ∷ (codes "sbv_to_int", bits.Unary unary.SignedToInt) ∷ []) }
+    ensures indexed { All (λ (row : List ℕ × BitsOp). op_by (all_theories Wide) row.0 (Number 128 ∷ [])
+        ≡ Ok (Bits row.1))
+        ((codes "int_to_bv", bits.FromInt 128) ∷ (codes "int2bv", bits.FromIntOlder 128) ∷ []) }
+    ensures index { All (λ (indexes : List IndexView). op_by (all_theories Wide) (codes "int2bv") indexes ≡ Err Index)
+        ((Number 0 ∷ []) ∷ (Number 129 ∷ []) ∷ (Number 8 ∷ Number 8 ∷ []) ∷ []) }
+    ensures lacking { All (λ (row : List ℕ × List IndexView). op_by
+        (record { ints = false; bits = true; reals = true; arrays = true; wide = true }) row.0 row.1 ≡ Err Unknown)
+        ((codes "ubv_to_int", []) ∷ (codes "bv2nat", []) ∷ (codes "sbv_to_int", [])
+        ∷ (codes "int_to_bv", Number 8 ∷ []) ∷ (codes "int2bv", Number 8 ∷ []) ∷ []) }
+    ensures base { All (λ (row : List ℕ × List IndexView). op_by (all_theories Base) row.0 row.1 ≡ Err Unknown)
+        ((codes "bvnego", []) ∷ (codes "bvuaddo", []) ∷ (codes "bvsaddo", []) ∷ (codes "bvumulo", [])
+        ∷ (codes "bvsmulo", []) ∷ (codes "bvusubo", []) ∷ (codes "bvssubo", []) ∷ (codes "bvsdivo", [])
+        ∷ (codes "ubv_to_int", []) ∷ (codes "bv2nat", []) ∷ (codes "sbv_to_int", [])
+        ∷ (codes "int_to_bv", Number 8 ∷ []) ∷ (codes "int2bv", Number 8 ∷ []) ∷ []) }
+{}
+
+/// Which sorts the operators between bit vectors and integers, and those that tell of overflow, accept and give.
+pub fn ranks_that_wide_adds_to_vectors_are_those()
+    ensures ranks { All (λ (row : BitsOp × List Sort × Sort). rank_of (Bits row.0) row.1 ≡ Some row.2)
+        ((bits.Unary unary.NegateOverflows, Vector 8 ∷ [], Boolean)
+        ∷ (bits.Comparison compare.SignedMultiplyOverflows, Vector 128 ∷ Vector 128 ∷ [], Boolean)
+        ∷ (bits.Unary unary.ToInt, Vector 8 ∷ [], Int) ∷ (bits.Unary unary.ToIntOlder, Vector 1 ∷ [], Int)
+        ∷ (bits.Unary unary.SignedToInt, Vector 128 ∷ [], Int) ∷ (bits.FromInt 8, Int ∷ [], Vector 8)
+        ∷ (bits.FromIntOlder 128, Int ∷ [], Vector 128) ∷ []) }
+    ensures none { All (λ (row : BitsOp × List Sort). rank_of (Bits row.0) row.1 ≡ None)
+        ((bits.Unary unary.NegateOverflows, Vector 8 ∷ Vector 8 ∷ [])
+        ∷ (bits.Comparison compare.UnsignedAddOverflows, Vector 8 ∷ Vector 8 ∷ Vector 8 ∷ [])
+        ∷ (bits.Comparison compare.UnsignedAddOverflows, Vector 8 ∷ Vector 9 ∷ [])
+        ∷ (bits.Unary unary.ToInt, Int ∷ []) ∷ (bits.FromInt 8, Vector 8 ∷ []) ∷ (bits.FromInt 8, Real ∷ [])
+        ∷ (bits.FromInt 0, Int ∷ []) ∷ (bits.FromInt 129, Int ∷ []) ∷ []) }
 {}
 
 /// Which operator a symbol with indexes names (SMT-LIB 2.6, theory Ints and logic QF_BV).

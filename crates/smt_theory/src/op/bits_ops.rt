@@ -1,10 +1,11 @@
-//! The theory FixedSizeBitVectors, with what the logic QF_BV adds: its operators by name and indexes, each with its
-//! shape. This file knows no other theory, and no bits.
+//! The theory FixedSizeBitVectors, with what the logic QF_BV and SMT-LIB 2.7 add: its operators by name and indexes,
+//! each with its shape, and which of them there are. This file knows no bits.
 
 ghost use Rattle.std.specs.Prelude.{◌≡◌, ◌==◌, IfNone, IfSome, IsTrue, map, option_map, bytes_eq, codes};
 ghost use Rattle.std.specs.Option.{option_copied};
 ghost use Rattle.smt_theory.specs.Bits.{bits_named, constant_by, extract_by, repeat_by};
-ghost use Rattle.smt_theory.specs.Bits.{indexed_bits};
+ghost use Rattle.smt_theory.specs.Bits.{added_op, conversion_plain, has_conversions, indexed_bits, named_among};
+ghost use Rattle.smt_theory.specs.Bits.{overflow_plain};
 ghost use Rattle.smt_theory.specs.Bits as names;
 ghost use Rattle.smt_theory.specs.declared.op.BitsOp.TheVariants as ops;
 ghost use Rattle.smt_theory.specs.declared.op.Op.TheVariants.{Bits};
@@ -22,6 +23,7 @@ use crate::op::{BitsBinary, BitsComparison, BitsFolded, BitsOp, BitsUnary, OpFau
 use crate::shapes::{Arity, Made, Shape};
 use crate::sort::Sort;
 use crate::symbols::{byte_at, is_named};
+use crate::theories::Theories;
 use crate::width::Width;
 
 /// How an operator on bit vectors takes its arguments.
@@ -33,7 +35,7 @@ pub(crate) fn shape_in_bits(op: BitsOp) -> Shape
         BitsOp::Constant(number, width) => shape_of_constant(number, width),
         BitsOp::Concat => Shape::Joined,
         BitsOp::Extract(i, j) => Shape::Vectors(Arity::One, Made::Slice(i, j)),
-        BitsOp::Unary(_) => Shape::Vectors(Arity::One, Made::Same),
+        BitsOp::Unary(op) => Shape::Vectors(Arity::One, made_of_one(op)),
         BitsOp::Folded(_) => Shape::Vectors(Arity::Several, Made::Same),
         BitsOp::Binary(_) => Shape::Vectors(Arity::Two, Made::Same),
         BitsOp::Comparison(_) => of_two_vectors(Sort::bool()),
@@ -44,6 +46,28 @@ pub(crate) fn shape_in_bits(op: BitsOp) -> Shape
             Made::Longer(i),
         ),
         BitsOp::RotateLeft(_) | BitsOp::RotateRight(_) => Shape::Vectors(Arity::One, Made::Same),
+        BitsOp::FromInt(width) | BitsOp::FromIntOlder(width) => shape_from_int(width),
+    }
+}
+
+#[inline(always)]
+fn shape_from_int(width: Width) -> Shape
+    ensures { result ≡ names.shape_from_int width }
+{
+    Shape::Uniform(Arity::One, Sort::int(), Sort::bits(width))
+}
+
+// What is made of one bit vector.
+#[inline(always)]
+fn made_of_one(op: BitsUnary) -> Made
+    ensures { result ≡ names.made_of_one op }
+{
+    match op {
+        BitsUnary::Not | BitsUnary::Negate => Made::Same,
+        BitsUnary::NegateOverflows => Made::Given(Sort::bool()),
+        BitsUnary::ToInt | BitsUnary::ToIntOlder | BitsUnary::SignedToInt => Made::Given(
+            Sort::int(),
+        ),
     }
 }
 
@@ -85,6 +109,70 @@ pub(crate) fn plain_bits(op: BitsOp) -> Option<PlainOp>
         BitsOp::SignExtend(_) => None,
         BitsOp::RotateLeft(_) => None,
         BitsOp::RotateRight(_) => None,
+        BitsOp::FromInt(_) => None,
+        BitsOp::FromIntOlder(_) => None,
+    }
+}
+
+/// Whether integers become bit vectors in these theories, and bit vectors integers.
+#[inline(always)]
+pub(crate) fn has_conversions(theories: Theories) -> bool
+    ensures { result ≡ has_conversions theories }
+{
+    theories.wide && theories.bits && theories.ints
+}
+
+/// The plain operator of this name that the profile Wide adds.
+pub(crate) fn added_op(theories: Theories, symbol: &[u8]) -> Option<PlainOp>
+    ensures { option_map op_of_plain result ≡ option_map Bits (added_op theories symbol.now) }
+{
+    if !theories.wide || !theories.bits {
+        return None;
+    }
+    match overflow_op(symbol) {
+        Some(op) => Some(op),
+        None if theories.ints => conversion_op(symbol),
+        None => None,
+    }
+}
+
+// The operator of this name that tells whether a result overflows.
+fn overflow_op(symbol: &[u8]) -> Option<PlainOp>
+    ensures { option_map op_of_plain result ≡ option_map Bits (named_among overflow_plain symbol.now) }
+{
+    if is_named(symbol, b"bvnego") {
+        Some(PlainOp::Unary(BitsUnary::NegateOverflows))
+    } else if is_named(symbol, b"bvuaddo") {
+        Some(PlainOp::BitsOrder(BitsComparison::UnsignedAddOverflows))
+    } else if is_named(symbol, b"bvsaddo") {
+        Some(PlainOp::BitsOrder(BitsComparison::SignedAddOverflows))
+    } else if is_named(symbol, b"bvumulo") {
+        Some(PlainOp::BitsOrder(BitsComparison::UnsignedMultiplyOverflows))
+    } else if is_named(symbol, b"bvsmulo") {
+        Some(PlainOp::BitsOrder(BitsComparison::SignedMultiplyOverflows))
+    } else if is_named(symbol, b"bvusubo") {
+        Some(PlainOp::BitsOrder(BitsComparison::UnsignedSubtractOverflows))
+    } else if is_named(symbol, b"bvssubo") {
+        Some(PlainOp::BitsOrder(BitsComparison::SignedSubtractOverflows))
+    } else if is_named(symbol, b"bvsdivo") {
+        Some(PlainOp::BitsOrder(BitsComparison::SignedDivideOverflows))
+    } else {
+        None
+    }
+}
+
+// The operator of this name that makes an integer of a bit vector.
+fn conversion_op(symbol: &[u8]) -> Option<PlainOp>
+    ensures { option_map op_of_plain result ≡ option_map Bits (named_among conversion_plain symbol.now) }
+{
+    if is_named(symbol, b"ubv_to_int") {
+        Some(PlainOp::Unary(BitsUnary::ToInt))
+    } else if is_named(symbol, b"bv2nat") {
+        Some(PlainOp::Unary(BitsUnary::ToIntOlder))
+    } else if is_named(symbol, b"sbv_to_int") {
+        Some(PlainOp::Unary(BitsUnary::SignedToInt))
+    } else {
+        None
     }
 }
 
@@ -169,6 +257,10 @@ pub(crate) fn unary_name(op: BitsUnary) -> &'static [u8]
     match op {
         BitsUnary::Not => b"bvnot",
         BitsUnary::Negate => b"bvneg",
+        BitsUnary::NegateOverflows => b"bvnego",
+        BitsUnary::ToInt => b"ubv_to_int",
+        BitsUnary::ToIntOlder => b"bv2nat",
+        BitsUnary::SignedToInt => b"sbv_to_int",
     }
 }
 
@@ -218,12 +310,24 @@ pub(crate) fn comparison_name(op: BitsComparison) -> &'static [u8]
         BitsComparison::SignedAtMost => b"bvsle",
         BitsComparison::SignedGreater => b"bvsgt",
         BitsComparison::SignedAtLeast => b"bvsge",
+        BitsComparison::UnsignedAddOverflows => b"bvuaddo",
+        BitsComparison::SignedAddOverflows => b"bvsaddo",
+        BitsComparison::UnsignedMultiplyOverflows => b"bvumulo",
+        BitsComparison::SignedMultiplyOverflows => b"bvsmulo",
+        BitsComparison::UnsignedSubtractOverflows => b"bvusubo",
+        BitsComparison::SignedSubtractOverflows => b"bvssubo",
+        BitsComparison::SignedDivideOverflows => b"bvsdivo",
     }
 }
 
-/// The operator of this name with these indexes, of which there is at least one.
-pub(crate) fn indexed_bits_op(symbol: &[u8], indexes: &[Index]) -> Result<BitsOp, OpFault>
-    ensures { result ≡ indexed_bits symbol.now (map index_view indexes.now) }
+/// The operator of this name with these indexes, of which there is at least one; those that make bit vectors of
+/// integers are asked for only where the theories convert.
+pub(crate) fn indexed_bits_op(
+    converts: bool,
+    symbol: &[u8],
+    indexes: &[Index],
+) -> Result<BitsOp, OpFault>
+    ensures { result ≡ indexed_bits converts symbol.now (map index_view indexes.now) }
 {
     let op = if is_named(symbol, b"extract") {
         extract(indexes)
@@ -237,6 +341,19 @@ pub(crate) fn indexed_bits_op(symbol: &[u8], indexes: &[Index]) -> Result<BitsOp
         only_number(indexes).map(BitsOp::RotateLeft)
     } else if is_named(symbol, b"rotate_right") {
         only_number(indexes).map(BitsOp::RotateRight)
+    } else {
+        return indexed_other(converts, symbol, indexes);
+    };
+    op.ok_or(OpFault::Index)
+}
+
+fn indexed_other(converts: bool, symbol: &[u8], indexes: &[Index]) -> Result<BitsOp, OpFault>
+    ensures { result ≡ names.indexed_other converts symbol.now (map index_view indexes.now) }
+{
+    let op = if is_named(symbol, b"int_to_bv") && converts {
+        only_width(indexes).map(BitsOp::FromInt)
+    } else if is_named(symbol, b"int2bv") && converts {
+        only_width(indexes).map(BitsOp::FromIntOlder)
     } else if let Some(digits) = constant_digits(symbol) {
         constant(digits, indexes)
     } else {
@@ -261,10 +378,17 @@ fn repeat(indexes: &[Index]) -> Option<BitsOp>
     (i > 0).then_some(BitsOp::Repeat(i))
 }
 
+// The width that is the only index.
+fn only_width(indexes: &[Index]) -> Option<Width>
+    ensures { result ≡ names.only_width (map index_view indexes.now) }
+{
+    Width::new(only_number(indexes)?)
+}
+
 fn constant(digits: &[u8], indexes: &[Index]) -> Option<BitsOp>
     ensures { result ≡ constant_by digits.now (map index_view indexes.now) }
 {
-    let width = Width::new(only_number(indexes)?)?;
+    let width = only_width(indexes)?;
     let value = number(10, digits)?;
     width.holds(value).then_some(BitsOp::Constant(value, width))
 }

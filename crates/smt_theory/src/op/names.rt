@@ -8,7 +8,8 @@ ghost use Rattle.smt_theory.specs.Words.{if_named};
 
 use crate::index::Index;
 use crate::op::bits_ops::{
-    binary_name, bits_op, comparison_name, folded_name, indexed_bits_op, unary_name,
+    added_op, binary_name, bits_op, comparison_name, folded_name, has_conversions, indexed_bits_op,
+    unary_name,
 };
 use crate::op::core_ops::{core_name, core_op};
 use crate::op::ints_ops::{arithmetic_name, divisible, order_name};
@@ -53,7 +54,10 @@ pub fn plain_op_of(theories: Theories, symbol: &[u8]) -> Option<PlainOp>
     {
         return Some(op);
     }
-    reals_op(theories, symbol)
+    if let Some(op) = reals_op(theories, symbol) {
+        return Some(op);
+    }
+    added_op(theories, symbol)
 }
 
 fn indexed(theories: Theories, symbol: &[u8], indexes: &[Index]) -> Result<Op, OpFault>
@@ -62,7 +66,7 @@ fn indexed(theories: Theories, symbol: &[u8], indexes: &[Index]) -> Result<Op, O
     if theories.ints && is_named(symbol, b"divisible") {
         divisible(indexes).ok_or(OpFault::Index)
     } else if theories.bits {
-        indexed_bits_op(symbol, indexes).map(Op::Bits)
+        indexed_bits_op(has_conversions(theories), symbol, indexes).map(Op::Bits)
     } else {
         Err(OpFault::Unknown)
     }

@@ -1,29 +1,31 @@
-//! The operators of the theory FixedSizeBitVectors, and those that the logic QF_BV adds, on elements of which
-//! some may be open. This file computes no bits: `smt_bits` does.
+//! The operators of the theory FixedSizeBitVectors, and those that the logic QF_BV and SMT-LIB 2.7 add, on elements of
+//! which some may be open. This file computes no bits: `smt_bits` does.
 
 ghost use Rattle.std.specs.Prelude.{◌≡◌, ◌∷◌, ◌%◌, ◌^◌, [], option_and_then, option_map, MatchOption};
+ghost use Rattle.smt_theory.specs.declared.op.Op.TheVariants as ops;
 ghost use Rattle.smt_bits.specs.BitVector.{vector};
 ghost use Rattle.smt_bits.specs.Parts.{concatenation};
 ghost use Rattle.smt_values.specs.BitOperations as meaning;
 ghost use Rattle.smt_values.specs.Element.{known_element, known_elements};
-ghost use Rattle.smt_values.specs.KnownBitOperations.{known_bits, known_folded, known_from_left, none_given};
-ghost use Rattle.smt_values.specs.KnownBitOperations.{the_only, two_of_one_width};
-ghost use Rattle.smt_values.specs.KnownOperations.{known_vector, known_vectors};
+ghost use Rattle.smt_values.specs.KnownBitOperations.{known_bits_of_int, known_folded, known_from_left, known_number};
+ghost use Rattle.smt_values.specs.KnownBitOperations.{known_of_one, none_given, the_only, two_of_one_width};
+ghost use Rattle.smt_values.specs.KnownOperations.{known_integers, known_step, known_vector, known_vectors};
 ghost use Rattle.smt_values.specs.Lists.{steps_from};
 
+use super::ints::integer;
+use crate::integer::Integer;
 use crate::value::Value;
 use smt_bits::{Bits, arithmetic, bitwise, parts, shifts, signed};
 use smt_theory::{BitsBinary, BitsComparison, BitsFolded, BitsOp, BitsUnary, Width};
 
 pub(crate) fn apply_bits(op: BitsOp, args: &[Option<Value>]) -> Option<Value>
-    ensures { known_element result
-        ≡ option_and_then (known_bits op) (known_vectors (known_elements args.now)) }
+    ensures { known_element result ≡ known_step (ops.Bits op) (known_elements args.now) }
 {
     match op {
         BitsOp::Constant(number, width) => constant(number, width, args).map(Value::Bits),
         BitsOp::Concat => concatenated(args).map(Value::Bits),
         BitsOp::Extract(i, j) => parts::extract(i, j, only(args)?).map(Value::Bits),
-        BitsOp::Unary(op) => Some(Value::Bits(unary(op, only(args)?))),
+        BitsOp::Unary(op) => unary(op, only(args)?),
         BitsOp::Folded(op) => folded(op, args).map(Value::Bits),
         BitsOp::Binary(op) => {
             let (s, t) = of_two(args)?;
@@ -42,6 +44,7 @@ pub(crate) fn apply_bits(op: BitsOp, args: &[Option<Value>]) -> Option<Value>
         BitsOp::SignExtend(i) => parts::sign_extend(i, only(args)?).map(Value::Bits),
         BitsOp::RotateLeft(i) => Some(Value::Bits(parts::rotate_left(i, only(args)?))),
         BitsOp::RotateRight(i) => Some(Value::Bits(parts::rotate_right(i, only(args)?))),
+        BitsOp::FromInt(width) | BitsOp::FromIntOlder(width) => from_int(width, args),
     }
 }
 
@@ -117,12 +120,36 @@ fn combined(op: BitsFolded, s: Bits, t: Bits) -> Option<Bits>
     })
 }
 
-fn unary(op: BitsUnary, s: Bits) -> Bits
-    ensures { result ≡ meaning.unary_vector op s }
+fn unary(op: BitsUnary, s: Bits) -> Option<Value>
+    ensures { known_element result ≡ known_of_one op s }
 {
     match op {
-        BitsUnary::Not => bitwise::bvnot(s),
-        BitsUnary::Negate => arithmetic::bvneg(s),
+        BitsUnary::Not => Some(Value::Bits(bitwise::bvnot(s))),
+        BitsUnary::Negate => Some(Value::Bits(arithmetic::bvneg(s))),
+        BitsUnary::NegateOverflows => Some(Value::Bool(arithmetic::bvnego(s))),
+        BitsUnary::ToInt | BitsUnary::ToIntOlder => number(s),
+        BitsUnary::SignedToInt => Some(Value::Int(Integer::new(s.signed()))),
+    }
+}
+
+// The number as an integer, if there is room for it.
+fn number(s: Bits) -> Option<Value>
+    ensures { known_element result ≡ known_number s }
+{
+    match i128::try_from(s.number()) {
+        Ok(z) => Some(Value::Int(Integer::new(z))),
+        Err(_) => None,
+    }
+}
+
+// So many bits of the only argument, an integer.
+fn from_int(width: Width, args: &[Option<Value>]) -> Option<Value>
+    ensures { known_element result
+        ≡ option_and_then (known_bits_of_int width) (known_integers (known_elements args.now)) }
+{
+    match args {
+        [arg] => Some(Value::Bits(arithmetic::int_to_bv(width, integer(arg)?))),
+        _ => None,
     }
 }
 
@@ -159,6 +186,13 @@ fn is_related(op: BitsComparison, s: Bits, t: Bits) -> bool
         BitsComparison::SignedAtMost => s.signed() <= t.signed(),
         BitsComparison::SignedGreater => s.signed() > t.signed(),
         BitsComparison::SignedAtLeast => s.signed() >= t.signed(),
+        BitsComparison::UnsignedAddOverflows => arithmetic::bvuaddo(s, t),
+        BitsComparison::SignedAddOverflows => arithmetic::bvsaddo(s, t),
+        BitsComparison::UnsignedMultiplyOverflows => arithmetic::bvumulo(s, t),
+        BitsComparison::SignedMultiplyOverflows => arithmetic::bvsmulo(s, t),
+        BitsComparison::UnsignedSubtractOverflows => arithmetic::bvusubo(s, t),
+        BitsComparison::SignedSubtractOverflows => arithmetic::bvssubo(s, t),
+        BitsComparison::SignedDivideOverflows => arithmetic::bvsdivo(s, t),
     }
 }
 

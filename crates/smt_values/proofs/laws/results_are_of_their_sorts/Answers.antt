@@ -1,4 +1,4 @@
-use Rattle.smt_values.proofs.BitSortLemmas.{binary_fits_by, folded_fits_by, unary_fits_by}
+use Rattle.smt_values.proofs.BitSortLemmas.{binary_fits_by, folded_fits_by}
 use Rattle.smt_values.proofs.SortLemmas.{result_of_sort}
 use Rattle.smt_values.proofs.laws.results_are_of_their_sorts.Goals as goal
 
@@ -10,7 +10,9 @@ returns c =
     let parts = c.parts_fit.ensures in
     let signed = c.signed_fits.ensures in
     result_of_sort record {
-      unary_fits = unary_fits_by bitwise.not arithmetic.neg;
+      not_fits = bitwise.not;
+      negative_fits = arithmetic.neg;
+      integer_fits = c.the_signed_reading_is_one_to_one.ensures.modulo;
       folded_fits = folded_fits_by bitwise.and bitwise.or bitwise.xor arithmetic.add arithmetic.mul;
       binary_fits = binary_fits_by record {
         nand = bitwise.nand;
