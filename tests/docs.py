@@ -460,7 +460,7 @@ def edits():
 def all_words():
     """All pages together have no more words than ALL_WORDS."""
     pages = [path for path in glob.glob("**/*.md", recursive=True) if path not in WRITTEN and "/out/" not in path]
-    found = sum(len(re.sub("<!-- (real|made|summary) -->.*?<!-- end -->", "", read(path), flags=re.S).split()) for path in pages)
+    found = sum(len(re.sub("<!-- (counts|real|made|summary) -->.*?<!-- end -->", "", read(path), flags=re.S).split()) for path in pages)
     if found > ALL_WORDS:
         wrong.append("the pages have %d words by hand, %d are enough" % (found, ALL_WORDS))
 
