@@ -57,7 +57,8 @@ diagram-grown (suc n) xs zs (Branch k) h =
 
 -- ---- one function, one diagram
 
-leaf_twice : (xs : List Fork) (n e k : ℕ) → IsDiagram xs (suc n) (Branch k) → halves xs (Leaf e) ≡ halves xs (Branch k) → ⊥
+leaf_twice : (xs : List Fork) (n e k : ℕ) → IsDiagram xs (suc n) (Branch k)
+    → halves xs (Leaf e) ≡ halves xs (Branch k) → ⊥
 leaf_twice xs n e k h same =
     let no : is_one_leaf (Leaf e) (Leaf e) ≡ false = subst (λ f. is_one_leaf f.even f.odd ≡ false) (sym same) h.1 in
     true≢false (sym (eq-eqb e e refl) ∙ no)
@@ -86,11 +87,13 @@ one_diagram (suc n) xs a b once h k same =
     let p = both_halves xs n a h in
     let q = both_halves xs n b k in
     let even : (halves xs a).even ≡ (halves xs b).even =
-    one_diagram n xs (halves xs a).even (halves xs b).even once p.0 q.0 (even_halves n (element_at xs n (halves xs a).even) (element_at xs n (halves xs a).odd)
+    one_diagram n xs (halves xs a).even (halves xs b).even once p.0 q.0
+    (even_halves n (element_at xs n (halves xs a).even) (element_at xs n (halves xs a).odd)
     (element_at xs n (halves xs b).even) (element_at xs n (halves xs b).odd) same)
     in
     let odd : (halves xs a).odd ≡ (halves xs b).odd =
-    one_diagram n xs (halves xs a).odd (halves xs b).odd once p.1 q.1 (odd_halves n (element_at xs n (halves xs a).even) (element_at xs n (halves xs a).odd)
+    one_diagram n xs (halves xs a).odd (halves xs b).odd once p.1 q.1
+    (odd_halves n (element_at xs n (halves xs a).even) (element_at xs n (halves xs a).odd)
     (element_at xs n (halves xs b).even) (element_at xs n (halves xs b).odd) same)
     in
     same_halves xs n once a b h k (λ i. record { even = even i; odd = odd i })

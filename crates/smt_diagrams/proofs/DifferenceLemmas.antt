@@ -1,5 +1,6 @@
 -- What two functions have where they differ.
-use Rattle.std.proofs.Common.{◌≡◌, ◌≢◌, ℕ, zero, suc, ◌+◌, ◌*◌, ◌-◌, ◌<◌, ◌/◌, ◌%◌, ◌^◌, ◌∙◌, sym, ap, subst, refl, arith}
+use Rattle.std.proofs.Common.{◌≡◌, ◌≢◌, ℕ, zero, suc, ◌+◌, ◌*◌, ◌-◌, ◌<◌}
+use Rattle.std.proofs.Common.{◌/◌, ◌%◌, ◌^◌, ◌∙◌, sym, ap, subst, refl, arith}
 use Rattle.std.proofs.Common.{nat_eq, cond, Bool, true, false, List, [], ◌∷◌, ◌++◌, get_or}
 use Rattle.std.proofs.lemmas.Nat.{pow_pos}
 use Rattle.std.proofs.lemmas.List.{append-nil, append_assoc}
@@ -70,11 +71,17 @@ both n f g f' g' evens odds h k = (
 
 -- ---- diagrams
 
-pub added_none : (forks : List Fork) (n : ℕ) (a b : Diagram) (old : List Difference) → a ≡ b → AreAdded forks n a b old old
-added_none forks n a b old same =
-    ([], sym (append-nil old), none n (element_at forks n a) (element_at forks n b) (λ i less. ap (λ d. element_at forks n d i) same))
+pub added_none : (forks : List Fork) (n : ℕ) (a b : Diagram) (old : List Difference) → a ≡ b
+    → AreAdded forks n a b old old
+added_none forks n a b old same = (
+  [],
+  sym (append-nil old),
+  none n (element_at forks n a) (element_at forks n b)
+      (λ i less. ap (λ d. element_at forks n d i) same),
+)
 
-pub added_one : (forks : List Fork) (n : ℕ) (a b : Diagram) (x y : ℕ) (old new : List Difference) → a ≡ Leaf x → b ≡ Leaf y
+pub added_one : (forks : List Fork) (n : ℕ) (a b : Diagram) (x y : ℕ) (old new : List Difference)
+    → a ≡ Leaf x → b ≡ Leaf y
     → a ≢ b → new ≡ old ++ record { first = x; second = y } ∷ [] → AreAdded forks n a b old new
 added_one forks n a b x y old new p q two grown = (
   record { first = x; second = y } ∷ [],
@@ -93,8 +100,10 @@ added_halves forks bits a b old mid new some h k =
     subst (λ n. AreAdded forks n a b old new) (sym (down bits some)) (
       h.0 ++ k.0,
       k.1 ∙ ap (λ xs. xs ++ k.0) h.1 ∙ append_assoc old h.0 k.0,
-      both (bits - 1) (element_at forks (bits - 1) (halves forks a).even) (element_at forks (bits - 1) (halves forks a).odd)
-          (element_at forks (bits - 1) (halves forks b).even) (element_at forks (bits - 1) (halves forks b).odd) h.0 k.0 h.2 k.2,
+      both (bits - 1) (element_at forks (bits - 1) (halves forks a).even)
+          (element_at forks (bits - 1) (halves forks a).odd)
+          (element_at forks (bits - 1) (halves forks b).even)
+          (element_at forks (bits - 1) (halves forks b).odd) h.0 k.0 h.2 k.2,
     )
 
 pub added_both : (forks : List Fork) (bits : ℕ) (a b : Diagram) (left right : Fork) (old mid new : List Difference)
@@ -114,7 +123,8 @@ all_added forks n a b found h =
     subst (AreDifferences n (element_at forks n a) (element_at forks n b)) (sym h.1) h.2
 
 -- two diagrams over no bits are leaves
-pub leaf_each : (forks : List Fork) (bits : ℕ) (a b : Diagram) → bits ≡ 0 → IsDiagram forks bits a → IsDiagram forks bits b
+pub leaf_each : (forks : List Fork) (bits : ℕ) (a b : Diagram) → bits ≡ 0 → IsDiagram forks bits a
+    → IsDiagram forks bits b
     → (x : ℕ) × (y : ℕ) × (a ≡ Leaf x) × (b ≡ Leaf y)
 leaf_each forks bits (Leaf x) (Leaf y) z h k = (x, y, refl, refl)
 leaf_each forks bits (Branch j) b z h k = absurd (subst (λ n. IsDiagram forks n (Branch j)) z h)

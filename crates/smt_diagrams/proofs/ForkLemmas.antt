@@ -41,13 +41,16 @@ pub fork_itself : (f : Fork) → forks_equal.it f f ≡ true
 fork_itself f =
     ap (λ b. b && diagrams.it f.odd f.odd) (diagram_itself f.even) ∙ diagram_itself f.odd
 
-once_by : (eq : Fork → Fork → Bool) → ((f : Fork) → eq f f ≡ true) → (forks : List Fork) → IsDistinct eq forks → (j k : ℕ)
+once_by : (eq : Fork → Fork → Bool) → ((f : Fork) → eq f f ≡ true) → (forks : List Fork)
+    → IsDistinct eq forks → (j k : ℕ)
     → j < k → k < length forks → get_or forks j no_fork ≡ get_or forks k no_fork → ⊥
 once_by eq same forks h j k less below is =
     true≢false
-    (sym (same (get_or forks j no_fork)) ∙ ap (eq (get_or forks j no_fork)) is ∙ apart_from_distinct eq forks j k no_fork h less below)
+    (sym (same (get_or forks j no_fork)) ∙ ap (eq (get_or forks j no_fork)) is
+    ∙ apart_from_distinct eq forks j k no_fork h less below)
 
-pub forks_once : (eq : Fork → Fork → Bool) → ((f : Fork) → eq f f ≡ true) → (forks : List Fork) → IsDistinct eq forks → AreDistinct forks
+pub forks_once : (eq : Fork → Fork → Bool) → ((f : Fork) → eq f f ≡ true) → (forks : List Fork)
+    → IsDistinct eq forks → AreDistinct forks
 forks_once eq same forks h j k below below' is = by (cases_order j k)
   where
     by : (j ≡ k) ⊎ ((j < k) ⊎ (k < j)) → j ≡ k
@@ -58,7 +61,8 @@ forks_once eq same forks h j k below below' is = by (cases_order j k)
 -- ---- a fork is among them
 
 -- a place where a fork stands that equals this one
-pub found : (forks : List Fork) (place : ℕ) (f : Fork) → (k : Fork) × (slice_get forks place ≡ Some k) × (forks_equal.it f k ≡ true)
+pub found : (forks : List Fork) (place : ℕ) (f : Fork)
+    → (k : Fork) × (slice_get forks place ≡ Some k) × (forks_equal.it f k ≡ true)
     → (place < length forks) × (get_or forks place no_fork ≡ f)
 found forks place f h = (
   slice_get_within forks place h.0 h.1,

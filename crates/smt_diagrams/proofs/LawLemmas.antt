@@ -27,7 +27,8 @@ pub there : (old new : List Fork) (n : ℕ) (d made : Diagram) (number : ℕ) �
 there old new n d made number once g h w =
     one_diagram n new made d once w.0 (grown_diagram old new g n d h)
     (λ i less.
-    w.1 i less ∙ same_there (element_at old n d) i number (nat_eq i number) refl ∙ sym (grown_element old new g n d h i))
+    w.1 i less ∙ same_there (element_at old n d) i number (nat_eq i number) refl ∙ sym
+    (grown_element old new g n d h i))
 
 pub later : (first second third last : List Fork) (n : ℕ) (d once twice alone : Diagram) (number e f : ℕ)
     → AreDistinct last → Grows first second → Grows second third → Grows third last → IsDiagram first n d

@@ -37,9 +37,11 @@ even_written old mid new n d even made number e h k g g' w j =
     let all = grown_twice old mid new g g' in (
       j.1 n (grown_diagram mid new g' n even w.0) (grown_diagram old new all n (halves old d).odd both.1),
       λ i less.
-          joined_alike new n even (halves old d).odd made (element_at mid n even) (element_at old n (halves old d).odd) j
+          joined_alike new n even (halves old d).odd made (element_at mid n even)
+          (element_at old n (halves old d).odd) j
           (grown_element mid new g' n even w.0) (grown_element old new all n (halves old d).odd both.1) i
-          ∙ stored_even n (element_at old n (halves old d).even) (element_at mid n even) (element_at old n (halves old d).odd)
+          ∙ stored_even n (element_at old n (halves old d).even) (element_at mid n even)
+          (element_at old n (halves old d).odd)
           number e k w.1 i less,
     )
 
@@ -52,9 +54,11 @@ odd_written old mid new n d odd made number e h k g g' w j =
     let all = grown_twice old mid new g g' in (
       j.1 n (grown_diagram old new all n (halves old d).even both.0) (grown_diagram mid new g' n odd w.0),
       λ i less.
-          joined_alike new n (halves old d).even odd made (element_at old n (halves old d).even) (element_at mid n odd) j
+          joined_alike new n (halves old d).even odd made (element_at old n (halves old d).even)
+          (element_at mid n odd) j
           (grown_element old new all n (halves old d).even both.0) (grown_element mid new g' n odd w.0) i
-          ∙ stored_odd n (element_at old n (halves old d).even) (element_at old n (halves old d).odd) (element_at mid n odd)
+          ∙ stored_odd n (element_at old n (halves old d).even) (element_at old n (halves old d).odd)
+          (element_at mid n odd)
           number e k w.1 i less,
     )
 

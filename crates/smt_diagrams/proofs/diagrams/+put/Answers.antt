@@ -8,7 +8,8 @@ use Rattle.smt_diagrams.proofs.diagrams.+put.Goals as goal
 pub put-requires : goal.put-requires
 put-requires t c =
     let fork = c.halves_in-fork.ensures ∙ ap (λ xs. halves xs c.args.diagram) c.as_slice.ensures.keys in
-    let both = half_diagrams c.args.forks.now.keys c.args.bits c.args.diagram c.if-bits-eq0.false c.requires.diagram in (
+    let both = half_diagrams c.args.forks.now.keys c.args.bits c.args.diagram c.if-bits-eq0.false
+    c.requires.diagram in (
       omega (arith, c.decreases, c.if-bits-eq0.false),
       (
         c.requires.distinct,
@@ -22,7 +23,8 @@ put-requires t c =
 pub put-requires-else-number-eq0 : goal.put-requires-else-number-eq0
 put-requires-else-number-eq0 t c =
     let fork = c.halves_in-fork.ensures ∙ ap (λ xs. halves xs c.args.diagram) c.as_slice.ensures.keys in
-    let both = half_diagrams c.args.forks.now.keys c.args.bits c.args.diagram c.if-bits-eq0.false c.requires.diagram in (
+    let both = half_diagrams c.args.forks.now.keys c.args.bits c.args.diagram c.if-bits-eq0.false
+    c.requires.diagram in (
       omega (arith, c.decreases, c.if-bits-eq0.false),
       (
         c.requires.distinct,
