@@ -39,7 +39,6 @@ VALIDITY = "smt_dialogue/specs/Validity"
 REPORT = "smt_dialogue/specs/Report"
 BODIES = "| crate | in the gate | apart | refused of those |"
 LAYERS = "| layer | crates | what it does | what it may not know | uses |"
-FILES = "## The files of each crate"
 READING = "| order | files in `crates/` | lines |"
 NOTATION = {"abbrev", "ghost", "record", "Goals"}
 
@@ -119,26 +118,6 @@ def used(text, uses):
             wrong.append("ARCHITECTURE: %s uses %s too" % (name, ", ".join(sorted(missing))))
         for other in sorted(set(named(cell)) - set(uses.get(name, []))):
             wrong.append("ARCHITECTURE: %s does not use %s" % (name, other))
-
-
-def files_of_src(text, uses):
-    told = {}
-    for name, cell in re.findall(r"^- `(\w+)`: (.*)$", text[text.index(FILES):], re.M):
-        if name in told:
-            wrong.append("ARCHITECTURE: the files of %s are listed twice" % name)
-        told[name] = re.findall(r"`([\w./]+)`", cell)
-    for name in sorted(set(told) - set(uses)):
-        wrong.append("ARCHITECTURE: there is no crate %s, whose files are listed" % name)
-    for name in uses:
-        src = "crates/%s/src" % name
-        found = {os.path.relpath(path, src)[:-3] for path in glob.glob(src + "/**/*.rt", recursive=True)} - {"lib", "main"}
-        said = set()
-        for word in told.get(name, []):
-            said |= {file for file in found if (file + "/").startswith(word[:-2])} if word.endswith("/..") else {word}
-        for file in sorted(found - said):
-            wrong.append("ARCHITECTURE: the files of %s lack %s" % (name, file))
-        for file in sorted(said - found):
-            wrong.append("ARCHITECTURE: %s has no file %s" % (name, file))
 
 
 # What 'valid' rests on, in docs/CLAIMS.md
@@ -484,7 +463,6 @@ def main():
     architecture, claims, testing = read(ARCHITECTURE), read(CLAIMS), read(TESTING)
     layers(architecture, uses)
     used(architecture, uses)
-    files_of_src(architecture, uses)
     copies(claims)
     right = {CLAIMS: reading_list(claims, writes), TESTING: wrong_bodies(numbers(testing, writes), uses, writes)}
     if writes:

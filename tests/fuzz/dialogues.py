@@ -8,10 +8,10 @@ import random
 from collections import namedtuple
 
 from flaws import BEFORE_LOGICS, LETTERS, Flaws
-from inventor import ALL_OPERATORS, NAMES, OPERATOR_NAMES, Inventor, width_names
+from inventor import ALL_OPERATORS, NAMES, OPERATOR_NAMES, Inventor, whole_sort, width_names
 from models import Structure
 from script import CHECKS, Assertion, Declaration, Definition, Force, Refused, command_of, is_define_fun
-from sorts import BASE, BITS, BOOL, INT, INTS, LOGICS, REAL, THEORIES, WIDE, Faulty, Free
+from sorts import BASE, BITS, BOOL, INT, INTS, LOGICS, REAL, THEORIES, WIDE, Array, Faulty, has_declared
 from terms import Checker, Context, Rank, Use, check_assertion, check_definition, check_literal
 from text import BINARY, DEEPEST, Atom, is_symbol
 from trees import copied, depth_of, keyword, listed, lists_in, numeral, string, symbol, word, written
@@ -398,9 +398,9 @@ class Story:
             value = self.structure().value(node, {})
         except Faulty:
             return tree
-        if value is OPEN or type(sort) is Free:
+        if value is OPEN or has_declared(sort):
             return listed("=", tree, self.same(sort, value) or copied(tree))
-        if sort != BOOL and self.chance(0.05):
+        if sort != BOOL and type(sort) is not Array and self.chance(0.05):
             value = max(0, value - 1)
         return listed("=", tree, literal_of(sort, value))
 
@@ -1246,6 +1246,11 @@ def literal_of(sort, value):
         return symbol("true" if value else "false")
     if sort == REAL:
         return listed("/", literal_of(INT, value.numerator), value.denominator)
+    if type(sort) is Array:
+        tree = [[word("as"), symbol("const"), whole_sort(sort)], literal_of(sort.element, value.default)]
+        for index, element in value.written.items():
+            tree = listed("store", tree, literal_of(sort.index, index), literal_of(sort.element, element))
+        return tree
     if sort != INT:
         return Atom(BINARY, bin((1 << sort) + value)[3:])
     if value >= 0:

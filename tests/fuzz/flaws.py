@@ -29,7 +29,10 @@ SORTS = by_letter(
             () 3 "Int" let (Int) (Array2) (_ BitVec) (_ BitVec 1 2) ((_ BitVec 8)) (_ BitVec n) (_ BitVec "8") (_ BitVec (8)) (_ foo "a")
             (_ foo ()) (_ foo :a) (_ foo 1 let) (_) (_ 3 4) (_ let 1) :a (! Int) 1.5 (((Int)) Int) (let Int) _ #b1 (Real) (Bool)
         """,
-        "F2": "Real String (Array Int Int) (Array) (Array let) (Array (Array)) (|Array| Foo)",
+        "F2": """
+            String (Array (Array Bool Bool) Bool) String (Array Bool (Array Bool (Array Bool Bool))) Real (|Array| (Array Bool Bool) String)
+            (Array Int Int) (Array) (Array let) (Array (Array)) (|Array| Foo)
+        """,
         "F3": """
             Foo (List Int) (List ()) (_ foo) (_ foo 1 x) (_ Array 1) Array (Bool Int) (Int Int) (Real Int) int (_ Real) RegLan BitVec
             (BitVec 8) (_ Int 0) || |let|

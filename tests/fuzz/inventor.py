@@ -2,14 +2,14 @@
 from conversions import CONVERSIONS, OVERFLOWS, corner, integer, pair
 from operators import FROM_INTS, TO_INTS
 from reals import edge, printed, usual
-from sorts import BITS, BOOL, INT, INTS, NUMBERS, REAL, REALS, WIDE, Free
+from sorts import ARRAYS, BITS, BOOL, INT, INTS, NUMBERS, REAL, REALS, WIDE, Array, Free, has_declared
 from text import BINARY, HEXADECIMAL, Atom, is_word
 from trees import indexed, keyword, listed, numeral, string, symbol, word
 
 NAMES = "x y z p q r f g h a b c k!0 u1 v2 <a> ~".split() + ["a b", "", "let", "x\ny", "\xe9", "model", "sat", "error", "Int", "Real"]
 NAMES += "extract bv1 divisible success -x .".split()
 # Names of operators, which are free where their theory isn't in force.
-OPERATOR_NAMES = "and + - * div mod abs < bvadd concat bvcomp not true = ite".split() + OVERFLOWS[::2] + CONVERSIONS
+OPERATOR_NAMES = "and + - * div mod abs < bvadd concat bvcomp not true = ite select store const".split() + OVERFLOWS[::2] + CONVERSIONS
 
 CORE_OPERATORS = "not => and or xor = distinct ite".split()
 INT_OPERATORS = "- + * div mod abs ite".split()
@@ -40,6 +40,13 @@ EDGES = [2**127 - 1, 2**127, 2**127 + 1, 2**127 - 2, 2**126, 2**64, 2**64 - 1, 2
 WIDTHS = [1, 2, 3, 4, 5, 7, 8, 8, 9, 16, 31, 32, 33, 63, 64, 65, 100, 127, 128]
 
 
+def whole_sort(sort):
+    """A tree for a sort, without abbreviations."""
+    if type(sort) is Array:
+        return listed("Array", *map(whole_sort, sort))
+    return symbol(sort) if sort in (BOOL, INT, REAL) else symbol(sort.name) if type(sort) is Free else indexed("BitVec", sort)
+
+
 def width_names(rng):
     """The widths that a dialogue uses most."""
     return [rng.choice(WIDTHS) for _ in range(rng.choice((1, 1, 2, 3)))]
@@ -56,6 +63,7 @@ class Inventor:
         self.ints = INTS in context.theories
         self.bits = BITS in context.theories
         self.reals = REALS in context.theories
+        self.arrays = ARRAYS in context.theories
         self.overflows = self.bits and WIDE in context.theories
         self.converts = self.overflows and self.ints
         self.constants, self.functions = {}, {}
@@ -66,6 +74,20 @@ class Inventor:
 
     def sort(self):
         """A sort of the theories."""
+        found = self.array_sort() if self.arrays and self.rng.random() < 0.12 else None
+        return found if found is not None and self.has_elements(found) else self.plain_sort()
+
+    def array_sort(self, element=None):
+        """A sort of arrays, mostly by few indexes; with elements of this sort, if it is given."""
+        rng = self.rng
+        small = [BOOL] + [1, 2] * self.bits + [INT] * self.ints
+        index = rng.choice(small) if rng.random() < 0.5 else self.plain_sort()
+        if element is None:
+            element = Array(rng.choice(small), self.plain_sort()) if rng.random() < 0.2 else self.plain_sort()
+        return Array(index, element)
+
+    def plain_sort(self):
+        """A sort of the theories, but no arrays."""
         choices = [BOOL] + [INT] * 2 * self.ints + [self.rng.choice(self.widths)] * 2 * self.bits + [REAL] * 3 * self.reals
         return self.rng.choice(choices + [sort for sort in self.declared_sorts() if self.has_elements(sort)] * 2)
 
@@ -74,8 +96,8 @@ class Inventor:
         return [sort for sort in self.context.abbreviations.values() if type(sort) is Free]
 
     def has_elements(self, sort):
-        """Whether a term may be an element of a declared sort: in a script it has to be a constant."""
-        return self.context.elements or sort in self.constants
+        """Whether a term may be of a sort: one of a declared sort, or of arrays with such, has to be a constant in a script."""
+        return self.context.elements or sort in self.constants or not has_declared(sort)
 
     def element_name(self):
         """A name in the form of an element of a sort in force, or of what only abbreviates one."""
@@ -91,6 +113,8 @@ class Inventor:
             return symbol(rng.choice(names))
         if type(sort) is Free:
             return symbol(names[0] if names else "Gone")
+        if type(sort) is Array:
+            return listed("Array", self.sort_tree(sort.index), self.sort_tree(sort.element))
         return symbol(sort) if sort in (BOOL, INT, REAL) else indexed("BitVec", sort)
 
     # Terms
@@ -113,8 +137,30 @@ class Inventor:
             return edge(rng) if rng.random() < 0.08 else printed(rng, usual(rng), self.ints)
         if type(sort) is Free:
             return self.element(sort)
+        if type(sort) is Array:
+            return self.array(sort)
         number = rng.choice((0, 1, 2**sort - 1, 2 ** (sort - 1), 2 ** (sort - 1) - 1, rng.getrandbits(sort), rng.getrandbits(sort), 2, 3))
         return self.vector(number % (1 << sort), sort)
+
+    def array(self, sort):
+        """An array: one element everywhere, and some that are written; in a script a constant, if none can be told."""
+        rng = self.rng
+        if has_declared(sort) and not self.context.elements:
+            constants = self.constants.get(sort)
+            return symbol(rng.choice(constants)[0] if constants else "none")
+        tree = self.constant_array(sort, self.literal(sort.element))
+        for _ in range(rng.choice((0, 0, 1, 1, 2, 3, 4))):
+            tree = listed("store", tree, self.index(sort.index), self.literal(sort.element))
+        return tree
+
+    def constant_array(self, sort, element):
+        """`((as const o) t)`: a script may name o by no abbreviation."""
+        tree = self.sort_tree(sort) if self.context.elements or self.rng.random() < 0.02 else whole_sort(sort)
+        return [[word("as"), symbol("const"), tree], element]
+
+    def index(self, sort):
+        """An index, mostly one of few."""
+        return numeral(self.rng.randrange(3)) if sort == INT and self.rng.random() < 0.7 else self.literal(sort)
 
     def element(self, sort):
         """An element of a declared sort; in a script a constant, if there is one."""
@@ -187,15 +233,18 @@ class Inventor:
     def operators_to(self, sort):
         """Names of operators with this result."""
         if sort == BOOL:
+            selects = ["select"] * 2 * self.arrays
             on_reals = REAL_RELATIONS * (2 - self.ints) * self.reals + ["is_int"] * (self.ints and self.reals)
-            return CORE_OPERATORS + INT_RELATIONS * self.ints + on_reals + BIT_RELATIONS * self.bits + OVERFLOWS * self.overflows
+            return CORE_OPERATORS + INT_RELATIONS * self.ints + on_reals + BIT_RELATIONS * self.bits + OVERFLOWS * self.overflows + selects
         if sort == INT:
-            return INT_OPERATORS + ["to_int"] * self.reals + sorted(TO_INTS) * self.converts
+            return INT_OPERATORS + ["to_int"] * self.reals + sorted(TO_INTS) * self.converts + ["select"] * self.arrays
         if sort == REAL:
-            return REAL_OPERATORS + ["to_real"] * self.ints
+            return REAL_OPERATORS + ["to_real"] * self.ints + ["select"] * self.arrays
         if type(sort) is Free:
-            return ["ite"]
-        return SAME_WIDTH + OTHER_WIDTHS + ["bvcomp"] * (4 * (sort == 1)) + list(FROM_INTS) * self.converts
+            return ["ite"] + ["select"] * self.arrays
+        if type(sort) is Array:
+            return ["store"] * 4 + ["ite"] + ["const"] * 2 + ["select"] * (type(sort.element) is not Array)
+        return ["select"] * 2 * self.arrays + SAME_WIDTH + OTHER_WIDTHS + ["bvcomp"] * (4 * (sort == 1)) + list(FROM_INTS) * self.converts
 
     def application(self, name, sort, size, scope):
         """The application of an operator, of this result."""
@@ -204,6 +253,8 @@ class Inventor:
             return self.leaf(sort, scope)
         if name in ("true", "false"):
             return symbol(name)
+        if name in ("select", "store", "const"):
+            return self.on_arrays(name, sort, size, scope)
         if name == "bvX":
             return indexed("bv%d" % rng.getrandbits(sort), sort)
         count = 1 if name in UNARY else rng.choice((2, 2, 2, 3, 4)) if name in ANY_NUMBER else 2
@@ -243,6 +294,20 @@ class Inventor:
         if second is not None:
             return [head, self.term(argument, inner, scope), second]
         return [head] + [self.term(argument, inner, scope) for _ in range(count)]
+
+    def on_arrays(self, name, sort, size, scope):
+        """An application to arrays, or of a constant array."""
+        if name == "const":
+            return self.constant_array(sort, self.term(sort.element, size - 1, scope))
+        if name == "store":
+            index = self.index(sort.index) if self.rng.random() < 0.5 else self.term(sort.index, size // 3, scope)
+            return listed("store", self.term(sort, size // 2, scope), index, self.term(sort.element, size // 3, scope))
+        known = [found for found in self.constants if type(found) is Array and found.element == sort]
+        found = self.rng.choice(known) if known and self.rng.random() < 0.6 else self.array_sort(sort)
+        if not self.has_elements(found) or not self.has_elements(found.index):
+            return self.leaf(sort, scope)
+        index = self.index(found.index) if self.rng.random() < 0.5 else self.term(found.index, size // 3, scope)
+        return listed("select", self.term(found, size // 2, scope), index)
 
     def on_numbers(self, name, sort, count, inner, scope):
         """An application to numbers, whose sorts may be mixed; None if it is to be another."""

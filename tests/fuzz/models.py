@@ -1,6 +1,7 @@
 """Printed models: their items, their cost, and what they make of the assertions in force and of the assumptions of their check."""
 from fractions import Fraction
 
+import arrays
 from operators import FROM_INTS, ON_OVERFLOW, TO_INTS
 from script import Assertion, Declaration, Definition, is_define_fun
 from sorts import INT, REAL, WIDE, Faulty, element_sort, like_element, of_abbreviation, sort_of
@@ -45,6 +46,8 @@ class Structure:
                 count_numbers(self.reached, node, values, value)
                 if OPEN not in values:
                     count_conversion(self.reached, node, values, value)
+                    if node.sorts:
+                        arrays.count(self.reached, node, values, value)
             return value
         if kind is Variable:
             return variables[node.number]

@@ -1,8 +1,9 @@
 """The operators of the theories: which arguments each takes, and what it makes of their values."""
 import re
 
+import arrays
 import values as v
-from sorts import BITS, BOOL, CORE, INT, INTS, NUMBERS, REAL, REALS, WIDE, WIDEST, Faulty, is_bits
+from sorts import ARRAYS, BITS, BOOL, CORE, INT, INTS, NUMBERS, REAL, REALS, WIDE, WIDEST, Array, Faulty, is_bits
 from text import NUMERAL, is_kind
 
 LARGEST_INDEX = 2**64 - 1
@@ -103,6 +104,15 @@ def with_width(meaning):
     return lambda values, sorts: meaning(values, sorts[0])
 
 
+def by_sort(meaning, of_arrays):
+    """The meaning of an operator that compares arrays otherwise than all else."""
+    return lambda values, sorts: of_arrays(values, sorts[0]) if type(sorts[0]) is Array else meaning(values)
+
+
+EQUAL = by_sort(v.neighbours(lambda x, y: x == y), arrays.neighbours_same)
+DISTINCT = by_sort(v.distinct, arrays.none_same)
+
+
 def operators():
     """For each theory, its operators without indexes by name."""
     core, ints, bits = {}, {}, {}
@@ -117,8 +127,8 @@ def operators():
     put(core, "and", some(2, None, BOOL, BOOL), plain(v.conjunction), True)
     put(core, "or", some(2, None, BOOL, BOOL), plain(v.disjunction), True)
     put(core, "xor", some(2, None, BOOL, BOOL), plain(v.from_left(lambda x, y: x != y)))
-    put(core, "=", alike, plain(v.neighbours(lambda x, y: x == y)))
-    put(core, "distinct", alike, plain(v.distinct))
+    put(core, "=", alike, EQUAL)
+    put(core, "distinct", alike, DISTINCT)
     put(core, "ite", branches, plain(v.choice), True)
 
     def minus(sorts):
@@ -190,8 +200,8 @@ def operators_on_reals():
     def put(table, name, result, meaning, takes_open=False):
         table[name] = Operator(name, result, meaning, takes_open)
 
-    put(reals, "=", alike_or_numbers, plain(v.neighbours(lambda x, y: x == y)))
-    put(reals, "distinct", alike_or_numbers, plain(v.distinct))
+    put(reals, "=", alike_or_numbers, EQUAL)
+    put(reals, "distinct", alike_or_numbers, DISTINCT)
     put(reals, "ite", branches_or_numbers, plain(v.choice), True)
     difference = v.from_left(v.difference_of)
     put(reals, "-", numbers(1, None), plain(lambda a: v.negative(a) if len(a) == 1 else difference(a)))
@@ -236,6 +246,10 @@ def operators_on_overflow():
 
 
 TABLES = operators()
+ON_ARRAYS = {
+    "select": Operator("select", arrays.selected, plain(lambda a: a[0].at(a[1]))),
+    "store": Operator("store", arrays.stored, plain(lambda a: a[0].with_written(a[1], a[2]))),
+}
 ON_REALS, WITH_INTS = operators_on_reals()
 ON_OVERFLOW, TO_INTS = operators_on_overflow()
 # From integers to bit vectors, with an index.
@@ -252,11 +266,18 @@ def operators_in(theories):
         if REALS in theories:
             table.update(ON_REALS)
             table.update(WITH_INTS if INTS in theories else {})
+        if ARRAYS in theories:
+            table.update(ON_ARRAYS)
         if WIDE in theories and BITS in theories:
             table.update(ON_OVERFLOW)
             table.update(TO_INTS if INTS in theories else {})
         TABLE_OF[theories] = table
     return TABLE_OF[theories]
+
+
+def constant_array(sort):
+    """The operator `(as const sort)`."""
+    return Operator("const", arrays.filled(sort), plain(lambda a: arrays.constant(a[0])))
 
 
 def is_name_of_wide(name):
@@ -265,7 +286,9 @@ def is_name_of_wide(name):
 
 
 def without_theory(name, theories):
-    """What is counted where such a name is unknown for want of a theory."""
+    """What is counted where such a name, or one of an operator on arrays, is unknown for want of a theory."""
+    if WIDE in theories and name in ON_ARRAYS:
+        return "%s without arrays, F3" % name
     if WIDE not in theories or not is_name_of_wide(name):
         return None
     kind = "an overflow predicate" if name in ON_OVERFLOW else "a conversion"

@@ -24,6 +24,7 @@ import time
 import traceback
 from collections import Counter, namedtuple
 
+import array_aims
 import conversions
 import reals
 from dialogues import Dialogue, invent
@@ -130,7 +131,7 @@ WIDE_KINDS += ["wide: open by " + name for name in ("-", "+", "*", "/", "/ of 0"
 WIDE_KINDS += ["wide: numbers of the other sort as %s, F4" % what for what in ("arguments", "a body", "a rank")]
 WIDE_KINDS += ["wide: an operator of integers with a Real, F4", "wide: a decimal without Reals, F3", "wide: the sort Real without Reals, F3"]
 # Conversions and overflow.
-WIDE_KINDS += conversions.KINDS
+WIDE_KINDS += conversions.KINDS + array_aims.KINDS
 # What it hardly reaches: a label whose level is gone is set aside in it, and an operator's name is rare.
 NOT_WIDE = "global: model with names whose levels are gone: item F7"
 WITH_STEPS = ["model: too long", "limit on steps", "assuming: too long by its literals", "assuming: as long as the limit"]
@@ -440,7 +441,7 @@ class Streams:
 class Fuzzer:
     """Runs seeds, and counts what they reach."""
 
-    def __init__(self, program, with_steps, corpus, folder, mutated, profile, sorts, spines, with_reals, converting):
+    def __init__(self, program, with_steps, corpus, folder, *kinds):
         # Files in memory, where there are such, are written ten times as fast.
         memory = "/dev/shm" if os.access("/dev/shm", os.W_OK) else None
         self.work = tempfile.mkdtemp(prefix="smtcheck-fuzz-", dir=memory)
@@ -448,12 +449,7 @@ class Fuzzer:
         self.with_steps = with_steps
         self.corpus = corpus
         self.folder = folder
-        self.mutated = mutated
-        self.profile = profile
-        self.sorts = sorts
-        self.spines = spines
-        self.with_reals = with_reals
-        self.converting = converting
+        self.mutated, self.profile, self.sorts, self.spines, self.with_reals, self.converting, self.with_arrays = kinds
         self.counts = Counter()
         self.differences = 0
         self.slowest = (0.0, None)
@@ -482,13 +478,13 @@ class Fuzzer:
         if self.converting:
             self.counts["dialogue invented"] += 1
             return invent_conversions(seed, self.with_steps, self.profile)
-        if self.corpus.dialogues and rng.random() < 0.2 and not self.sorts and not self.with_reals:
+        if self.corpus.dialogues and rng.random() < 0.2 and not (self.sorts or self.with_reals or self.with_arrays):
             self.counts["dialogue mutated"] += 1
             found = self.corpus.mutated(seed, self.with_steps)
             return widened(seed, found) if self.profile == WIDE else found
         self.counts["dialogue invented"] += 1
         if self.profile == WIDE:
-            return invent_wide(seed, self.with_steps, self.sorts, self.with_reals)
+            return invent_wide(seed, self.with_steps, self.sorts, self.with_reals, self.with_arrays)
         return invent(seed, self.with_steps)
 
     def options_of(self, dialogue, rng=None):
@@ -610,7 +606,7 @@ class Fuzzer:
         print(
             "difference at seed %d: %s\n  alone: tests/fuzz.sh 1 %d%s, or in %s: %s %s script answers\nexpected:\n%sfound:\n%s%s"
             % (
-                seed, trouble, seed, " wide" * (self.profile == WIDE) + " --mutated" * self.mutated + " --conversions" * self.converting, folder, self.program.path, " ".join(options), expected, found,
+                seed, trouble, seed, " wide" * (self.profile == WIDE) + " --mutated" * self.mutated + " --conversions" * self.converting + " --arrays" * self.with_arrays, folder, self.program.path, " ".join(options), expected, found,
                 small.strip("\n"),
             ),
             flush=True,
@@ -753,6 +749,7 @@ def main():
         "--spines", action="store_true", help="invent each dialogue with a term that nests deep, up to 2,000 frames; no kind has to be reached"
     )
     parser.add_argument("--reals", action="store_true", help="in `wide`, let each dialogue aim at reals; no kind has to be reached")
+    parser.add_argument("--arrays", action="store_true", help="in `wide`, let each dialogue aim at arrays; no kind has to be reached")
     parser.add_argument(
         "--conversions", action="store_true", help="let each dialogue aim at conversions and overflow, or in `base` at their names; likewise"
     )
@@ -762,7 +759,7 @@ def main():
         sys.exit("fuzz: no program: " + chosen.program)
     with_steps = knows_steps(chosen.program) if chosen.steps_option == "ask" else chosen.steps_option == "on"
     folder = chosen.folder or os.path.join(tempfile.gettempdir(), "smtcheck-differences")
-    kinds = chosen.mutated, chosen.profile, chosen.sorts, chosen.spines, chosen.reals, chosen.conversions
+    kinds = chosen.mutated, chosen.profile, chosen.sorts, chosen.spines, chosen.reals, chosen.conversions, chosen.arrays
     settings = os.path.abspath(chosen.program), with_steps, chosen.rows, folder, *kinds
     seeds = range(chosen.seed, chosen.seed + chosen.number)
     size = max(1, min(2000, -(-len(seeds) // max(1, chosen.jobs))))
@@ -778,7 +775,7 @@ def main():
     if chosen.mutated:
         counts["different stored dialogues"] = len(sources)
         counts["different stored dialogues of solvers"] = sum(map(of_solver, sources))
-    aimed = chosen.mutated or chosen.sorts or chosen.spines or chosen.reals or chosen.conversions
+    aimed = chosen.mutated or chosen.sorts or chosen.spines or chosen.reals or chosen.conversions or chosen.arrays
     required = [] if aimed else REQUIRED + WITH_STEPS * with_steps
     if required and chosen.profile == WIDE:
         required = [name for name in required if name != NOT_WIDE] + WIDE_KINDS

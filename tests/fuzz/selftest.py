@@ -1,5 +1,5 @@
-"""selftest.py: the second validator on the dialogues of expected.txt and expected_wide.txt, whose reports were worked out by hand. Says
-nothing where all is well."""
+"""selftest.py: the second validator on the dialogues of expected.txt, expected_wide.txt and expected_arrays.txt, whose reports were worked out
+by hand. Says nothing where all is well."""
 import os
 import sys
 
@@ -25,7 +25,7 @@ def cut_reports(script, answers, print_success, steps, profile):
 def test():
     """The number of dialogues, and the text of those that fail."""
     failed = []
-    rows = rows_of(os.path.join(HERE, "expected.txt")) + rows_of(os.path.join(HERE, "expected_wide.txt"))
+    rows = [row for name in ("expected", "expected_wide", "expected_arrays") for row in rows_of(os.path.join(HERE, name + ".txt"))]
     for row in rows:
         fields = dict(row)
         title = fields["dialogue"].decode()

@@ -1,4 +1,4 @@
-"""Sorts: the truth values, the integers, the reals, bit vectors, which stand here as their width, a number from 1 to 128, and declared sorts."""
+"""Sorts: the truth values, the integers, the reals, bit vectors, which stand here as their width, a number from 1 to 128, declared sorts, arrays."""
 import re
 from collections import namedtuple
 
@@ -9,6 +9,8 @@ BOOL, INT, REAL = "Bool", "Int", "Real"
 NUMBERS = (INT, REAL)
 # A sort that the command of this number declared, by this name.
 Free = namedtuple("Free", "command name")
+# The sort of arrays from one sort to another.
+Array = namedtuple("Array", "index element")
 WIDEST = 128
 
 CORE, INTS, BITS, REALS, ARRAYS = "Core", "Ints", "bit vectors", "Reals", "arrays"
@@ -17,7 +19,7 @@ ALL_THEORIES = frozenset([CORE, INTS, BITS])
 BASE, WIDE = "base", "wide"
 # Names that no new sort may have in the profile `wide`, beside those that none may have.
 WIDE_SORTS = (REAL, "Array")
-# No sort and no operator of arrays is there yet: a logic with them has what it has besides. In the profile `wide` WIDE is among the theories.
+# In the profile `wide` WIDE is among the theories.
 THEORIES = {BASE: ALL_THEORIES, WIDE: ALL_THEORIES | frozenset([REALS, ARRAYS, WIDE])}
 
 
@@ -37,13 +39,14 @@ WIDE_LOGICS = (
     ((INTS, REALS), "LIRA NIRA UFLIRA UFNIRA UFDTLIRA UFDTNIRA"),
     ((BITS,), "BV UFBV UFBVDT"),
     ((BITS, INTS), "BVLIA BVNIA UFBVLIA UFBVNIA"),
-    ((ARRAYS,), "AX"),
+    ((ARRAYS,), "AX AUF AUFDT"),
     ((ARRAYS, INTS), "ALIA ANIA AUFLIA AUFNIA AUFDTLIA AUFDTNIA"),
     ((ARRAYS, REALS), "ALRA ANRA AUFLRA AUFNRA"),
     ((ARRAYS, INTS, REALS), "ALIRA ANIRA AUFLIRA AUFNIRA AUFDTLIRA AUFDTNIRA"),
     ((ARRAYS, BITS), "ABV AUFBV AUFBVDT"),
     ((ARRAYS, BITS, INTS), "ABVLIA AUFBVLIA AUFBVNIA AUFBVDTLIA AUFBVDTNIA"),
-    ((ARRAYS, BITS, INTS, REALS), "ALL ALL_SUPPORTED AUFBVDTNIRA"),
+    ((ARRAYS, BITS, REALS), "ABVLRA ABVNRA AUFBVLRA AUFBVNRA"),
+    ((ARRAYS, BITS, INTS, REALS), "ALL ALL_SUPPORTED AUFBVLIRA AUFBVNIRA AUFBVDTLIRA AUFBVDTNIRA"),
 )
 
 
@@ -94,9 +97,30 @@ def of_abbreviation(name, abbreviations):
     return type(abbreviations.get(own)) is Free and abbreviations[own].name != own
 
 
+def has_declared(sort):
+    """Whether a sort is a declared one, or one of arrays that has such."""
+    return type(sort) is Free or type(sort) is Array and any(map(has_declared, sort))
+
+
 def is_bits(sort):
     """Whether a sort is one of bit vectors."""
     return type(sort) is int
+
+
+def array_of(tree, abbreviations, theories):
+    """The sort that a list names which begins with `Array`, or its fault."""
+    if WIDE not in theories:
+        raise Faulty("F2")
+    if len(tree) != 3:
+        raise Faulty("F1", "a sort of arrays out of form, F1")
+    if ARRAYS not in theories:
+        raise Faulty("F3", "a sort of arrays without arrays, F3")
+    index, element = (sort_of(part, abbreviations, theories) for part in tree[1:])
+    if type(index) is Array:
+        raise Faulty("F2", "arrays as indexes, F2")
+    if type(element) is Array and type(element.element) is Array:
+        raise Faulty("F2", "arrays three deep, F2")
+    return Array(index, element)
 
 
 def sort_of(tree, abbreviations, theories):
@@ -118,7 +142,7 @@ def sort_of(tree, abbreviations, theories):
         raise Faulty("F1")
     if is_symbol(tree[0]):
         if tree[0].text == "Array":
-            raise Faulty("F2")
+            return array_of(tree, abbreviations, theories)
         raise Faulty("F3" if len(tree) > 1 else "F1")
     if not is_word(tree[0], "_") or len(tree) < 2 or not is_symbol(tree[1]):
         raise Faulty("F1")

@@ -1,7 +1,7 @@
 """Terms: the checker, which finds the sort of a tree and makes a node of it, or finds its first fault."""
 from collections import namedtuple
 
-from operators import FROM_INTS, ON_OVERFLOW, TO_INTS, indexed_operator, operators_in, without_theory
+from operators import FROM_INTS, ON_ARRAYS, ON_OVERFLOW, TO_INTS, constant_array, indexed_operator, operators_in, without_theory
 from sorts import BITS, BOOL, INT, INTS, NUMBERS, REAL, REALS, WIDE, WIDEST, Faulty, Free, element_sort, of_abbreviation, sort_of
 from text import BINARY, DECIMAL, HEXADECIMAL, KEYWORD, NUMERAL, RESERVED, STRING, SYMBOL, begins_with, is_kind, is_symbol, is_word
 from values import HIGHEST, OPEN, decimal, element
@@ -38,6 +38,13 @@ class Context:
         """The sort that a tree names."""
         return sort_of(tree, self.abbreviations, self.theories)
 
+    def names_sort(self, tree):
+        """Whether a tree names a sort."""
+        try:
+            return self.sort(tree) is not None
+        except Faulty:
+            return False
+
     def is_taken(self, name):
         """Whether a name is in force or an operator's."""
         return name in self.ranks or name in self.operators
@@ -73,6 +80,8 @@ class Checker:
             return self.check_annotation(tree, scope)
         if self.context.elements and is_word(head, "as"):
             return self.check_element(tree)
+        if WIDE in self.context.theories and is_constant_array(tree):
+            return self.check_constant_array(tree, scope)
         if is_kind(head, RESERVED) and head.text in ("forall", "exists", "match", "as") or begins_with(head, "as"):
             raise Faulty("F2")
         if len(tree) >= 2 and (is_symbol(head) or begins_with(head, "_")):
@@ -133,6 +142,20 @@ class Checker:
         if type(sort) is not Free:
             raise Faulty("F4")
         return sort, Literal(element(name))
+
+    def check_constant_array(self, tree, scope):
+        """`((as const o) t)`. A script names o by no abbreviation, and by no declared sort."""
+        context = self.context
+        sort, node = self.check(tree[1], scope)
+        try:
+            operator = constant_array(sort_of(tree[0][2], context.abbreviations if context.elements else {}, context.theories))
+        except Faulty as fault:
+            of_name = not context.elements and context.names_sort(tree[0][2])
+            raise Faulty(fault.letter, "a name of a sort behind const in a script, F3" if of_name else fault.kind)
+        result = operator.result((sort,))
+        if result is None:
+            raise Faulty("F4", "arguments of const, F4")
+        return result, Apply(operator, (node,), (sort,))
 
     def constant(self, operator):
         """An operator without arguments."""
@@ -204,6 +227,11 @@ class Checker:
         return result, Apply(operator, nodes, sorts)
 
 
+def is_constant_array(tree):
+    """Whether a tree is `((as const o) t)`."""
+    return len(tree) == 2 and begins_with(tree[0], "as") and len(tree[0]) == 3 and is_symbol(tree[0][1], "const")
+
+
 def indexed_form(tree):
     """The form of a list that begins with `_`."""
     if len(tree) < 3 or not is_symbol(tree[1]) or not all(is_kind(i, NUMERAL) or is_kind(i, SYMBOL) for i in tree[2:]):
@@ -214,6 +242,8 @@ def misfit(operator, sorts):
     """What is counted where an operator does not accept its arguments."""
     if REAL in sorts and all(sort in NUMBERS for sort in sorts) and operator.result((INT,) * len(sorts)):
         return "an operator of integers with a Real, F4"
+    if operator.name in ON_ARRAYS:
+        return "arguments of %s, F4" % operator.name
     if operator.name in ON_OVERFLOW:
         return "arguments of an overflow predicate, F4"
     return "arguments of a conversion, F4" if operator.name in TO_INTS or operator.name in FROM_INTS else None
@@ -221,6 +251,8 @@ def misfit(operator, sorts):
 
 def taken(context, name, what):
     """What is counted where something new may not have a name."""
+    if name in context.operators and name in ON_ARRAYS:
+        return "%s by the name of an operator on arrays, F7" % what
     of_operator = name in context.operators and (name in ON_OVERFLOW or name in TO_INTS)
     return "%s by the name of an overflow predicate or a conversion, F7" % what if of_operator else None
 

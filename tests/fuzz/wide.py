@@ -3,8 +3,10 @@ import random
 
 from dialogues import AIMS, Dialogue, Story, aims, is_right_form, soup_of
 from flaws import LETTERS, SORT_LETTERS, templates
+import array_aims
 import conversions
 import reals
+from array_aims import ArrayAims
 from conversions import ConversionAims
 from inventor import BEHIND_AS, ELEMENT_NAMES, NAMES
 from script import Definition
@@ -20,8 +22,9 @@ REAL_AIMS = aims(
         "real name": 12, "real item": 8,
     },
 )
+ARRAY_AIMS = aims("array", array_aims.COUNTS)
 CONVERSION_AIMS = aims("conversion", conversions.COUNTS)
-WIDE_AIMS = AIMS + REAL_AIMS + CONVERSION_AIMS + aims("global", {"late": 6, "twice": 6}) + aims(
+WIDE_AIMS = AIMS + REAL_AIMS + ARRAY_AIMS + CONVERSION_AIMS + aims("answers", {"X2": 2}) + aims("global", {"late": 6, "twice": 6}) + aims(
     "wide",
     {
         "repeated": 8, "rank": 32, "gone": 4, "inner": 4, "logic": 14, "assumed": 12, "const": 20, "bare": 10, "declared": 3, "twice": 2,
@@ -115,7 +118,7 @@ def reformed(tree):
     return tree
 
 
-class WideStory(ConversionAims, Story):
+class WideStory(ArrayAims, ConversionAims, Story):
     """A story in the profile `wide`."""
 
     PROFILE = WIDE
@@ -908,12 +911,13 @@ class PlainStory(ConversionAims, Story):
     """A story in the profile `base`, where the names of conversions and overflow predicates are free."""
 
 
-def invent_wide(seed, with_steps=False, sorts=False, with_reals=False):
-    """The dialogue of a seed in the profile `wide`; with limits on steps, beginning with a declared sort, or aiming at reals, if it is said."""
-    if with_reals:
+def invent_wide(seed, with_steps=False, sorts=False, with_reals=False, with_arrays=False):
+    """The dialogue of a seed in the profile `wide`; with limits on steps, beginning with a declared sort, or aiming at reals or arrays, if so."""
+    if with_reals or with_arrays:
         rng = random.Random(seed)
-        found = REAL_AIMS + [(None, None, 0, 1)] * 40
-        return WideStory(rng, found[seed % len(found)], seed // len(found), with_steps, sorts, reals.USUAL).tell()
+        found = (REAL_AIMS if with_reals else ARRAY_AIMS) + [(None, None, 0, 1)] * 40
+        logics = reals.USUAL if with_reals else array_aims.USUAL
+        return WideStory(rng, found[seed % len(found)], seed // len(found), with_steps, sorts, logics).tell()
     if seed % 29 == 11 and not sorts:
         return soup_of(random.Random(seed))
     return WideStory(random.Random(seed), WIDE_AIMS[seed % len(WIDE_AIMS)], seed // len(WIDE_AIMS), with_steps, sorts).tell()

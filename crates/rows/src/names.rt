@@ -51,14 +51,39 @@ pub(crate) fn write_found<W: Write>(
     }
 }
 
-/// Writes a sort, as the standard does.
+/// Writes a sort, as the standard does. (Arrays are at most two deep.)
 pub(crate) fn write_sort<W: Write>(out: &mut W, sort: &Sort) -> io::Result<()> {
+    let Some((index, element)) = sort.array_parts() else {
+        return write_plain_sort(out, sort);
+    };
+    let Some((inner, held)) = element.array_parts() else {
+        return write_array_sort(out, &index, &element);
+    };
+    write!(out, "(Array ")?;
+    write_plain_sort(out, &index)?;
+    write!(out, " ")?;
+    write_array_sort(out, &inner, &held)?;
+    write!(out, ")")
+}
+
+// Writes a sort of arrays of elements that are none.
+fn write_array_sort<W: Write>(out: &mut W, index: &Sort, element: &Sort) -> io::Result<()> {
+    write!(out, "(Array ")?;
+    write_plain_sort(out, index)?;
+    write!(out, " ")?;
+    write_plain_sort(out, element)?;
+    write!(out, ")")
+}
+
+// Writes a sort of no arrays.
+fn write_plain_sort<W: Write>(out: &mut W, sort: &Sort) -> io::Result<()> {
     match sort.kind() {
         SortKind::Bool => write!(out, "Bool"),
         SortKind::Int => write!(out, "Int"),
         SortKind::Real => write!(out, "Real"),
         SortKind::Free(command) => write!(out, "the sort of command {command}"),
         SortKind::Bits(width) => write!(out, "(_ BitVec {})", width.bits()),
+        SortKind::Array(_, _) => write!(out, "Array"),
     }
 }
 

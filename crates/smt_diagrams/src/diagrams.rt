@@ -14,13 +14,13 @@ use std::hash::{BuildHasherDefault, DefaultHasher};
 use std::marker::Model;
 
 // The greatest number of forks.
-const MOST: usize = 4_294_967_295;
+const MOST: usize = 67_108_864;
 
 type Forks = IndexSet<Fork, BuildHasherDefault<DefaultHasher>>;
 
 /// The forks that diagrams lead to, each once, in the order in which they came. A contract sees their list.
 ///
-/// There are at most 2^32 - 1 forks, of 16 bytes and as many of the table that finds them. Diagrams over the numbers
+/// There are at most 2^26 forks, of 16 bytes and as many of the table that finds them. Diagrams over the numbers
 /// of n bits are looked at, and made, in n steps. A fork is found by a hash without a secret: to find one among forks
 /// that are chosen to collide takes longer.
 #[derive(Drop)]
@@ -62,7 +62,7 @@ impl Diagrams {
     /// forks.
     ///
     /// The only error is want of memory, and then nothing changes. Want of memory is reported, too, beyond
-    /// 2^32 - 1 forks.
+    /// 2^26 forks.
     pub fn store(
         &mut self,
         bits: u32,

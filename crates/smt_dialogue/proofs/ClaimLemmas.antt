@@ -9,7 +9,7 @@ use Rattle.smt_trees.specs.Sexp.{Sexp, Sexps, Nil, Cons, Atom}
 use Rattle.smt_theory.specs.Sort.{is_same_sort}
 use Rattle.smt_theory.specs.Words.{result_and_then}
 use Rattle.smt_theory.specs.Sort.{Sort}
-use Rattle.smt_theory.specs.Sort.{Boolean as BooleanSort, Int as IntSort, Real as RealSort, Bits, Free}
+use Rattle.smt_theory.specs.Sort.{Boolean as BooleanSort, Int as IntSort, Real as RealSort, Bits, Free, Array}
 use Rattle.smt_forms.specs.Labels.{labels_in}
 use Rattle.smt_terms.specs.Assertions.{label_entries}
 use Rattle.smt_terms.specs.Checking.{sort_in}
@@ -52,6 +52,7 @@ formula_sort (Ok IntSort) labels h = absurd (cc)
 formula_sort (Ok RealSort) labels h = absurd (cc)
 formula_sort (Ok (Bits w)) labels h = absurd (cc)
 formula_sort (Ok (Free command)) labels h = absurd (cc)
+formula_sort (Ok (Array index element)) labels h = absurd (cc)
 formula_sort (Err f) labels h = absurd (cc)
 
 -- an assertion that took effect, without a fault, is a formula
@@ -75,6 +76,7 @@ literal_sort (Ok IntSort) h = absurd (cc)
 literal_sort (Ok RealSort) h = absurd (cc)
 literal_sort (Ok (Bits w)) h = absurd (cc)
 literal_sort (Ok (Free command)) h = absurd (cc)
+literal_sort (Ok (Array index element)) h = absurd (cc)
 literal_sort (Err f) h = absurd (cc)
 
 literal_at : (names : Names) (ls : Sexps) (k : ℕ) (t : Sexp) → flaw_of_literals names ls ≡ None

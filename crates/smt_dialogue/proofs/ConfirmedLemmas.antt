@@ -21,7 +21,9 @@ use Rattle.std.specs.Option.{option_or}
 use Rattle.smt_dialogue.specs.Window.{Printed, models_from, structure_at, window}
 use Rattle.smt_dialogue.specs.Judgement.{Claimed, first_claim, is_false_over, is_open_over}
 use Rattle.smt_dialogue.specs.Judgement.{claims_cost, judged_in, judged_over, judgement_of, refuted_or}
-use Rattle.smt_values.specs.Element.{Agrees, Element, Truth, Integer, Fraction, Vector, Abstract}
+use Rattle.smt_values.specs.Element.{Truth, Integer, Fraction, Vector, Abstract}
+use Rattle.smt_arrays.specs.Element.{Agrees, Element, Filled, Written, Plain as NoArray, known_plain}
+use Rattle.smt_arrays.specs.Operations.{truth}
 use Rattle.smt_values.specs.Operations.{DivisionByZero}
 use Rattle.smt_values.specs.KnownOperations.{is_known}
 use Rattle.smt_eval.specs.Agreement.{AgreesWith}
@@ -67,23 +69,27 @@ lines_of_sat_at profile steps closed before after p s =
 
 -- ## Judgements
 
-is_true_value : (v : Option Element) → not (is_known true v) ≡ false → v ≡ Some (Truth true)
+is_true_value : (v : Option Element) → not (is_known true (known_plain v)) ≡ false → v ≡ Some (truth true)
 is_true_value None h = absurd (cc)
-is_true_value (Some (Truth true)) h = refl
-is_true_value (Some (Truth false)) h = absurd (cc)
-is_true_value (Some (Integer z)) h = absurd (cc)
-is_true_value (Some (Fraction n d)) h = absurd (cc)
-is_true_value (Some (Vector v)) h = absurd (cc)
-is_true_value (Some (Abstract name)) h = absurd (cc)
+is_true_value (Some (NoArray (Truth true))) h = refl
+is_true_value (Some (NoArray (Truth false))) h = absurd (cc)
+is_true_value (Some (NoArray (Integer z))) h = absurd (cc)
+is_true_value (Some (NoArray (Fraction n d))) h = absurd (cc)
+is_true_value (Some (NoArray (Vector v))) h = absurd (cc)
+is_true_value (Some (NoArray (Abstract name))) h = absurd (cc)
+is_true_value (Some (Filled e)) h = absurd (cc)
+is_true_value (Some (Written a i e)) h = absurd (cc)
 
-pub is_false_value : (v : Option Element) → is_known false v ≡ true → v ≡ Some (Truth false)
+pub is_false_value : (v : Option Element) → is_known false (known_plain v) ≡ true → v ≡ Some (truth false)
 is_false_value None h = absurd (cc)
-is_false_value (Some (Truth true)) h = absurd (cc)
-is_false_value (Some (Truth false)) h = refl
-is_false_value (Some (Integer z)) h = absurd (cc)
-is_false_value (Some (Fraction n d)) h = absurd (cc)
-is_false_value (Some (Vector v)) h = absurd (cc)
-is_false_value (Some (Abstract name)) h = absurd (cc)
+is_false_value (Some (NoArray (Truth true))) h = absurd (cc)
+is_false_value (Some (NoArray (Truth false))) h = refl
+is_false_value (Some (NoArray (Integer z))) h = absurd (cc)
+is_false_value (Some (NoArray (Fraction n d))) h = absurd (cc)
+is_false_value (Some (NoArray (Vector v))) h = absurd (cc)
+is_false_value (Some (NoArray (Abstract name))) h = absurd (cc)
+is_false_value (Some (Filled e)) h = absurd (cc)
+is_false_value (Some (Written a i e)) h = absurd (cc)
 
 -- the laws of models, of what is known over them, of structures, and of the assertions in force
 pub record Laws : Type 0 where
@@ -164,7 +170,7 @@ true_model profile steps laws pairs before after p parts place faultless sat h =
           let structure = structure_at profile confirmed.0 before in
           let not_open = first_none (is_open_over structure) among.0 here among.1
           (ap (first_claim (is_open_over structure)) (sym among.2) ∙ confirmed.3) in
-          closed_value laws z structure term (Truth true)
+          closed_value laws z structure term (truth true)
           (is_true_value (known_over structure term) not_open);
     }
 

@@ -15,7 +15,9 @@ use Rattle.smt_eval.specs.Cost.{cost_over}
 use Rattle.smt_eval.specs.Known.{known_over}
 use Rattle.smt_eval.specs.Numbering.{in_numbers}
 use Rattle.smt_terms.specs.Signature.{Signature}
-use Rattle.smt_values.specs.Element.{Abstract, Element, Fraction, Integer, Truth, Vector}
+use Rattle.smt_values.specs.Element.{Abstract, Fraction, Integer, Truth, Vector}
+use Rattle.smt_arrays.specs.Element.{Element, Filled, Written, Plain as NoArray, known_plain}
+use Rattle.smt_arrays.specs.Operations.{truth}
 use Rattle.smt_report.specs.declared.claim.Claim.{Claim}
 use Rattle.smt_dialogue.specs.declared.claims.ReadClaim.{ReadClaim}
 use Rattle.smt_dialogue.specs.declared.judgement.Judgement.{Judgement}
@@ -25,22 +27,26 @@ use Rattle.smt_dialogue.specs.declared.judgement.Judgement.TheVariants.{Refuted,
 
 -- a truth value has no name
 pub truth_by_number : (names : List (List ℕ)) (known : Option Element) (b : Bool)
-    → in_numbers names known ≡ Some (Truth b) → known ≡ Some (Truth b)
-truth_by_number names None b is = is
-truth_by_number names (Some (Truth c)) b is = is
-truth_by_number names (Some (Integer z)) b is = is
-truth_by_number names (Some (Fraction n d)) b is = is
-truth_by_number names (Some (Vector v)) b is = is
-truth_by_number names (Some (Abstract x)) b is = cc
+    → known_plain (in_numbers names known) ≡ Some (Truth b) → known ≡ Some (truth b)
+truth_by_number names None b is = cc
+truth_by_number names (Some (NoArray (Truth c))) b is = cc
+truth_by_number names (Some (NoArray (Integer z))) b is = cc
+truth_by_number names (Some (NoArray (Fraction n d))) b is = cc
+truth_by_number names (Some (NoArray (Vector v))) b is = cc
+truth_by_number names (Some (NoArray (Abstract x))) b is = cc
+truth_by_number names (Some (Filled e)) b is = cc
+truth_by_number names (Some (Written a i e)) b is = cc
 
 pub test_by_number : (names : List (List ℕ)) (known : Option Element) (b : Bool)
-    → is_known b known ≡ is_known b (in_numbers names known)
+    → is_known b (known_plain known) ≡ is_known b (known_plain (in_numbers names known))
 test_by_number names None b = refl
-test_by_number names (Some (Truth c)) b = refl
-test_by_number names (Some (Integer z)) b = refl
-test_by_number names (Some (Fraction n d)) b = refl
-test_by_number names (Some (Vector v)) b = refl
-test_by_number names (Some (Abstract x)) b = refl
+test_by_number names (Some (NoArray (Truth c))) b = refl
+test_by_number names (Some (NoArray (Integer z))) b = refl
+test_by_number names (Some (NoArray (Fraction n d))) b = refl
+test_by_number names (Some (NoArray (Vector v))) b = refl
+test_by_number names (Some (NoArray (Abstract x))) b = refl
+test_by_number names (Some (Filled e)) b = refl
+test_by_number names (Some (Written a i e)) b = refl
 
 -- ---- claims
 
@@ -57,24 +63,24 @@ judged_from d first rest =
 
 -- a claim that is known to be true changes nothing
 pub judged_from-true : (d : Signature) (first : Option Claim) (a : Claimed)
-    (rest : List Claimed) → known_over d a.term ≡ Some (Truth true)
+    (rest : List Claimed) → known_over d a.term ≡ Some (truth true)
     → judged_from d first (a ∷ rest) ≡ judged_from d first rest
 judged_from-true d first a rest e =
-    let e1 : is_false_over d a.term ≡ false = ap (is_known false) e in
-    let e2 : is_open_over d a.term ≡ false = ap (λ (v : Option Element). not (is_known true v)) e in
+    let e1 : is_false_over d a.term ≡ false = ap (λ (v : Option Element). is_known false (known_plain v)) e in
+    let e2 : is_open_over d a.term ≡ false = ap (λ (v : Option Element). not (is_known true (known_plain v))) e in
     rw (e1, e2) refl
 
 -- one that is known to be false decides
 pub judged_from-false : (d : Signature) (first : Option Claim) (a : Claimed)
-    (rest : List Claimed) → known_over d a.term ≡ Some (Truth false)
+    (rest : List Claimed) → known_over d a.term ≡ Some (truth false)
     → judged_from d first (a ∷ rest) ≡ Refuted a.claim
 judged_from-false d first a rest e =
-    let e1 : is_false_over d a.term ≡ true = ap (is_known false) e in rw e1 refl
+    let e1 : is_false_over d a.term ≡ true = ap (λ (v : Option Element). is_known false (known_plain v)) e in rw e1 refl
 
 -- the first that is open is noted
 pub judged_from-open : (d : Signature) (first : Option Claim) (a : Claimed)
-    (rest : List Claimed) → is_known false (known_over d a.term) ≡ false
-    → is_known true (known_over d a.term) ≡ false
+    (rest : List Claimed) → is_known false (known_plain (known_over d a.term)) ≡ false
+    → is_known true (known_plain (known_over d a.term)) ≡ false
     → judged_from d first (a ∷ rest) ≡ judged_from d (or_first first (Some a.claim)) rest
 judged_from-open d None a rest e1 e =
     let e2 : is_open_over d a.term ≡ true = ap not e in
@@ -101,7 +107,7 @@ IsLeft l left d first found =
 -- the next claim is known to be true
 pub left-true : (l : Table) (left as' : List ReadClaim) (a : ReadClaim) (d : Signature)
     (first : Option Claim) (found : Judgement) → left ≡ a ∷ as'
-    → ((t : Sexp) → Denotes l [] 0 0 a.term t → known_over d t ≡ Some (Truth true)) → IsLeft l left d first found
+    → ((t : Sexp) → Denotes l [] 0 0 a.term t → known_over d t ≡ Some (truth true)) → IsLeft l left d first found
     → IsLeft l as' d first found
 left-true l left as' a d first found here is h =
     let next = next_term l a as' h.0 (subst (λ ls. AreClaimed l ls h.0) here h.1) in (
@@ -114,7 +120,7 @@ left-true l left as' a d first found here is h =
 -- it is known to be false, which decides
 pub left-false : (l : Table) (left as' : List ReadClaim) (a : ReadClaim) (d : Signature)
     (first : Option Claim) (found : Judgement) → left ≡ a ∷ as'
-    → ((t : Sexp) → Denotes l [] 0 0 a.term t → known_over d t ≡ Some (Truth false)) → IsLeft l left d first found
+    → ((t : Sexp) → Denotes l [] 0 0 a.term t → known_over d t ≡ Some (truth false)) → IsLeft l left d first found
     → Refuted a.claim ≡ found
 left-false l left as' a d first found here is h =
     let next = next_term l a as' h.0 (subst (λ ls. AreClaimed l ls h.0) here h.1) in
@@ -124,7 +130,7 @@ left-false l left as' a d first found here is h =
 
 -- it is open
 abbrev pub IsOpen : Option Element → Type 0
-IsOpen v = (is_known false v ≡ false) × (is_known true v ≡ false)
+IsOpen v = (is_known false (known_plain v) ≡ false) × (is_known true (known_plain v) ≡ false)
 
 pub left-open : (l : Table) (left as' : List ReadClaim) (a : ReadClaim) (d : Signature)
     (first : Option Claim) (found : Judgement) → left ≡ a ∷ as'

@@ -35,7 +35,7 @@ use Rattle.smt_dialogue.specs.Window.{Printed, models_from, structure_at, window
 use Rattle.smt_dialogue.specs.Judgement.{Claimed, first_claim, is_false_over, is_open_over}
 use Rattle.smt_dialogue.specs.Judgement.{claims_cost, judged_in, judged_over, judgement_of, open_or_confirmed}
 use Rattle.smt_dialogue.specs.Judgement.{refuted_or}
-use Rattle.smt_values.specs.Element.{Truth}
+use Rattle.smt_arrays.specs.Operations.{truth}
 use Rattle.smt_eval.specs.Known.{known_over}
 use Rattle.smt_eval.specs.Model.{model_in}
 use Rattle.smt_eval.specs.Structure.{structure_of}
@@ -452,7 +452,7 @@ invalid_means laws options script answers st at' ls v rs ra j verdict h =
       sorted = claim_sorted options.profile j.pairs before at_pair.last p at_pair.place j.ends.paired.faultless
           check.sat claim
           source.0 over.2.claimed.term source.1;
-      false_in = λ z. closed_value laws z (structure_at options.profile over.0 before) over.2.claimed.term (Truth false)
+      false_in = λ z. closed_value laws z (structure_at options.profile over.0 before) over.2.claimed.term (truth false)
           (is_false_value (known_over (structure_at options.profile over.0 before) over.2.claimed.term) over.2.passes);
       lines_before = l1;
       lines_after = l2 ++ end;

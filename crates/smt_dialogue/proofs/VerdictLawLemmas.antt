@@ -4,7 +4,8 @@ use Rattle.std.proofs.Common.{refl, ap, sym, ◌∙◌, subst}
 use Rattle.std.specs.List.{AllByRecursion}
 use Rattle.smt_trees.specs.Sexp.{Sexp, Sexps, Nil}
 use Rattle.smt_theory.specs.Sort.{Boolean}
-use Rattle.smt_values.specs.Element.{Element, Truth}
+use Rattle.smt_arrays.specs.Element.{Element}
+use Rattle.smt_arrays.specs.Operations.{truth}
 use Rattle.smt_values.specs.Operations.{DivisionByZero, zero_by_zero}
 use Rattle.smt_terms.specs.Checking.{sort_in}
 use Rattle.smt_terms.specs.Signature.{Signature, in_assertion, names_of}
@@ -132,7 +133,7 @@ with_untrue_claim : (options : Options) (script answers : List ℕ) (before : Li
     (z : DivisionByZero) → IsSatOf options script answers before check after → IsModelIn before after m
     → model_in (signature_after options.profile before) m.parts ≡ Ok definitions
     → IsClaimed before check claim earlier term
-    → (value_over z (structure_at options.profile definitions before) [] term ≡ Truth true → ⊥)
+    → (value_over z (structure_at options.profile definitions before) [] term ≡ truth true → ⊥)
     → IsValid options script answers → ⊥
 with_untrue_claim options script answers before check after m definitions claim earlier term z c i read is untrue v
     =
@@ -146,7 +147,7 @@ pub with_untrue : (options : Options) (script answers : List ℕ) (before : List
     (after : List Pair) (m : Printed) (definitions : Signature) (earlier : List Pair) (term : Sexp)
     (z : DivisionByZero) → IsSatOf options script answers before check after → IsModelIn before after m
     → model_in (signature_after options.profile before) m.parts ≡ Ok definitions → IsAsserted before earlier term
-    → (value_over z (structure_at options.profile definitions before) [] term ≡ Truth true → ⊥)
+    → (value_over z (structure_at options.profile definitions before) [] term ≡ truth true → ⊥)
     → IsValid options script answers → ⊥
 with_untrue options script answers before check after m definitions earlier term z c i read asserted untrue v
     = with_untrue_claim options script answers before check after m definitions (Assertion (length earlier + 1))
@@ -156,7 +157,7 @@ pub with_untrue_assumption : (options : Options) (script answers : List ℕ) (be
     (after : List Pair) (m : Printed) (definitions : Signature) (place : ℕ) (term : Sexp)
     (z : DivisionByZero) → IsSatOf options script answers before check after → IsModelIn before after m
     → model_in (signature_after options.profile before) m.parts ≡ Ok definitions → IsAssumed check place term
-    → (value_over z (structure_at options.profile definitions before) [] term ≡ Truth true → ⊥)
+    → (value_over z (structure_at options.profile definitions before) [] term ≡ truth true → ⊥)
     → IsValid options script answers → ⊥
 with_untrue_assumption options script answers before check after m definitions place term z c i read assumed untrue v
     = with_untrue_claim options script answers before check after m definitions (Assumption place) before term z c i
@@ -164,8 +165,8 @@ with_untrue_assumption options script answers before check after m definitions p
 
 -- ## Invalid
 
-not_true : (t : Element) → t ≡ Truth false → t ≡ Truth true → ⊥
-not_true t a b = let bad : Truth true ≡ Truth false = sym b ∙ a in let worse : true ≡ false = cc in cc
+not_true : (t : Element) → t ≡ truth false → t ≡ truth true → ⊥
+not_true t a b = let bad : truth true ≡ truth false = sym b ∙ a in let worse : true ≡ false = cc in cc
 
 -- the check that an invalid dialogue has
 refuted_sat : (options : Options) (script answers : List ℕ) (ls : List Line)
@@ -195,7 +196,7 @@ pub what_is_false : (options : Options) (script answers : List ℕ) (ls : List L
     × IsModelOf (signature_after options.profile before) model.parts definitions
     × IsStructure (structure_at options.profile definitions before) × IsClaimed before check claim earlier term
     × (sort_in (names_of_claim claim (names_of (signature_after options.profile earlier))) [] term ≡ Ok Boolean)
-    × ((z : DivisionByZero) → value_over z (structure_at options.profile definitions before) [] term ≡ Truth false)
+    × ((z : DivisionByZero) → value_over z (structure_at options.profile definitions before) [] term ≡ truth false)
     × (first : List Line) × (last : List Line)
     × (ls ≡ first ++ Refuted (checks_in before + 1) (length before + 1) model.command claim ∷ last)
 what_is_false options script answers ls i = (

@@ -3,6 +3,7 @@ use Rattle.std.specs.Prelude.{ℕ, ◌+◌, List, [], ◌∷◌, ◌++◌, Bool,
 use Rattle.std.specs.Prelude.{map, nat_lt, if◌then◌else◌}
 use Rattle.smt_trees.specs.Sexp.{Sexp, Sexps}
 use Rattle.smt_values.specs.KnownOperations.{is_known}
+use Rattle.smt_arrays.specs.Element.{known_plain}
 use Rattle.smt_terms.specs.Signature.{Signature}
 use Rattle.smt_eval.specs.Cost.{cost_over}
 use Rattle.smt_eval.specs.Known.{known_over}
@@ -43,10 +44,10 @@ first_claim test (c ∷ claims) = if test c.term then Some c.claim else first_cl
 -- whether a formula is known to be false over definitions, or not known to be true: then it is open where it
 -- is not false
 abbrev pub is_false_over : Signature → Sexp → Bool
-is_false_over definitions term = is_known false (known_over definitions term)
+is_false_over definitions term = is_known false (known_plain (known_over definitions term))
 
 abbrev pub is_open_over : Signature → Sexp → Bool
-is_open_over definitions term = not (is_known true (known_over definitions term))
+is_open_over definitions term = not (is_known true (known_plain (known_over definitions term)))
 
 abbrev pub open_or_confirmed : Option Claim → Judgement
 open_or_confirmed (Some claim) = NotDecided claim

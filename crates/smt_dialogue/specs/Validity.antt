@@ -5,7 +5,7 @@ use Rattle.smt_text.specs.Grammar.{Forest}
 use Rattle.smt_trees.specs.Sexp.{Sexp, Sexps, Nil, is_symbol}
 use Rattle.smt_theory.specs.declared.profile.Profile.{Profile}
 use Rattle.smt_theory.specs.Sort.{Boolean}
-use Rattle.smt_values.specs.Element.{Truth}
+use Rattle.smt_arrays.specs.Operations.{truth}
 use Rattle.smt_values.specs.Operations.{DivisionByZero}
 use Rattle.smt_terms.specs.Checking.{sort_in}
 use Rattle.smt_terms.specs.Signature.{Names, Signature, in_assertion, names_of}
@@ -82,7 +82,7 @@ pub record IsTrueModel (profile : Profile) (before : List Pair) (check : Pair) (
       → sort_in (names_of_claim claim (names_of (signature_after profile earlier))) [] term ≡ Ok Boolean
   pub true_in : (z : DivisionByZero) (claim : Claim) (earlier : List Pair) (term : Sexp)
       → IsClaimed before check claim earlier term
-      → value_over z (structure_at profile definitions before) [] term ≡ Truth true
+      → value_over z (structure_at profile definitions before) [] term ≡ truth true
 
 -- a check that was answered `sat`, behind the pairs before it, has a model in its window, and each model
 -- there is a true one
@@ -130,7 +130,7 @@ pub record IsInvalid (options : Options) (script answers : List ℕ) (ls : List 
   pub claimed : IsClaimed before check claim earlier term
   pub sorted : sort_in (names_of_claim claim (names_of (signature_after options.profile earlier))) [] term ≡ Ok Boolean
   pub false_in : (z : DivisionByZero)
-      → value_over z (structure_at options.profile definitions before) [] term ≡ Truth false
+      → value_over z (structure_at options.profile definitions before) [] term ≡ truth false
   pub lines_before : List Line
   pub lines_after : List Line
   pub line : ls ≡ lines_before ++ Refuted (checks_in before + 1) (length before + 1) model.command claim

@@ -10,7 +10,7 @@ ghost use Rattle.std.specs.Prelude.{Option, Ok, Err};
 ghost use Rattle.smt_text.specs.Grammar.{Forest};
 ghost use Rattle.smt_trees.specs.Sexp.{Sexp, Sexps, Nil};
 ghost use Rattle.smt_theory.specs.Sort.{Boolean};
-ghost use Rattle.smt_values.specs.Element.{Truth};
+ghost use Rattle.smt_arrays.specs.Operations.{truth};
 ghost use Rattle.smt_values.specs.Operations.{DivisionByZero};
 ghost use Rattle.smt_terms.specs.Checking.{sort_in};
 ghost use Rattle.smt_terms.specs.Signature.{Signature, in_assertion, names_of};
@@ -176,7 +176,7 @@ pub fn untrue_assertion_is_not_valid()
         → IsSatOf options script answers before check after → IsModelIn before after model
         → model_in (signature_after options.profile before) model.parts ≡ Ok definitions
         → IsAsserted before earlier term
-        → (value_over z (structure_at options.profile definitions before) [] term ≡ Truth true → ⊥)
+        → (value_over z (structure_at options.profile definitions before) [] term ≡ truth true → ⊥)
         → IsValid options script answers → ⊥ }
 {}
 
@@ -190,7 +190,7 @@ pub fn untrue_assumption_is_not_valid()
         → IsSatOf options script answers before check after → IsModelIn before after model
         → model_in (signature_after options.profile before) model.parts ≡ Ok definitions
         → IsAssumed check place term
-        → (value_over z (structure_at options.profile definitions before) [] term ≡ Truth true → ⊥)
+        → (value_over z (structure_at options.profile definitions before) [] term ≡ truth true → ⊥)
         → IsValid options script answers → ⊥ }
 {}
 
@@ -209,7 +209,7 @@ pub fn invalid_names_what_is_false()
         × IsClaimed before check claim earlier term
         × (sort_in (names_of_claim claim (names_of (signature_after options.profile earlier))) [] term ≡ Ok Boolean)
         × ((z : DivisionByZero) → value_over z (structure_at options.profile definitions before) [] term
-        ≡ Truth false)
+        ≡ truth false)
         × (first : List Line) × (last : List Line)
         × (ls ≡ first ++ Refuted (checks_in before + 1)
         (length before + 1) model.command claim ∷ last) }

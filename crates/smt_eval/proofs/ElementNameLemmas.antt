@@ -3,7 +3,7 @@ use Rattle.std.proofs.Common.{◌≡◌, ◌≢◌, ◌↔◌, inl, inr, ℕ, Bo
 use Rattle.std.proofs.Common.{[], ◌∷◌, map, Option, Some, None, Result, Ok, Err, codes, refl, ap, ap₂, sym, ◌∙◌}
 use Rattle.std.proofs.Common.{subst}
 use Rattle.std.specs.List.{All}
-use Rattle.std.specs.Prelude.{bytes_eq, option_and_then, unwrap_or}
+use Rattle.std.specs.Prelude.{bytes_eq, option_and_then, option_map, unwrap_or}
 use Rattle.std.proofs.lemmas.List.Elements.{All-head, All-tail}
 use Rattle.std.proofs.lemmas.Slice.Eq.{bytes_eq-Decides}
 use Rattle.smt_trees.specs.Sexp.{Sexp, Atom, Reserved, Items, Nil, Cons, Symbol}
@@ -13,8 +13,12 @@ use Rattle.smt_theory.specs.Words.{look_up}
 use Rattle.smt_theory.specs.declared.op.Op.{Op}
 use Rattle.smt_theory.specs.declared.op.OpFault.{OpFault}
 use Rattle.smt_theory.specs.declared.theories.Theories.{Theories}
-use Rattle.smt_values.specs.Element.{Element, Truth, Abstract}
-use Rattle.smt_values.specs.Operations.{DivisionByZero, is_same}
+use Rattle.smt_values.specs.Element.{Abstract}
+use Rattle.smt_values.specs.Operations.{DivisionByZero}
+use Rattle.smt_arrays.specs.Element.{Element, Plain as NoArray}
+use Rattle.smt_arrays.specs.Known.{are_all_so}
+use Rattle.smt_arrays.specs.Operations.{truth}
+use Rattle.smt_arrays.specs.Reading.{is_same}
 use Rattle.smt_forms.specs.ElementNames.{sort_of_element}
 use Rattle.smt_forms.specs.Identifier.{Plain}
 use Rattle.smt_values.specs.Element.{Naming}
@@ -47,22 +51,22 @@ undefined_name m (e ∷ es) x args none =
     ∙ by_other_name m e x args (λ is. All-head (λ (d : Entry). d.name ≢ x) e es none (sym is))
 
 no_operator : (z : DivisionByZero) (theories : Theories) (x : List ℕ)
-    → ((op : Op) → op_by theories x [] ≢ Ok op) → operators z theories (Plain x) [] ≡ Abstract x
+    → ((op : Op) → op_by theories x [] ≢ Ok op) → operators z theories (Plain x) [] ≡ NoArray (Abstract x)
 no_operator z theories x none = by (op_by theories x []) refl
   where
-    by : (o : Result Op OpFault) → op_by theories x [] ≡ o → meaning_of_op z o (Plain x) [] ≡ Abstract x
+    by : (o : Result Op OpFault) → op_by theories x [] ≡ o → meaning_of_op z o (Plain x) [] ≡ NoArray (Abstract x)
     by (Ok op) is = absurd (none op is)
     by (Err fault) is = refl
 
 pub alone_value : (z : DivisionByZero) (s : Signature) (r : List (List ℕ × Element)) (x : List ℕ)
-    → IsNoOther s (map (λ v. v.0) r) x → value_over z s r (Atom Symbol x) ≡ Abstract x
+    → IsNoOther s (map (λ v. v.0) r) x → value_over z s r (Atom Symbol x) ≡ NoArray (Abstract x)
 alone_value z s r x none =
     ap (λ (o : Option Element). unwrap_or o (meaning_in z s (Plain x) [])) (no_variable r x none.variable)
     ∙ undefined_name (operators z s.theories) s.entries x [] none.definition
     ∙ no_operator z s.theories x none.operator
 
 pub named_value : (z : DivisionByZero) (s : Signature) (r : List (List ℕ × Element)) (t : Sexp) (x : List ℕ)
-    → NamesElement s (map (λ v. v.0) r) t x → value_over z s r t ≡ Abstract x
+    → NamesElement s (map (λ v. v.0) r) t x → value_over z s r t ≡ NoArray (Abstract x)
 named_value z s r t x (inl (sort, is)) = ap (value_over z s r) is
 named_value z s r t x (inr (is, none)) = ap (value_over z s r) is ∙ alone_value z s r x none
 
@@ -70,13 +74,13 @@ named_value z s r t x (inr (is, none)) = ap (value_over z s r) is ∙ alone_valu
 
 equation_value : (z : DivisionByZero) (s : Signature) (r : List (List ℕ × Element)) (t u : Sexp)
     → All (λ (e : Entry). e.name ≢ codes "=") s.entries
-    → value_over z s r (equation t u) ≡ Truth (is_same (value_over z s r t) (value_over z s r u) && true)
+    → value_over z s r (equation t u) ≡ truth (is_same (value_over z s r t) (value_over z s r u) && true)
 equation_value z s r t u none =
     undefined_name (operators z s.theories) s.entries (codes "=")
     (value_over z s r t ∷ value_over z s r u ∷ []) none
 
 same_name : (x y : List ℕ) (b : Bool) → (b ≡ true → x ≡ y) → (x ≡ y → b ≡ true)
-    → ((Truth (b && true) ≡ Truth true) ↔ (x ≡ y)) × ((Truth (b && true) ≡ Truth false) ↔ (x ≢ y))
+    → ((truth (b && true) ≡ truth true) ↔ (x ≡ y)) × ((truth (b && true) ≡ truth false) ↔ (x ≢ y))
 same_name x y true is has =
     ((λ h. is refl, λ h. refl), (λ h. cc, λ differ. absurd (differ (is refl))))
 same_name x y false is has =
@@ -87,18 +91,18 @@ module _ (z : DivisionByZero) (s : Signature) (r : List (List ℕ × Element)) (
   pub names_apart : (value_over z s r t ≡ value_over z s r u) ↔ (x ≡ y)
   names_apart = (
     λ same. let p = named_value z s r t x left in let q = named_value z s r u y right in cc,
-    λ same. named_value z s r t x left ∙ ap Abstract same ∙ sym (named_value z s r u y right),
+    λ same. named_value z s r t x left ∙ ap (λ (n : List ℕ). NoArray (Abstract n)) same ∙ sym (named_value z s r u y right),
   )
 
   equated : All (λ (e : Entry). e.name ≢ codes "=") s.entries
-      → value_over z s r (equation t u) ≡ Truth (bytes_eq x y && true)
+      → value_over z s r (equation t u) ≡ truth (bytes_eq x y && true)
   equated none = equation_value z s r t u none
-      ∙ ap₂ (λ (d e : Element). Truth (is_same d e && true)) (named_value z s r t x left) (named_value z s r u y right)
+      ∙ ap₂ (λ (d e : Element). truth (is_same d e && true)) (named_value z s r t x left) (named_value z s r u y right)
 
   pub compared : All (λ (e : Entry). e.name ≢ codes "=") s.entries
-      → ((value_over z s r (equation t u) ≡ Truth true) ↔ (x ≡ y))
-      × ((value_over z s r (equation t u) ≡ Truth false) ↔ (x ≢ y))
-  compared none = subst (λ (e : Element). ((e ≡ Truth true) ↔ (x ≡ y)) × ((e ≡ Truth false) ↔ (x ≢ y)))
+      → ((value_over z s r (equation t u) ≡ truth true) ↔ (x ≡ y))
+      × ((value_over z s r (equation t u) ≡ truth false) ↔ (x ≢ y))
+  compared none = subst (λ (e : Element). ((e ≡ truth true) ↔ (x ≡ y)) × ((e ≡ truth false) ↔ (x ≢ y)))
       (sym (equated none)) (same_name x y (bytes_eq x y) (bytes_eq-Decides x y).0 (bytes_eq-Decides x y).1)
 
 -- ---- what is known
@@ -117,7 +121,7 @@ undefined_known m (e ∷ es) x args none =
 
 -- what is known of the name of an element, by its form
 abbrev known_alone : List ℕ → Option Element
-known_alone x = option_and_then (λ sort. by_name x) (sort_of_element x)
+known_alone x = option_map NoArray (option_and_then (λ sort. by_name x) (sort_of_element x))
 
 no_known_operator : (theories : Theories) (x : List ℕ) → ((op : Op) → op_by theories x [] ≢ Ok op)
     → (known_operators by_name theories).gives (Plain x) [] ≡ known_alone x
@@ -138,26 +142,26 @@ module _ (s : Signature) (r : List (List ℕ × Option Element)) where
       ∙ no_known_operator s.theories x none.operator
 
   alone_kept : (x : List ℕ) (e : Element) (o : Option (List ℕ))
-      → option_and_then (λ sort. by_name x) o ≡ Some e → e ≡ Abstract x
+      → option_map NoArray (option_and_then (λ sort. by_name x) o) ≡ Some e → e ≡ NoArray (Abstract x)
   alone_kept x e None h = cc
   alone_kept x e (Some sort) h = cc
 
   -- behind an `as` every element is known
   pub qualified_name : (x : List ℕ) (sort : Sexp)
-      → known_here (Items (Cons (Reserved As) (Cons (Atom Symbol x) (Cons sort Nil)))) ≡ Some (Abstract x)
-  qualified_name x sort = ap (λ (f : Naming). f x) (element_kept (known_operators by_name s.theories) s.entries)
+      → known_here (Items (Cons (Reserved As) (Cons (Atom Symbol x) (Cons sort Nil)))) ≡ Some (NoArray (Abstract x))
+  qualified_name x sort = ap (λ (f : Naming). option_map NoArray (f x)) (element_kept (known_operators by_name s.theories) s.entries)
 
   pub known_name : (t : Sexp) (x : List ℕ) (e : Element) → NamesElement s (map (λ v. v.0) r) t x
-      → known_here t ≡ Some e → e ≡ Abstract x
+      → known_here t ≡ Some e → e ≡ NoArray (Abstract x)
   known_name t x e (inl (sort, is)) h =
-      let same : Some (Abstract x) ≡ Some e = sym (qualified_name x sort) ∙ sym (ap known_here is) ∙ h in cc
+      let same : Some (NoArray (Abstract x)) ≡ Some e = sym (qualified_name x sort) ∙ sym (ap known_here is) ∙ h in cc
   known_name t x e (inr (is, none)) h =
       alone_kept x e (sort_of_element x) (sym (ap known_here is ∙ known_by_name x none) ∙ h)
 
   pub alone_held : (x sort : List ℕ) → IsNoOther s (map (λ v. v.0) r) x → sort_of_element x ≡ Some sort
-      → known_here (Atom Symbol x) ≡ Some (Abstract x)
+      → known_here (Atom Symbol x) ≡ Some (NoArray (Abstract x))
   alone_held x sort other form = known_by_name x other
-      ∙ ap (λ (o : Option (List ℕ)). option_and_then (λ sort. by_name x) o) form
+      ∙ ap (λ (o : Option (List ℕ)). option_map NoArray (option_and_then (λ sort. by_name x) o)) form
 
   -- ---- two names of which is known
 
@@ -166,25 +170,25 @@ module _ (s : Signature) (r : List (List ℕ × Option Element)) where
       → (d ≡ e) ↔ (x ≡ y)
   known_apart t u x y d e left right p q =
       let f = known_name t x d left p in
-      let g = known_name u y e right q in (λ same. cc, λ same. f ∙ ap Abstract same ∙ sym g)
+      let g = known_name u y e right q in (λ same. cc, λ same. f ∙ ap (λ (n : List ℕ). NoArray (Abstract n)) same ∙ sym g)
 
   pub known_compared : (t u : Sexp) (x y : List ℕ) (d e : Element) → NamesElement s (map (λ v. v.0) r) t x
       → NamesElement s (map (λ v. v.0) r) u y → known_here t ≡ Some d → known_here u ≡ Some e
       → All (λ (e : Entry). e.name ≢ codes "=") s.entries
-      → ((known_here (equation t u) ≡ Some (Truth true)) ↔ (x ≡ y))
-      × ((known_here (equation t u) ≡ Some (Truth false)) ↔ (x ≢ y))
+      → ((known_here (equation t u) ≡ Some (truth true)) ↔ (x ≡ y))
+      × ((known_here (equation t u) ≡ Some (truth false)) ↔ (x ≢ y))
   known_compared t u x y d e left right p q none =
       let f = p ∙ ap Some (known_name t x d left p) in
       let g = q ∙ ap Some (known_name u y e right q) in
-      subst (λ (o : Option Element). ((o ≡ Some (Truth true)) ↔ (x ≡ y)) × ((o ≡ Some (Truth false)) ↔ (x ≢ y)))
+      subst (λ (o : Option Element). ((o ≡ Some (truth true)) ↔ (x ≡ y)) × ((o ≡ Some (truth false)) ↔ (x ≢ y)))
       (sym (undefined_known (known_operators by_name s.theories) s.entries (codes "=")
       (known_here t ∷ known_here u ∷ []) none
       ∙ ap₂ (λ (a b : Option Element). (known_operators by_name s.theories).gives (Plain (codes "=")) (a ∷ b ∷ [])) f g))
       (same_known x y (bytes_eq x y) (bytes_eq-Decides x y).0 (bytes_eq-Decides x y).1)
     where
       same_known : (x y : List ℕ) (b : Bool) → (b ≡ true → x ≡ y) → (x ≡ y → b ≡ true)
-          → ((Some (Truth (b && true)) ≡ Some (Truth true)) ↔ (x ≡ y))
-          × ((Some (Truth (b && true)) ≡ Some (Truth false)) ↔ (x ≢ y))
+          → ((option_map truth (are_all_so (Some b ∷ [])) ≡ Some (truth true)) ↔ (x ≡ y))
+          × ((option_map truth (are_all_so (Some b ∷ [])) ≡ Some (truth false)) ↔ (x ≢ y))
       same_known x y true is has =
           ((λ h. is refl, λ h. refl), (λ h. cc, λ differ. absurd (differ (is refl))))
       same_known x y false is has =

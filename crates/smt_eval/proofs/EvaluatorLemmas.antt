@@ -14,9 +14,10 @@ use Rattle.smt_trees.specs.declared.view.Tree.TheVariants as tree
 use Rattle.smt_theory.specs.Index.{IndexView}
 use Rattle.smt_theory.specs.Operators.{op_by}
 use Rattle.smt_theory.specs.Words.{look_up}
-use Rattle.smt_values.specs.Element.{Element, known_element}
+use Rattle.smt_arrays.specs.Element.{Element}
+use Rattle.smt_eval.specs.PlainTerm.{known_single}
 use Rattle.smt_values.specs.declared.value.Value.{Value}
-use Rattle.smt_forms.specs.Identifier.{Plain, Indexed, applied}
+use Rattle.smt_forms.specs.Identifier.{Plain, Indexed, Qualified, applied}
 use Rattle.smt_forms.specs.ScopeView.{scope_view}
 use Rattle.smt_terms.specs.Signature.{AreDistinct, Entry, Signature, entry_named}
 use Rattle.smt_forms.specs.declared.variable.Variable.{Variable}
@@ -44,6 +45,12 @@ pub known_with_indexes : (m : KnownMeaning) (es : List Entry) (x : List ℕ) (in
     (args : List (Option Element)) → (known_after m es).gives (Indexed x indexes) args ≡ m.gives (Indexed x indexes) args
 known_with_indexes m [] x indexes args = refl
 known_with_indexes m (e ∷ es) x indexes args = known_with_indexes (with_known m e) es x indexes args
+
+-- and a constant array
+pub known_constant : (m : KnownMeaning) (es : List Entry) (sort : Sexp) (args : List (Option Element))
+    → (known_after m es).gives (Qualified sort) args ≡ m.gives (Qualified sort) args
+known_constant m [] sort args = refl
+known_constant m (e ∷ es) sort args = known_constant (with_known m e) es sort args
 
 -- definitions change nothing of elements
 pub element_kept : (m : KnownMeaning) (es : List Entry) → (known_after m es).element ≡ m.element
@@ -79,8 +86,8 @@ all_first d n is = ap (λ (es : List Entry). record d { entries = es })
 
 -- what is known, and what that is
 pub if_known : {F : Type 0} (r : Result (Option Value) F) (x y : Option Element)
-    → IfOk r (λ v. known_element v ≡ x) → x ≡ y → IfOk r (λ v. known_element v ≡ y)
-if_known r x y h is = subst (λ z. IfOk r (λ v. known_element v ≡ z)) is h
+    → IfOk r (λ v. known_single v ≡ x) → x ≡ y → IfOk r (λ v. known_single v ≡ y)
+if_known r x y h is = subst (λ z. IfOk r (λ v. known_single v ≡ z)) is h
 
 -- ---- lists
 
@@ -109,7 +116,7 @@ pub let_known : (k : KnownMeaning) (r : List (List ℕ × Option Element)) (args
 let_known k r args bindings body all vs ws split bound whole scope =
     ap (λ ts. known_of k r (Items (Cons (Reserved Let) ts))) split
     ∙ sym (ap (λ s. known_of k s body)
-    (ap known_scope whole ∙ map-append (λ v. (v.name.now, known_element v.value)) vs ws ∙ ap
+    (ap known_scope whole ∙ map-append (λ v. (v.name.now, known_single v.value)) vs ws ∙ ap
     (λ s. s ++ known_scope ws) bound ∙ ap (λ s. knowns_bound k r bindings ++ s) (sym scope)))
 
 pub indexed_known : (element : Naming) (d : Signature) (n : ℕ) (x : List ℕ) (indexes : List IndexView)
@@ -128,25 +135,25 @@ not_defined element d n x args none = known_absent (known_operators element d.th
 
 -- what is looked up among variables is looked up among what is known of them
 look_up-known : (vs : List (Variable (Option Value))) (x : List ℕ)
-    → look_up (known_scope vs) x ≡ option_map known_element (look_up (scope_view vs) x)
+    → look_up (known_scope vs) x ≡ option_map known_single (look_up (scope_view vs) x)
 look_up-known [] x = refl
 look_up-known (v ∷ vs) x = by (bytes_eq x v.name.now) (look_up-known vs x)
   where
-    by : (b : Bool) → look_up (known_scope vs) x ≡ option_map known_element (look_up (scope_view vs) x)
-        → cond b (Some (known_element v.value)) (look_up (known_scope vs) x)
-        ≡ option_map known_element (cond b (Some v.value) (look_up (scope_view vs) x))
+    by : (b : Bool) → look_up (known_scope vs) x ≡ option_map known_single (look_up (scope_view vs) x)
+        → cond b (Some (known_single v.value)) (look_up (known_scope vs) x)
+        ≡ option_map known_single (cond b (Some v.value) (look_up (scope_view vs) x))
     by true rest = refl
     by false rest = rest
 
 pub variable_found : (k : KnownMeaning) (vs : List (Variable (Option Value))) (x : List ℕ)
     (r : Option (Option Value)) (v : Option Value) → r ≡ look_up (scope_view vs) x → r ≡ Some v
-    → known_element v ≡ known_of k (known_scope vs) (Atom Symbol x)
+    → known_single v ≡ known_of k (known_scope vs) (Atom Symbol x)
 variable_found k vs x r v is at = sym
     (ap (λ o. unwrap_or o (k.gives (Plain x) []))
-    (look_up-known vs x ∙ ap (option_map known_element) (sym is ∙ at)))
+    (look_up-known vs x ∙ ap (option_map known_single) (sym is ∙ at)))
 
 pub no_variable : (k : KnownMeaning) (vs : List (Variable (Option Value))) (x : List ℕ)
     (r : Option (Option Value)) → r ≡ look_up (scope_view vs) x → r ≡ None
     → known_of k (known_scope vs) (Atom Symbol x) ≡ k.gives (Plain x) []
 no_variable k vs x r is at =
-    ap (λ o. unwrap_or o (k.gives (Plain x) [])) (look_up-known vs x ∙ ap (option_map known_element) (sym is ∙ at))
+    ap (λ o. unwrap_or o (k.gives (Plain x) [])) (look_up-known vs x ∙ ap (option_map known_single) (sym is ∙ at))

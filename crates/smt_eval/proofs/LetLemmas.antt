@@ -11,7 +11,7 @@ use Rattle.smt_trees.specs.Sexp.{Sexp, Sexps, Atom, Reserved, Items, Nil, Cons, 
 use Rattle.smt_trees.specs.Sexp.{Hexadecimal, Binary}
 use Rattle.smt_trees.specs.declared.reserved.Word.TheVariants.{As, Bang, Let, Underscore}
 use Rattle.smt_theory.specs.Words.{look_up}
-use Rattle.smt_values.specs.Element.{Element}
+use Rattle.smt_arrays.specs.Element.{Element}
 use Rattle.smt_values.specs.Operations.{DivisionByZero}
 use Rattle.smt_forms.specs.Bindings.{named_trees}
 use Rattle.smt_forms.specs.Identifier.{Plain, applied}
@@ -26,17 +26,15 @@ use Rattle.smt_eval.specs.Meaning.{value_over, values_bound, values_of, with_def
 abbrev pub Variables : Type 0
 Variables = List (List ℕ × Element)
 
--- the same result of what a list applies, whatever the arguments are
-applied_alike : (head x y : Sexp) (xs ys : Sexps) → applied head (Cons x xs) ≡ applied head (Cons y ys)
-applied_alike (Atom Symbol name) x y xs ys = refl
-applied_alike (Items (Cons (Reserved As) parts)) x y xs ys = refl
-applied_alike (Items (Cons (Reserved Underscore) parts)) x y xs ys = refl
-applied_alike (Reserved word) x y xs ys = refl
-applied_alike _ x y xs ys = refl
-
+-- what a list applies is the same with other terms in place of its arguments
 applied_put : (put : Replacing) (head : Sexp) (args : Sexps) → applied head args ≡ applied head (put_in_all put args)
 applied_put put head Nil = refl
-applied_put put head (Cons x xs) = applied_alike head x (put_in put x) xs (put_in_all put xs)
+applied_put put (Atom Symbol name) (Cons x xs) = refl
+applied_put put (Items (Cons (Reserved As) parts)) (Cons x Nil) = refl
+applied_put put (Items (Cons (Reserved As) parts)) (Cons x (Cons y xs)) = refl
+applied_put put (Items (Cons (Reserved Underscore) parts)) (Cons x xs) = refl
+applied_put put (Reserved word) (Cons x xs) = refl
+applied_put put _ (Cons x xs) = refl
 
 module _ (m : Meaning) where
   -- the value of a term is the same whatever the variables are

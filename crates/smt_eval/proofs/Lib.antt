@@ -16,6 +16,11 @@ pub mod RenamingLemmas
 pub mod NumberingLemmas
 pub mod SetAsideLemmas
 pub mod PlainLemmas
+pub mod SingleLemmas
+pub mod PlainRenamingLemmas
+pub mod ArrayRenamingLemmas
+pub mod PlainNumberingLemmas
+pub mod ArrayNumberingLemmas
 pub mod ModelFaultLemmas
 pub mod StructureSortLemmas
 pub mod UnusedVariableLemmas

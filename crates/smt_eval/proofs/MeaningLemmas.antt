@@ -13,14 +13,17 @@ use Rattle.smt_theory.specs.Words.{look_up}
 use Rattle.smt_theory.specs.declared.op.Op.{Op}
 use Rattle.smt_theory.specs.declared.op.OpFault.{OpFault}
 use Rattle.smt_theory.specs.declared.theories.Theories.{Theories}
-use Rattle.smt_values.specs.Element.{Element, Abstract, Integer, Vector, Agrees, AllAgree}
-use Rattle.smt_values.specs.KnownOperations.{known_step}
+use Rattle.smt_values.specs.Element.{Abstract, Integer, Vector}
+use Rattle.smt_values.specs.Element as plain
+use Rattle.smt_arrays.specs.Element.{Element, Filled, Plain as NoArray, Agrees, AllAgree}
+use Rattle.smt_arrays.specs.Known.{known_step}
 use Rattle.smt_values.specs.Decimals.{decimal_value}
 use Rattle.smt_values.specs.Literals.{decimal_element, numeral_element}
-use Rattle.smt_values.specs.Operations.{DivisionByZero, operate}
+use Rattle.smt_values.specs.Operations.{DivisionByZero}
+use Rattle.smt_arrays.specs.Operations.{operate}
 use Rattle.smt_forms.specs.ElementNames.{qualified_symbol, sort_of_element}
 use Rattle.smt_forms.specs.Heads.{begins_indexed}
-use Rattle.smt_forms.specs.Identifier.{Identifier, Plain, Indexed, applied, indexed, operator_of}
+use Rattle.smt_forms.specs.Identifier.{Identifier, Plain, Indexed, Qualified, applied, indexed, operator_of}
 use Rattle.smt_values.specs.Element.{Naming}
 use Rattle.smt_terms.specs.Signature.{Entry, Origin, Declared, Defined, Signature}
 use Rattle.smt_faults.specs.declared.term_flaw.TermFlaw.{TermFlaw}
@@ -50,7 +53,7 @@ StepsAreTrue = (z : DivisionByZero) (op : Op) (ks : List (Option Element)) (es :
 
 -- the law of decimals
 abbrev pub DecimalsAreTrue : Type 0
-DecimalsAreTrue = (digits : List ℕ) (e : Element) → decimal_element digits ≡ Some e → e ≡ decimal_value digits
+DecimalsAreTrue = (digits : List ℕ) (e : plain.Element) → decimal_element digits ≡ Some e → e ≡ decimal_value digits
 
 -- an element is that of its name
 abbrev pub NamesAreTrue : KnownMeaning → Type 0
@@ -58,12 +61,13 @@ NamesAreTrue k = (x : List ℕ) → k.element x ≡ Some (Abstract x)
 
 -- also behind an `as`
 symbol_true : (k : KnownMeaning) → NamesAreTrue k → (o : Option (List ℕ))
-    → Agrees (option_and_then k.element o) (element_of_symbol o)
+    → Agrees (option_map NoArray (option_and_then k.element o)) (element_of_symbol o)
 symbol_true k named None = tt
-symbol_true k named (Some x) = subst (λ o. Agrees o (Abstract x)) (sym (named x)) refl
+symbol_true k named (Some x) = subst (λ o. Agrees (option_map NoArray o) (NoArray (Abstract x))) (sym (named x)) refl
 
 -- and that of a symbol, if it has the form of one
-form_true : (x : List ℕ) (o : Option (List ℕ)) → Agrees (option_and_then (λ sort. by_name x) o) (Abstract x)
+form_true : (x : List ℕ) (o : Option (List ℕ))
+    → Agrees (option_map NoArray (option_and_then (λ sort. by_name x) o)) (NoArray (Abstract x))
 form_true x None = tt
 form_true x (Some sort) = refl
 
@@ -74,6 +78,12 @@ other_true (Plain x) [] [] h = form_true x (sort_of_element x)
 other_true (Plain x) [] (e ∷ es) h = absurd h
 other_true (Plain x) (k ∷ ks) es h = tt
 other_true (Indexed x indexes) ks es h = tt
+other_true (Qualified sort) [] es h = tt
+other_true (Qualified sort) (k ∷ []) [] h = absurd h
+other_true (Qualified sort) (None ∷ []) (e ∷ []) h = tt
+other_true (Qualified sort) (Some k ∷ []) (e ∷ []) h = ap Filled h.0
+other_true (Qualified sort) (k ∷ []) (e ∷ f ∷ es) h = absurd h.1
+other_true (Qualified sort) (k ∷ l ∷ ks) es h = tt
 
 -- what operators are known to mean is true
 Means-operators : StepsAreTrue → (z : DivisionByZero) (theories : Theories)
@@ -125,29 +135,33 @@ by_true (Ok f) k m h = h f
 by_true (Err fault) k m h = tt
 
 -- a numeral that is known is the integer that it spells
-numeral_true : (digits : List ℕ) → Agrees (numeral_element digits) (Integer (pos (digits_value 10 digits)))
+numeral_true : (digits : List ℕ)
+    → Agrees (option_map NoArray (numeral_element digits)) (NoArray (Integer (pos (digits_value 10 digits))))
 numeral_true digits = by (nat_lt (digits_value 10 digits) (2 ^ 127)) refl
   where
     by : (b : Bool) → nat_lt (digits_value 10 digits) (2 ^ 127) ≡ b
-        → Agrees (numeral_element digits) (Integer (pos (digits_value 10 digits)))
+        → Agrees (option_map NoArray (numeral_element digits)) (NoArray (Integer (pos (digits_value 10 digits))))
     by true h = rw h refl
     by false h = rw h tt
 
 -- so is a decimal
-decimal_true : DecimalsAreTrue → (digits : List ℕ) → Agrees (decimal_element digits) (decimal_value digits)
+decimal_true : DecimalsAreTrue → (digits : List ℕ)
+    → Agrees (option_map NoArray (decimal_element digits)) (NoArray (decimal_value digits))
 decimal_true law digits = by (decimal_element digits) refl
   where
-    by : (o : Option Element) → decimal_element digits ≡ o → Agrees o (decimal_value digits)
+    by : (o : Option plain.Element) → decimal_element digits ≡ o
+        → Agrees (option_map NoArray o) (NoArray (decimal_value digits))
     by None is = tt
-    by (Some e) is = sym (law digits e is)
+    by (Some e) is = ap NoArray (sym (law digits e is))
 
 -- so is a bit vector
 constant_true : (base bits : ℕ) (digits : List ℕ)
-    → Agrees (option_map Vector (known_constant base bits digits)) (Vector (constant base bits digits))
+    → Agrees (option_map NoArray (option_map Vector (known_constant base bits digits)))
+    (NoArray (Vector (constant base bits digits)))
 constant_true base bits digits = by (is_some (width_of (bits * length digits)))
   where
-    by : (b : Bool) → Agrees (option_map Vector (cond b (Some (constant base bits digits)) None))
-        (Vector (constant base bits digits))
+    by : (b : Bool) → Agrees (option_map NoArray (option_map Vector (cond b (Some (constant base bits digits)) None)))
+        (NoArray (Vector (constant base bits digits)))
     by true = refl
     by false = tt
 
@@ -219,6 +233,7 @@ AgreesWith-zip (p ∷ ps) (k ∷ ks) (e ∷ es) h x = in_front (bytes_eq x p) k 
 Means-with : DecimalsAreTrue → (k : KnownMeaning) (m : Meaning) (e : Entry) → Means k m → NamesAreTrue k
     → Means (with_known k e) (with_definition m e)
 Means-with decimals k m e means named (Indexed f indexes) ks es h = means (Indexed f indexes) ks es h
+Means-with decimals k m e means named (Qualified sort) ks es h = means (Qualified sort) ks es h
 Means-with decimals k m e means named (Plain f) ks es h = by (bytes_eq f e.name) e.origin
   where
     by : (b : Bool) (s : Origin)

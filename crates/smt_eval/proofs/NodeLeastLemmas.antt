@@ -9,14 +9,16 @@ use Rattle.smt_trees.specs.Sexp.{Binary}
 use Rattle.smt_trees.specs.Sexp.{Symbol}
 use Rattle.smt_trees.specs.declared.reserved.Word.TheVariants.{As, Bang, Let, Underscore}
 use Rattle.smt_theory.specs.Operators.{op_by}
-use Rattle.smt_theory.specs.Words.{look_up}
+use Rattle.smt_theory.specs.Words.{look_up, result_and_then}
 use Rattle.smt_theory.specs.declared.op.Op.{Op}
+use Rattle.smt_theory.specs.declared.op.ArraysOp.TheVariants.{Const}
+use Rattle.smt_theory.specs.declared.op.Op.TheVariants.{Arrays}
 use Rattle.smt_theory.specs.declared.op.OpFault.{OpFault}
 use Rattle.smt_theory.specs.Sort.{Sort}
 use Rattle.smt_theory.specs.Sort.{Boolean}
 use Rattle.smt_faults.specs.declared.term_flaw.TermFlaw.{TermFlaw}
 use Rattle.smt_forms.specs.ElementNames.{qualified_symbol}
-use Rattle.smt_forms.specs.Identifier.{Identifier, Plain, Indexed, applied, operator_of}
+use Rattle.smt_forms.specs.Identifier.{Identifier, Plain, Indexed, Qualified, applied, operator_of}
 use Rattle.smt_forms.specs.Labels.{labels_among}
 use Rattle.smt_theory.specs.declared.literal.LiteralKind.TheVariants as literal
 use Rattle.smt_nodes.specs.Node as node
@@ -28,8 +30,9 @@ use Rattle.smt_values.specs.Element.{Naming}
 use Rattle.smt_machine.specs.Tables.{call, resolved, shifted}
 use Rattle.smt_terms.specs.Denotes.{AreBound, AreDenoted, Denotes, HasBodyBelow, Head, IsNameOf, IsNode, IsRow}
 use Rattle.smt_terms.specs.Denotes.{Slots, Table, UsesNone, applied_node, element_node, named_node, node_alone, node_at}
-use Rattle.smt_terms.specs.Denotes.{node_of, qualified_node, slots_bound, symbol_node, unless_labelled}
-use Rattle.smt_terms.specs.Elements.{ElementNames, element_among}
+use Rattle.smt_terms.specs.SortTrees.{sort_named}
+use Rattle.smt_terms.specs.Denotes.{constant_node, node_of, qualified_node, slots_bound, symbol_node, unless_labelled}
+use Rattle.smt_terms.specs.Elements.{ElementNames, constant_sorts, element_among}
 use Rattle.smt_terms.specs.declared.library.Found.{Found}
 use Rattle.smt_terms.specs.declared.library.Found.TheVariants as place
 use Rattle.smt_eval.proofs.NodeCostLemmas.{CostsItsNodes, inner_cost, no_row, row_of}
@@ -130,6 +133,18 @@ module _ (c k : ℕ → ℕ) (held : Naming) (off : ℕ) (declared : List ℕ) (
           let same = ap (λ a. inner_least (off + i) k (Some (resolved held off t.bodies declared a))) is in
           omega (arith, same)
       by (Err fault) made = cc
+  identifier_counts i (Qualified sort) js m h at body =
+      by (sort_named (constant_sorts t.theories t.elements) sort) at
+    where
+      by : (r : Result Sort TermFlaw)
+          → constant_node (result_and_then r (λ s. Ok (Arrays (Const s)))) js ≡ Some m
+          → arguments_least (off + i) k false (shifted off js)
+          ≤ inner_least (off + i) k (Some (resolved held off t.bodies declared m))
+      by (Err fault) made = cc
+      by (Ok s) made =
+          let is : node.Apply (Arrays (Const s)) js ≡ m = cc in
+          let same = ap (λ a. inner_least (off + i) k (Some (resolved held off t.bodies declared a))) is in
+          omega (arith, same)
 
   applied_counts : (i around : ℕ) (f : Identifier) (js : List ℕ) → i ≤ last
       → IsNode t around i (node_of t f js)

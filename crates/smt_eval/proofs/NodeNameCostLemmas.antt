@@ -8,7 +8,7 @@ use Rattle.smt_theory.specs.Operators.{is_plain_operator, op_by, plain_op}
 use Rattle.smt_theory.specs.Words.{look_up}
 use Rattle.smt_theory.specs.declared.op.Op.{Op}
 use Rattle.smt_theory.specs.declared.op.OpFault.{OpFault}
-use Rattle.smt_forms.specs.Identifier.{Identifier, Plain, Indexed, operator_of}
+use Rattle.smt_forms.specs.Identifier.{Identifier, Plain, Indexed, Qualified, operator_of}
 use Rattle.smt_nodes.specs.Node as node
 use Rattle.smt_nodes.specs.Node.{Node}
 use Rattle.smt_machine.specs.Costs.{parts_cost}
@@ -16,7 +16,9 @@ use Rattle.smt_machine.specs.Nodes.{Giving}
 use Rattle.smt_values.specs.Element.{Naming}
 use Rattle.smt_machine.specs.Tables.{call, resolved, shifted}
 use Rattle.smt_terms.specs.Denotes.{Denotes, HasBodyBelow, Head, Table, applied_node, named_node, node_at}
-use Rattle.smt_terms.specs.Denotes.{slots_from}
+use Rattle.smt_faults.specs.declared.term_flaw.TermFlaw.{TermFlaw}
+use Rattle.smt_terms.specs.Denotes.{constant_node, slots_from}
+use Rattle.smt_terms.specs.Elements.{constant_op}
 use Rattle.smt_terms.specs.Library.{declared_among}
 use Rattle.smt_terms.specs.Signature.{Entry, Origin, Signature}
 use Rattle.smt_terms.specs.TermsOf.{IsBody, first_heads}
@@ -58,6 +60,7 @@ module _ (naming held : Naming) (g : Giving) (off : ℕ) (declared : List ℕ) (
   operator_free : (n : ℕ) (f : Identifier) (op : Op) → operator_of t.theories f ≡ Ok op
       → head_cost (costing n) (Ok f) ≡ 0
   operator_free n (Indexed x indexes) op is = refl
+  operator_free n (Qualified sort) op is = refl
   operator_free n (Plain x) op is =
       let plain = ap (λ ts. is_plain_operator ts x) (sym names.theories)
       ∙ some_op (plain_op t.theories x) op is in
@@ -145,6 +148,16 @@ module _ (naming held : Naming) (g : Giving) (off : ℕ) (declared : List ℕ) (
             ≡ 0 + parts_cost (off + i) c (shifted off js)
         by (Ok op) is here = operator_costs i (Indexed x indexes) js op m is here
         by (Err fault) is here = cc
+    costs_its_nodes i (Qualified sort) js m below made body = by (constant_op t.theories t.elements sort) made
+      where
+        by : (o : Result Op TermFlaw) → constant_node o js ≡ Some m
+            → inner_cost (off + i) c (resolved held off t.bodies declared m)
+            ≡ 0 + parts_cost (off + i) c (shifted off js)
+        by (Err fault) here = cc
+        by (Ok op) here =
+            let same : node.Apply op js ≡ m = cc in
+            let inner = ap (λ a. inner_cost (off + i) c (resolved held off t.bodies declared a)) (sym same) in
+            omega (arith, inner)
 
   -- ---- bodies
 

@@ -1,5 +1,5 @@
 -- The nodes of names give what the names mean where the definitions before them are seen.
-use Rattle.std.proofs.Common.{◌≡◌, ◌≤◌, ◌<◌, ℕ, zero, suc, ◌+◌, Bool, true, false, cond, List, [], length, take}
+use Rattle.std.proofs.Common.{◌≡◌, ◌≤◌, ◌<◌, ℕ, zero, suc, ◌+◌, Bool, true, false, cond, List, [], ◌∷◌, length, take}
 use Rattle.std.proofs.Common.{slice_get, Option, Some, None, is_some, option_map, refl, ap, sym, ◌∙◌, subst}
 use Rattle.std.proofs.Common.{Result, Ok, Err, arith}
 use Rattle.std.proofs.lemmas.Bool.{lt-ltb}
@@ -8,22 +8,28 @@ use Rattle.std.specs.List.{zip}
 use Rattle.std.specs.Prelude.{ok_or, option_and_then}
 use Rattle.smt_trees.specs.Sexp.{Sexp}
 use Rattle.smt_theory.specs.Operators.{is_plain_operator, op_by, plain_op}
-use Rattle.smt_theory.specs.Words.{look_up}
+use Rattle.smt_theory.specs.Words.{look_up, result_and_then}
 use Rattle.smt_theory.specs.declared.op.Op.{Op}
+use Rattle.smt_theory.specs.declared.op.ArraysOp.TheVariants.{Const}
+use Rattle.smt_theory.specs.declared.op.Op.TheVariants.{Arrays}
 use Rattle.smt_theory.specs.declared.op.OpFault.{OpFault}
 use Rattle.smt_theory.specs.declared.op.OpFault.TheVariants.{Unknown}
 use Rattle.smt_theory.specs.Sort.{Sort}
-use Rattle.smt_values.specs.KnownOperations.{known_step}
+use Rattle.smt_values.specs.Lists.{all_known}
+use Rattle.smt_arrays.specs.Element.{Element, Plain as NoArray}
+use Rattle.smt_arrays.specs.Known.{known_arrays, known_step}
 use Rattle.smt_forms.specs.ElementNames.{sort_of_element}
-use Rattle.smt_forms.specs.Identifier.{Identifier, Plain, Indexed, operator_of}
+use Rattle.smt_forms.specs.Identifier.{Identifier, Plain, Indexed, Qualified, operator_of}
 use Rattle.smt_nodes.specs.Node as node
 use Rattle.smt_nodes.specs.Node.{Node}
 use Rattle.smt_machine.specs.Nodes.{Frame, Giving, node_value, parts}
 use Rattle.smt_values.specs.Element.{Naming}
 use Rattle.smt_machine.specs.Tables.{call, resolved, shifted}
 use Rattle.smt_terms.specs.Denotes.{Denotes, HasBodyBelow, Head, Table, applied_node, named_node, node_at}
-use Rattle.smt_terms.specs.Denotes.{slots_from}
-use Rattle.smt_terms.specs.Elements.{ElementNames, element_among, if_declared}
+use Rattle.smt_faults.specs.declared.term_flaw.TermFlaw.{TermFlaw}
+use Rattle.smt_terms.specs.Denotes.{constant_node, slots_from}
+use Rattle.smt_terms.specs.Elements.{ElementNames, constant_sorts, element_among, if_declared}
+use Rattle.smt_terms.specs.SortTrees.{sort_named}
 use Rattle.smt_forms.specs.Variables.{is_among}
 use Rattle.smt_terms.specs.Library.{declared_among}
 use Rattle.smt_terms.specs.Signature.{AreDistinct, Entry, Origin, Signature, entry_named}
@@ -31,7 +37,7 @@ use Rattle.smt_terms.specs.TermsOf.{AreBodies, IsBody, first_heads, heads_of}
 use Rattle.smt_terms.specs.declared.library.Found.{Found}
 use Rattle.smt_terms.specs.declared.library.Found.TheVariants as place
 use Rattle.smt_eval.proofs.EntryLemmas.{entry_named-take}
-use Rattle.smt_eval.proofs.EvaluatorLemmas.{defined_means, element_kept, indexed_known, not_defined}
+use Rattle.smt_eval.proofs.EvaluatorLemmas.{defined_means, element_kept, indexed_known, known_constant, not_defined}
 use Rattle.smt_eval.proofs.FrameLemmas.{stands_behind}
 use Rattle.smt_eval.proofs.HeadLemmas.{IsBodyOf, IsHeadAt, IsNamed, found}
 use Rattle.smt_eval.proofs.PlaceLemmas.{within as within_list}
@@ -39,7 +45,7 @@ use Rattle.smt_eval.proofs.NodeValueLemmas.{HasRows, MeansElements, MeansItsNode
 use Rattle.smt_eval.proofs.NodeValueLemmas.{parts_counted, term_given}
 use Rattle.smt_eval.specs.Internal.DefinitionValues.{IsDefined, first}
 use Rattle.smt_eval.specs.Known.{KnownMeaning, known_defined, known_in_by, known_of, known_of_op}
-use Rattle.smt_eval.specs.Known.{known_operators}
+use Rattle.smt_eval.specs.Known.{known_operators, other_known}
 
 -- the k-th of these nodes gives what the name of the entry means, however many definitions are seen
 abbrev pub IsGivenAt : Naming → Giving → (off : ℕ) → List ℕ → Signature → (ℕ → ℕ) → ℕ → Entry → Type 0
@@ -146,6 +152,27 @@ module _ (naming held : Naming) (g : Giving) (off : ℕ) (declared : List ℕ) (
       sym (not_defined naming d (seen n) x vs (entry_named-take d.entries x (seen n) (names.free x plain))
       ∙ ap (λ ts. known_of_op naming (op_by ts x []) (Plain x) vs) (sym names.theories)
       ∙ ap (λ o. known_of_op naming o (Plain x) vs) is)
+  operator_means n (Qualified sort) op vs is = cc
+
+  -- a constant array holds what is known of its argument
+  constant_is : (s : Sort) (sort : Sexp) (vs : Frame) → known_step (Arrays (Const s)) vs ≡ other_known naming (Qualified sort) vs
+  constant_is s sort [] = refl
+  constant_is s sort (None ∷ []) = refl
+  constant_is s sort (Some e ∷ []) = refl
+  constant_is s sort (None ∷ l ∷ vs) = refl
+  constant_is s sort (Some e ∷ None ∷ vs) = refl
+  constant_is s sort (Some e ∷ Some f ∷ vs) = by (all_known vs)
+    where
+      by : (o : Option (List Element))
+          → option_and_then (known_arrays (Const s))
+          (option_map (λ es. e ∷ es) (option_map (λ es. f ∷ es) o)) ≡ None
+      by None = refl
+      by (Some es) = refl
+
+  constant_means : (n : ℕ) (s : Sort) (sort : Sexp) (vs : Frame)
+      → known_step (Arrays (Const s)) vs ≡ (meaning n).gives (Qualified sort) vs
+  constant_means n s sort vs = constant_is s sort vs
+      ∙ sym (known_constant (known_operators naming d.theories) (take (seen n) d.entries) sort vs)
 
   -- ---- elements
 
@@ -154,8 +181,8 @@ module _ (naming held : Naming) (g : Giving) (off : ℕ) (declared : List ℕ) (
       not_defined naming d (seen n) x [] (names.apart n x sort within at among)
       ∙ ap (λ ts. known_of_op naming (op_by ts x []) (Plain x) []) (sym names.theories)
       ∙ ap (λ o. known_of_op naming o (Plain x) []) is
-      ∙ has_form naming t.elements x sort among
-      ∙ sym (let e = with_elements t.elements x sort among in names.named e.0 e.1 x)
+      ∙ ap (option_map NoArray) (has_form naming t.elements x sort among
+      ∙ sym (let e = with_elements t.elements x sort among in names.named e.0 e.1 x))
 
   -- also behind an `as`
   pub names_elements : (n : ℕ) → NamesElements held (first_heads n t) (meaning n)
@@ -244,6 +271,18 @@ module _ (naming held : Naming) (g : Giving) (off : ℕ) (declared : List ℕ) (
             ≡ (meaning n).gives (Indexed x indexes) (parts (off + i) g frame (shifted off js))
         by (Ok op) is here = operator_given i frame (Indexed x indexes) js op m is here
         by (Err fault) is here = cc
+    means_its_nodes i frame (Qualified sort) js m below made body =
+        by (sort_named (constant_sorts t.theories t.elements) sort) made
+      where
+        by : (r : Result Sort TermFlaw)
+            → constant_node (result_and_then r (λ s. Ok (Arrays (Const s)))) js ≡ Some m
+            → node_value (off + i) g frame (Some (resolved held off t.bodies declared m))
+            ≡ (meaning n).gives (Qualified sort) (parts (off + i) g frame (shifted off js))
+        by (Err fault) here = cc
+        by (Ok s) here =
+            let same : node.Apply (Arrays (Const s)) js ≡ m = cc in
+            ap (λ a. node_value (off + i) g frame (Some (resolved held off t.bodies declared a))) (sym same)
+            ∙ constant_means n s sort (parts (off + i) g frame (shifted off js))
 
   -- ---- bodies
 

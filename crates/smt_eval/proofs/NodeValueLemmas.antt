@@ -18,7 +18,7 @@ use Rattle.smt_theory.specs.declared.op.OpFault.{OpFault}
 use Rattle.smt_theory.specs.Sort.{Sort}
 use Rattle.smt_theory.specs.Sort.{Boolean}
 use Rattle.smt_faults.specs.declared.term_flaw.TermFlaw.{TermFlaw}
-use Rattle.smt_values.specs.Element.{Element}
+use Rattle.smt_arrays.specs.Element.{Element, Plain as NoArray}
 use Rattle.smt_forms.specs.ElementNames.{qualified_symbol}
 use Rattle.smt_forms.specs.Bindings.{named_trees}
 use Rattle.smt_forms.specs.Identifier.{Identifier, Plain, applied, indexed}
@@ -107,7 +107,7 @@ MeansItsNodes g held off declared t m last = (i : ℕ) (frame : Frame) (f : Iden
 -- a symbol that is no operator and not in force, but an element, means this element
 abbrev pub MeansElements : Naming → Table → KnownMeaning → Type 0
 MeansElements held t m = (x : List ℕ) (sort : Sort) (fault : OpFault) → op_by t.theories x [] ≡ Err fault
-    → look_up t.heads x ≡ None → element_among t.elements x ≡ Some sort → m.gives (Plain x) [] ≡ held x
+    → look_up t.heads x ≡ None → element_among t.elements x ≡ Some sort → m.gives (Plain x) [] ≡ option_map NoArray (held x)
 
 -- where terms may name elements, their names mean what rows hold of them
 abbrev pub NamesElements : Naming → Table → KnownMeaning → Type 0
@@ -158,11 +158,11 @@ module _ (g : Giving) (held : Naming) (off : ℕ) (declared : List ℕ) (t : Tab
 
   -- the element behind an `as`
   qualified_given : (i around : ℕ) (frame : Frame) (names : Option ElementNames) (o : Option (List ℕ))
-      → t.elements ≡ names → IsNode t around i (qualified_node names o) → g (off + i) frame ≡ option_and_then m.element o
+      → t.elements ≡ names → IsNode t around i (qualified_node names o) → g (off + i) frame ≡ option_map NoArray (option_and_then m.element o)
   qualified_given i around frame None o is d = absurd (no_row (slice_get t.rows i) around d.0)
   qualified_given i around frame (Some names) None is d = absurd (no_row (slice_get t.rows i) around d.0)
   qualified_given i around frame (Some names) (Some x) is d =
-      node_given i around (node.Element x) frame d.0 ∙ named names is x
+      node_given i around (node.Element x) frame d.0 ∙ ap (option_map NoArray) (named names is x)
 
   -- a variable, or a name without arguments
   symbol_given : (i around : ℕ) (frame : Frame) (x : List ℕ) (o : Option ℕ) → i ≤ last

@@ -19,14 +19,20 @@ use Rattle.smt_theory.specs.declared.op.Op.{Op}
 use Rattle.smt_theory.specs.declared.op.OpFault.{OpFault}
 use Rattle.smt_theory.specs.declared.op.OpFault.TheVariants.{Unknown}
 use Rattle.smt_theory.specs.declared.theories.Theories.{Theories}
-use Rattle.smt_values.specs.Element.{Element, Truth, Integer, Fraction, Vector, Abstract}
+use Rattle.smt_theory.specs.Sort.{Boolean as BooleanSort}
+use Rattle.smt_theory.specs.declared.op.ArraysOp.TheVariants.{Const}
+use Rattle.smt_theory.specs.declared.op.Op.TheVariants.{Arrays}
+use Rattle.smt_values.specs.Element.{Integer, Fraction, Vector, Abstract}
 use Rattle.smt_values.specs.Decimals.{decimal_digits, places}
 use Rattle.smt_values.specs.Numbers.{element_of_number}
-use Rattle.smt_values.specs.Operations.{DivisionByZero, operate}
+use Rattle.smt_values.specs.Operations.{DivisionByZero}
+use Rattle.smt_arrays.specs.Element.{Element, Plain as NoArray}
+use Rattle.smt_arrays.specs.Operations.{operate, truth}
 use Rattle.smt_faults.specs.declared.term_flaw.TermFlaw.{TermFlaw}
 use Rattle.smt_faults.specs.declared.term_flaw.TermFlaw.TheVariants.{Form}
 use Rattle.smt_forms.specs.Bindings.{named_trees}
-use Rattle.smt_forms.specs.Identifier.{Identifier, Plain, Indexed, all_indexes, applied, indexed, operator_of}
+use Rattle.smt_forms.specs.Identifier.{Identifier, Plain, Indexed, Qualified, all_indexes, applied, indexed}
+use Rattle.smt_forms.specs.Identifier.{operator_of}
 use Rattle.smt_forms.specs.Variables.{is_among}
 use Rattle.smt_terms.specs.Signature.{Entry, Origin, Declared, Defined, Signature}
 use Rattle.smt_eval.specs.Meaning.{Meaning, defined_value, element_by, meaning_after, meaning_in, meaning_of_op}
@@ -60,11 +66,11 @@ AreRelated R s r = (x : List ℕ) → OptionRelated R (look_up s x) (look_up r x
 
 -- constants and elements of these names are related to themselves, and operators keep the relation
 pub record IsKept (P : OfNames) (R : Relation) : Type 0 where
-  pub truths : (b : Bool) → R (Truth b) (Truth b)
-  pub integers : (z : ℤ) → R (Integer z) (Integer z)
-  pub fractions : (n : ℤ) (d : ℕ) → R (Fraction n d) (Fraction n d)
-  pub vectors : (v : BitVector) → R (Vector v) (Vector v)
-  pub names : (x : List ℕ) → P x → R (Abstract x) (Abstract x)
+  pub truths : (b : Bool) → R (truth b) (truth b)
+  pub integers : (z : ℤ) → R (NoArray (Integer z)) (NoArray (Integer z))
+  pub fractions : (n : ℤ) (d : ℕ) → R (NoArray (Fraction n d)) (NoArray (Fraction n d))
+  pub vectors : (v : BitVector) → R (NoArray (Vector v)) (NoArray (Vector v))
+  pub names : (x : List ℕ) → P x → R (NoArray (Abstract x)) (NoArray (Abstract x))
   pub results : (z : DivisionByZero) (op : Op) (ds es : List Element) → AllRelated R ds es
       → R (operate z op ds) (operate z op es)
 
@@ -74,6 +80,8 @@ pub record IsMeant (P : OfNames) (R : Relation) (takes : Parameters) (m : Meanin
       → R (m (Plain x) ds) (m (Plain x) es)
   pub numbered : (x : List ℕ) (indexes : List IndexView) (ds es : List Element) → AllRelated R ds es
       → R (m (Indexed x indexes) ds) (m (Indexed x indexes) es)
+  pub constant : (sort : Sexp) (ds es : List Element) → AllRelated R ds es
+      → R (m (Qualified sort) ds) (m (Qualified sort) es)
 
 -- each of these names has a value
 abbrev pub HaveValues : List (List ℕ) → Variables → Type 0
@@ -114,7 +122,7 @@ never_plain x (Cons (Atom Symbol y) (Cons t ts)) h = by (all_indexes (Cons t ts)
 never_plain x _ h = cc
 
 module _ (P : OfNames) (R : Relation) (kept : IsKept P R) where
-  number_related : (a : Rational) → R (element_of_number a) (element_of_number a)
+  number_related : (a : Rational) → R (NoArray (element_of_number a)) (NoArray (element_of_number a))
   number_related (rational.Integer z) = kept.integers z
   number_related (rational.Fraction n d) = kept.fractions n d
 
@@ -123,8 +131,19 @@ module _ (P : OfNames) (R : Relation) (kept : IsKept P R) where
   operators_related z theories = record {
     named = λ x ds es met all. plain x ds es (plain_op theories x) met all;
     numbered = λ x indexes ds es all. with_indexes x indexes ds es (operator_of theories (Indexed x indexes)) all;
+    constant = constants;
   }
     where
+      constants : (sort : Sexp) (ds es : List Element) → AllRelated R ds es
+          → R (operators z theories (Qualified sort) ds) (operators z theories (Qualified sort) es)
+      constants sort [] [] all = kept.truths false
+      constants sort (d ∷ []) (e ∷ []) all = kept.results z (Arrays (Const BooleanSort)) (d ∷ []) (e ∷ []) all
+      constants sort (d ∷ []) (e ∷ f ∷ es) all = absurd all.1
+      constants sort (d ∷ c ∷ ds) (e ∷ []) all = absurd all.1
+      constants sort (d ∷ c ∷ ds) (e ∷ f ∷ es) all = kept.truths false
+      constants sort [] (e ∷ es) all = absurd all
+      constants sort (d ∷ ds) [] all = absurd all
+
       plain : (x : List ℕ) (ds es : List Element) (o : Option Op)
           → IsUsedFor P x (cond (is_some o) (Some 0) None) (length ds) → AllRelated R ds es
           → R (meaning_of_op z (ok_or o Unknown) (Plain x) ds) (meaning_of_op z (ok_or o Unknown) (Plain x) es)
@@ -171,6 +190,7 @@ module _ (P : OfNames) (R : Relation) (kept : IsKept P R) where
     indexed_related parts (Err fault) is = kept.truths false
     indexed_related parts (Ok (Plain x)) is = absurd (never_plain x parts is)
     indexed_related parts (Ok (Indexed x indexes)) is = meant.numbered x indexes [] [] tt
+    indexed_related parts (Ok (Qualified sort)) is = meant.constant sort [] [] tt
 
     call_related : (o : Result Identifier TermFlaw) (ds es : List Element) (n : ℕ) → AllRelated R ds es
         → length ds ≡ n → IsHeadUsedFor P takes o n
@@ -179,6 +199,7 @@ module _ (P : OfNames) (R : Relation) (kept : IsKept P R) where
     call_related (Ok (Plain x)) ds es n all long met =
         meant.named x ds es (subst (IsUsedFor P x (takes x)) (sym long) met) all
     call_related (Ok (Indexed x indexes)) ds es n all long met = meant.numbered x indexes ds es all
+    call_related (Ok (Qualified sort)) ds es n all long met = meant.constant sort ds es all
 
     bound_have : (names : List (List ℕ)) (r : Variables) (bs : Sexps) → HaveValues names r
         → HaveValues (map (λ b. b.0) (named_trees bs) ++ names) (values_bound m r bs ++ r)
@@ -251,6 +272,7 @@ module _ (P : OfNames) (R : Relation) (kept : IsKept P R) where
     meant_with e only = record {
       named = λ x ds es met all. by x ds es (bytes_eq x e.name) met all;
       numbered = λ x indexes ds es all. meant.numbered x indexes ds es all;
+      constant = λ sort ds es all. meant.constant sort ds es all;
     }
       where
         by : (x : List ℕ) (ds es : List Element) (b : Bool)

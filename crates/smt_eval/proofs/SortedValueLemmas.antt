@@ -23,22 +23,28 @@ use Rattle.smt_theory.specs.declared.op.OpFault.TheVariants as ops
 use Rattle.smt_theory.specs.Sort.{Sort}
 use Rattle.smt_theory.specs.Sort.{Int, Real, Bits, Free}
 use Rattle.smt_theory.specs.declared.theories.Theories.{Theories}
-use Rattle.smt_values.specs.Element.{Element, Abstract, Integer, Vector, IsOfSort, AreOfSorts}
+use Rattle.smt_values.specs.Element.{Abstract, Integer, Vector}
+use Rattle.smt_arrays.specs.Element.{Element, Plain as NoArray, IsOfSort, AreOfSorts}
 use Rattle.smt_values.specs.Decimals.{decimal_value}
-use Rattle.smt_values.specs.Operations.{DivisionByZero, operate}
+use Rattle.smt_values.specs.Operations.{DivisionByZero}
+use Rattle.smt_arrays.specs.Operations.{operate}
+use Rattle.smt_theory.specs.declared.op.ArraysOp.TheVariants.{Const}
+use Rattle.smt_theory.specs.declared.op.Op.TheVariants.{Arrays}
 use Rattle.smt_forms.specs.Bindings.{are_attributes, are_bindings}
 use Rattle.smt_forms.specs.Labels.{labels_among}
 use Rattle.smt_terms.specs.Checking.{bound_in, flaw_of_labels, sort_applied, sort_in, sorts_in, sort_of_call}
 use Rattle.smt_terms.specs.Checking.{sort_of_name, sort_of_operator, sort_of_plain, sort_of_rank}
 use Rattle.smt_terms.specs.Checking.{sort_alone, sort_of_symbol, sort_unless_element, sort_unless_variable}
 use Rattle.smt_terms.specs.Checking.{unless}
-use Rattle.smt_terms.specs.Elements.{ElementNames, element_among, if_declared, if_free, or_ill_sorted, qualified_sort}
+use Rattle.smt_terms.specs.Elements.{ElementNames, constant_sorts, element_among, if_declared, if_free, or_ill_sorted}
+use Rattle.smt_terms.specs.Elements.{qualified_sort}
 use Rattle.smt_terms.specs.declared.named_sort.NamedSort.{NamedSort}
 use Rattle.smt_forms.specs.Variables.{is_among}
 use Rattle.smt_terms.specs.SortTrees.{sort_named}
 use Rattle.smt_forms.specs.ElementNames.{begins_at, qualified_symbol, sort_of_element}
 use Rattle.smt_forms.specs.Heads.{begins_indexed}
-use Rattle.smt_forms.specs.Identifier.{Identifier, Plain, Indexed, applied, indexed, operator_of}
+use Rattle.smt_forms.specs.Identifier.{Identifier, Plain, Indexed, Qualified, applied, applied_in, indexed}
+use Rattle.smt_forms.specs.Identifier.{of_profile, operator_of}
 use Rattle.smt_terms.specs.Signature.{AreDistinct, Entry, Origin, Declared, Defined, Names, Rank, Signature}
 use Rattle.smt_terms.specs.Signature.{entry_named, names_of, rank_of_entry, ranks_of, unlabelled}
 use Rattle.smt_terms.specs.Signature.{unlabelled_over}
@@ -66,7 +72,7 @@ FitsAlone names m = (x : List ℕ) (sort : Sort)
 
 -- the law of decimals
 abbrev pub DecimalsAreReals : Type 0
-DecimalsAreReals = (digits : List ℕ) → IsOfSort Real (decimal_value digits)
+DecimalsAreReals = (digits : List ℕ) → IsOfSort Real (NoArray (decimal_value digits))
 
 pub record Fits (names : Names) (m : Meaning) : Type 0 where
   pub called : FitsApplied names m
@@ -99,31 +105,46 @@ applied-operators law z theories elements (Plain f) sorts sort es is h =
     operator-fits law z (operator_of theories (Plain f)) (Plain f) sorts sort es is h
 applied-operators law z theories elements (Indexed f indexes) sorts sort es is h =
     operator-fits law z (operator_of theories (Indexed f indexes)) (Indexed f indexes) sorts sort es is h
+applied-operators law z theories elements (Qualified tree) sorts sort es is h =
+    by (sort_named (constant_sorts theories elements) tree) is
+  where
+    same : (s : Sort) (es : List Element)
+        → operate z (Arrays (Const s)) es ≡ operators z theories (Qualified tree) es
+    same s [] = refl
+    same s (e ∷ []) = refl
+    same s (e ∷ f ∷ es) = refl
+
+    by : (r : Result Sort TermFlaw)
+        → result_and_then (result_and_then r (λ s. Ok (Arrays (Const s)))) (λ op. sort_of_rank (rank_of op sorts))
+        ≡ Ok sort → IsOfSort sort (operators z theories (Qualified tree) es)
+    by (Err fault) is = cc
+    by (Ok s) is = subst (IsOfSort sort) (same s es)
+        (operator-fits law z (Ok (Arrays (Const s))) (Qualified tree) sorts sort es is h)
 
 -- ---- elements
 
 -- a declared sort has the elements of all names
-free-fits : (s sort : Sort) (x : List ℕ) → if_free s ≡ Some sort → IsOfSort sort (Abstract x)
-free-fits (Free n) sort x is = let same : Free n ≡ sort = cc in subst (λ t. IsOfSort t (Abstract x)) same tt
+free-fits : (s sort : Sort) (x : List ℕ) → if_free s ≡ Some sort → IsOfSort sort (NoArray (Abstract x))
+free-fits (Free n) sort x is = let same : Free n ≡ sort = cc in subst (λ t. IsOfSort t (NoArray (Abstract x))) same tt
 free-fits _ sort x is = cc
 
 element-fits : (elements : Option ElementNames) (y x : List ℕ) (sort : Sort)
-    → element_among elements y ≡ Some sort → IsOfSort sort (Abstract x)
+    → element_among elements y ≡ Some sort → IsOfSort sort (NoArray (Abstract x))
 element-fits None y x sort is = cc
 element-fits (Some elements) y x sort is =
     among (is_among elements.taken y)
     (option_and_then (look_up elements.sorts.abbreviations) (sort_of_element y)) is
   where
-    own : (s : Sort) (b : Bool) → cond b (if_free s) None ≡ Some sort → IsOfSort sort (Abstract x)
+    own : (s : Sort) (b : Bool) → cond b (if_free s) None ≡ Some sort → IsOfSort sort (NoArray (Abstract x))
     own s true h = free-fits s sort x h
     own s false h = cc
 
-    by : (o : Option NamedSort) → option_and_then if_declared o ≡ Some sort → IsOfSort sort (Abstract x)
+    by : (o : Option NamedSort) → option_and_then if_declared o ≡ Some sort → IsOfSort sort (NoArray (Abstract x))
     by None h = cc
     by (Some named) h = own named.sort named.is_declared h
 
     among : (b : Bool) (o : Option NamedSort) → cond b None (option_and_then if_declared o) ≡ Some sort
-        → IsOfSort sort (Abstract x)
+        → IsOfSort sort (NoArray (Abstract x))
     among true o h = cc
     among false o h = by o h
 
@@ -141,7 +162,7 @@ qualified-fits (Some elements) names (Cons (Atom Symbol x) (Cons tree Nil)) sort
     by : (b t : Bool) (r : Result Sort TermFlaw)
         → cond (not b) (Err Unsupported)
         (cond t (Err NotFresh) (result_and_then r (λ s. or_ill_sorted (if_free s)))) ≡ Ok sort
-        → IsOfSort sort (Abstract x)
+        → IsOfSort sort (NoArray (Abstract x))
     by false t r h = cc
     by true true r h = cc
     by true false (Err fault) h = cc
@@ -155,7 +176,7 @@ unless-element-fits : ResultsAreOfTheirSorts → (z : DivisionByZero) (elements 
 unless-element-fits law z elements x None op sort among is =
     operator-fits law z op (Plain x) [] sort [] is tt
 unless-element-fits law z elements x (Some s) (Err ops.Unknown) sort among is =
-    let same : s ≡ sort = cc in subst (λ t. IsOfSort t (Abstract x)) same (element-fits elements x x s among)
+    let same : s ≡ sort = cc in subst (λ t. IsOfSort t (NoArray (Abstract x))) same (element-fits elements x x s among)
 unless-element-fits law z elements x (Some s) (Err ops.Index) sort among is = cc
 unless-element-fits law z elements x (Some s) (Ok op) sort among is =
     operator-fits law z (Ok op) (Plain x) [] sort [] is tt
@@ -190,6 +211,7 @@ variable-fits names m x (Some s) (Some e) sort fits h is =
 call_applied : (names : Names) (scope : List (List ℕ × Sort)) (f : Identifier) (sorts : List Sort)
     (sort : Sort) → sort_of_call names scope f sorts ≡ Ok sort → sort_applied names f sorts ≡ Ok sort
 call_applied names scope (Indexed f indexes) sorts sort is = is
+call_applied names scope (Qualified tree) sorts sort is = is
 call_applied names scope (Plain f) sorts sort is = by (look_up scope f) is
   where
     by : (o : Option Sort) → sort_unless_variable o (sort_applied names (Plain f) sorts) ≡ Ok sort
@@ -199,9 +221,9 @@ call_applied names scope (Plain f) sorts sort is = by (look_up scope f) is
 
 -- a numeral is an integer, or a real that is one
 numeral-fits : (ints reals : Bool) (sort : Sort) (z : ℤ)
-    → cond ints (Ok Int) (cond reals (Ok Real) (Err Unknown)) ≡ Ok sort → IsOfSort sort (Integer z)
-numeral-fits true reals sort z is = let same : Int ≡ sort = cc in subst (λ s. IsOfSort s (Integer z)) same tt
-numeral-fits false true sort z is = let same : Real ≡ sort = cc in subst (λ s. IsOfSort s (Integer z)) same tt
+    → cond ints (Ok Int) (cond reals (Ok Real) (Err Unknown)) ≡ Ok sort → IsOfSort sort (NoArray (Integer z))
+numeral-fits true reals sort z is = let same : Int ≡ sort = cc in subst (λ s. IsOfSort s (NoArray (Integer z))) same tt
+numeral-fits false true sort z is = let same : Real ≡ sort = cc in subst (λ s. IsOfSort s (NoArray (Integer z))) same tt
 numeral-fits false false sort z is = cc
 
 -- a decimal is a real
@@ -213,16 +235,16 @@ decimal-fits false fault sort e here is = cc
 -- a constant is a bit vector of as many bits as its digits have
 constant-fits : (b : Bool) (base bits n : ℕ) (digits : List ℕ) (sort : Sort) → n ≡ bits * length digits
     → cond b (ok_or (option_map Bits (width_of n)) Index) (Err Unknown) ≡ Ok sort
-    → IsOfSort sort (Vector (constant base bits digits))
+    → IsOfSort sort (NoArray (Vector (constant base bits digits)))
 constant-fits false base bits n digits sort e h = cc
 constant-fits true base bits n digits sort e h = by (nat_le 1 n) (nat_le n 128) (λ t. search rules) h
   where
     by : (p q : Bool) → (p ≡ true → 1 ≤ n)
         → ok_or (option_map Bits (cond (p && q) (Some n) None)) Index ≡ Ok sort
-        → IsOfSort sort (Vector (constant base bits digits))
+        → IsOfSort sort (NoArray (Vector (constant base bits digits)))
     by true true some h =
         let is : Bits n ≡ sort = cc in
-        subst (λ s. IsOfSort s (Vector (constant base bits digits))) is (
+        subst (λ s. IsOfSort s (NoArray (Vector (constant base bits digits)))) is (
           sym e,
           (
             subst (λ k. 1 ≤ k) e (some refl),
@@ -237,13 +259,22 @@ constant-fits true base bits n digits sort e h = by (nat_le 1 n) (nat_le n 128) 
 sort-other : (names : Names) (scope : List (List ℕ × Sort)) (head : Sexp) (args : Sexps)
     → is_plain_list head args ≡ true → begins_indexed head ≡ false
     → sort_in names scope (Items (Cons head args))
-    ≡ result_and_then (applied head args)
+    ≡ result_and_then (applied_in names.theories.wide head args)
     (λ f. result_and_then (sorts_in names scope args) (λ ss. sort_of_call names scope f ss))
 sort-other names scope (Reserved Underscore) args p h = cc
 sort-other names scope (Reserved As) args p h = cc
 sort-other names scope (Reserved Let) (Cons (Items bindings) (Cons body Nil)) p h = cc
 sort-other names scope (Reserved Bang) (Cons term attributes) p h = cc
 sort-other names scope _ _ p h = refl
+
+-- what a profile supports is what is applied
+supported : (wide : Bool) (r : Result Identifier TermFlaw) (f : Identifier)
+    → result_and_then r (of_profile wide) ≡ Ok f → r ≡ Ok f
+supported wide (Err fault) f is = cc
+supported wide (Ok (Plain x)) f is = is
+supported wide (Ok (Indexed x indexes)) f is = is
+supported true (Ok (Qualified tree)) f is = is
+supported false (Ok (Qualified tree)) f is = cc
 
 -- a variable in front fits
 by_name : (b : Bool) (s : Sort) (e : Element) (o : Option Sort) (p : Option Element) → IsOfSort s e
@@ -278,19 +309,20 @@ module _ (N : Names) (m : Meaning) (fits : Fits (unlabelled N) m) where
   call-fits : (scope : List (List ℕ × Sort)) (r : List (List ℕ × Element)) (head : Sexp) (args : Sexps)
       (sort : Sort) → ((ss : List Sort) → sorts_in (unlabelled N) scope args ≡ Ok ss
       → AreOfSorts ss (values_of m r args))
-      → result_and_then (applied head args)
+      → result_and_then (applied_in N.theories.wide head args)
       (λ f. result_and_then (sorts_in (unlabelled N) scope args)
       (λ ss. sort_of_call (unlabelled N) scope f ss)) ≡ Ok sort
       → IsOfSort sort (element_by (applied head args) (λ f. m f (values_of m r args)))
   call-fits scope r head args sort all is =
       let p =
-      first_ok (applied head args)
+      first_ok (applied_in N.theories.wide head args)
       (λ f. result_and_then (sorts_in (unlabelled N) scope args)
       (λ ss. sort_of_call (unlabelled N) scope f ss)) sort is in
       let q =
       first_ok (sorts_in (unlabelled N) scope args)
       (λ ss. sort_of_call (unlabelled N) scope p.0 ss) sort p.2 in
-      subst (λ o. IsOfSort sort (element_by o (λ f. m f (values_of m r args)))) (sym p.1)
+      subst (λ o. IsOfSort sort (element_by o (λ f. m f (values_of m r args))))
+      (sym (supported N.theories.wide (applied head args) p.0 p.1))
       (fits.called p.0 q.0 sort (values_of m r args) (call_applied (unlabelled N) scope p.0 q.0 sort q.2)
       (all q.0 q.1))
 
@@ -318,7 +350,7 @@ module _ (N : Names) (m : Meaning) (fits : Fits (unlabelled N) m) where
     term-fits scope r fit (Atom Numeral x) sort is =
         numeral-fits N.theories.ints N.theories.reals sort (pos (digits_value 10 x)) is
     term-fits scope r fit (Atom Decimal x) sort is =
-        decimal-fits N.theories.reals (cond N.theories.wide Unknown Unsupported) sort (decimal_value x)
+        decimal-fits N.theories.reals (cond N.theories.wide Unknown Unsupported) sort (NoArray (decimal_value x))
         (fits.decimals x) is
     term-fits scope r fit (Atom Hexadecimal x) sort is =
         constant-fits N.theories.bits 16 4 (4 * length x) x sort refl is
@@ -519,6 +551,7 @@ module _ (same : SameSorts) (theories : Theories) (elements : Option ElementName
 
   applied-with : FitsApplied more (with_definition m e)
   applied-with (Indexed f indexes) sorts sort es is h = fits.called (Indexed f indexes) sorts sort es is h
+  applied-with (Qualified tree) sorts sort es is h = fits.called (Qualified tree) sorts sort es is h
   applied-with (Plain f) sorts sort es is h = by (bytes_eq f e.name) refl
     where
       by : (b : Bool) → bytes_eq f e.name ≡ b

@@ -3,7 +3,7 @@
 use Rattle.std.specs.Prelude.{ℕ, List, Option, Some, None}
 use Rattle.smt_theory.specs.Words.{look_up}
 use Rattle.smt_theory.specs.Sort.{Sort}
-use Rattle.smt_values.specs.Element.{Agrees, Element, IsOfSort}
+use Rattle.smt_arrays.specs.Element.{Agrees, Element, IsOfSort}
 
 -- both have the variable or neither has it, and what is known of its value is true
 abbrev pub AgreeBoth : Option (Option Element) → Option Element → Type 0

@@ -5,7 +5,7 @@ use Rattle.std.specs.Prelude.{ℕ, ◌+◌, List, [], ◌∷◌, ◌++◌, map, 
 use Rattle.smt_trees.specs.Sexp.{Sexp, Sexps, Atom, Reserved, Items, Nil, Cons, Symbol}
 use Rattle.smt_trees.specs.declared.reserved.Word.TheVariants.{As, Bang, Let, Underscore}
 use Rattle.smt_forms.specs.Bindings.{named_trees}
-use Rattle.smt_forms.specs.Identifier.{Identifier, Plain, Indexed, applied, indexed}
+use Rattle.smt_forms.specs.Identifier.{Identifier, Plain, Indexed, Qualified, applied, indexed}
 use Rattle.smt_forms.specs.Variables.{is_among}
 use Rattle.smt_terms.specs.Signature.{Entry, Origin, Declared, Defined, Signature}
 use Rattle.smt_faults.specs.declared.term_flaw.TermFlaw.{TermFlaw}
@@ -18,6 +18,7 @@ BodyCosts = List ℕ → ℕ
 abbrev pub head_cost : BodyCosts → Result Identifier TermFlaw → ℕ
 head_cost b (Ok (Plain x)) = b x
 head_cost b (Ok (Indexed x indexes)) = 0
+head_cost b (Ok (Qualified sort)) = 0
 head_cost b (Err fault) = 0
 
 -- what a term costs where the bodies of names cost this, and these are variables

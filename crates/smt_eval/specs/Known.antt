@@ -1,7 +1,7 @@
 -- What is known of the value of a term: which element it is, or nothing; then the term is open. Which terms
 -- are open is this project's rule; where the value is known, it is the standard's.
 use Rattle.std.specs.Prelude.{ℕ, List, [], ◌∷◌, ◌++◌, Option, Some, None, Result, Ok, Err, if◌then◌else◌, unwrap_or}
-use Rattle.std.specs.Prelude.{bytes_eq, option_and_then}
+use Rattle.std.specs.Prelude.{bytes_eq, option_and_then, option_map}
 use Rattle.std.specs.List.{zip}
 use Rattle.smt_trees.specs.Sexp.{Sexp, Sexps, Atom, Reserved, Items, Nil, Cons, Symbol, Numeral, Decimal}
 use Rattle.smt_trees.specs.Sexp.{Hexadecimal, Binary}
@@ -10,12 +10,12 @@ use Rattle.smt_theory.specs.Words.{look_up}
 use Rattle.smt_theory.specs.declared.op.Op.{Op}
 use Rattle.smt_theory.specs.declared.op.OpFault.{OpFault}
 use Rattle.smt_theory.specs.declared.theories.Theories.{Theories}
-use Rattle.smt_values.specs.Element.{Element, Abstract}
-use Rattle.smt_values.specs.KnownOperations.{known_step}
+use Rattle.smt_values.specs.Element.{Abstract, Naming}
+use Rattle.smt_arrays.specs.Element.{Element, Filled, Plain as NoArray}
+use Rattle.smt_arrays.specs.Known.{known_step}
 use Rattle.smt_values.specs.Literals.{bin_element, decimal_element, hex_element, numeral_element}
 use Rattle.smt_forms.specs.ElementNames.{qualified_symbol, sort_of_element}
-use Rattle.smt_forms.specs.Identifier.{Identifier, Plain, Indexed, applied, indexed, operator_of}
-use Rattle.smt_values.specs.Element.{Naming}
+use Rattle.smt_forms.specs.Identifier.{Identifier, Plain, Indexed, Qualified, applied, indexed, operator_of}
 use Rattle.smt_terms.specs.Signature.{Entry, Origin, Declared, Defined, Signature}
 use Rattle.smt_faults.specs.declared.term_flaw.TermFlaw.{TermFlaw}
 
@@ -34,12 +34,13 @@ known_by (Err fault) give = None
 abbrev mutual
   pub known_of : KnownMeaning → List (List ℕ × Option Element) → Sexp → Option Element
   known_of m r (Atom Symbol x) = unwrap_or (look_up r x) (m.gives (Plain x) [])
-  known_of m r (Atom Numeral digits) = numeral_element digits
-  known_of m r (Atom Decimal digits) = decimal_element digits
-  known_of m r (Atom Hexadecimal digits) = hex_element digits
-  known_of m r (Atom Binary digits) = bin_element digits
+  known_of m r (Atom Numeral digits) = option_map NoArray (numeral_element digits)
+  known_of m r (Atom Decimal digits) = option_map NoArray (decimal_element digits)
+  known_of m r (Atom Hexadecimal digits) = option_map NoArray (hex_element digits)
+  known_of m r (Atom Binary digits) = option_map NoArray (bin_element digits)
   known_of m r (Items (Cons (Reserved Underscore) parts)) = known_by (indexed parts) (λ f. m.gives f [])
-  known_of m r (Items (Cons (Reserved As) parts)) = option_and_then m.element (qualified_symbol parts)
+  known_of m r (Items (Cons (Reserved As) parts)) =
+      option_map NoArray (option_and_then m.element (qualified_symbol parts))
   known_of m r (Items (Cons (Reserved Let) (Cons (Items bindings) (Cons body Nil)))) =
       known_of m (knowns_bound m r bindings ++ r) body
   known_of m r (Items (Cons (Reserved Bang) (Cons term attributes))) = known_of m r term
@@ -56,9 +57,11 @@ abbrev mutual
       (x, known_of m r term) ∷ knowns_bound m r rest
   knowns_bound m r _ = []
 
--- a symbol alone that is no operator, but of an element's form, is the element of that name
+-- a symbol alone that is no operator, but of an element's form, is the element of that name; and `(as const sort)`
+-- gives the array that has its argument at each index
 abbrev pub other_known : Naming → Identifier → List (Option Element) → Option Element
-other_known element (Plain x) [] = option_and_then (λ sort. element x) (sort_of_element x)
+other_known element (Plain x) [] = option_map NoArray (option_and_then (λ sort. element x) (sort_of_element x))
+other_known element (Qualified sort) (known ∷ []) = option_map Filled known
 other_known element f args = None
 
 abbrev pub known_of_op : Naming → Result Op OpFault → Identifier → List (Option Element) → Option Element
@@ -81,6 +84,7 @@ abbrev pub given_with : KnownMeaning → Entry → Identifier → List (Option E
 given_with m e (Plain f) args =
     if bytes_eq f e.name then known_defined m e.origin args else m.gives (Plain f) args
 given_with m e (Indexed f indexes) args = m.gives (Indexed f indexes) args
+given_with m e (Qualified sort) args = m.gives (Qualified sort) args
 
 abbrev pub with_known : KnownMeaning → Entry → KnownMeaning
 with_known m e = record { gives = given_with m e; element = m.element }

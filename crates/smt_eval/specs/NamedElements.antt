@@ -6,9 +6,10 @@ use Rattle.smt_trees.specs.Sexp.{Sexp, Sexps, Atom, Reserved, Items, Nil, Cons, 
 use Rattle.smt_trees.specs.declared.reserved.Word.TheVariants.{As, Bang, Let, Underscore}
 use Rattle.smt_theory.specs.Operators.{op_by}
 use Rattle.smt_theory.specs.declared.op.Op.{Op}
-use Rattle.smt_values.specs.Element.{Element, Abstract}
+use Rattle.smt_values.specs.Element as plain
+use Rattle.smt_arrays.specs.Element.{Element, Filled, Written, Plain as NoArray}
 use Rattle.smt_forms.specs.Bindings.{named_trees}
-use Rattle.smt_forms.specs.Identifier.{Identifier, Plain, Indexed, applied}
+use Rattle.smt_forms.specs.Identifier.{Identifier, Plain, Indexed, Qualified, applied}
 use Rattle.smt_forms.specs.Variables.{is_among}
 use Rattle.smt_terms.specs.Signature.{Entry, Origin, Declared, Defined, Signature}
 use Rattle.smt_faults.specs.declared.term_flaw.TermFlaw.{TermFlaw}
@@ -27,9 +28,15 @@ abbrev pub KeepsName : Renaming → OfNames
 KeepsName g x = g x ≡ x
 
 -- an element of a declared sort has a name of which this holds
+abbrev pub IsPlainOfName : OfNames → plain.Element → Type 0
+IsPlainOfName P (plain.Abstract x) = P x
+IsPlainOfName P e = Unit {0}
+
+-- and so have those of which an array is made
 abbrev pub IsOfName : OfNames → Element → Type 0
-IsOfName P (Abstract x) = P x
-IsOfName P e = Unit {0}
+IsOfName P (NoArray e) = IsPlainOfName P e
+IsOfName P (Filled e) = IsOfName P e
+IsOfName P (Written a i e) = IsOfName P a × IsOfName P i × IsOfName P e
 
 -- ---- terms that name no other elements
 
@@ -43,6 +50,7 @@ IsUsedFor P x (Some parameters) n = parameters ≤ n
 abbrev pub IsHeadUsedFor : OfNames → Parameters → Result Identifier TermFlaw → ℕ → Type 0
 IsHeadUsedFor P takes (Ok (Plain f)) n = IsUsedFor P f (takes f) n
 IsHeadUsedFor P takes (Ok (Indexed f indexes)) n = Unit {0}
+IsHeadUsedFor P takes (Ok (Qualified sort)) n = Unit {0}
 IsHeadUsedFor P takes (Err fault) n = Unit {0}
 
 abbrev mutual

@@ -2,7 +2,7 @@
 -- the name.
 use Rattle.std.specs.Prelude.{ℕ, List, [], ◌∷◌, Option, Some, None, option_map}
 use Rattle.smt_names.specs.Places.{place_of}
-use Rattle.smt_values.specs.Element.{Element}
+use Rattle.smt_arrays.specs.Element.{Element}
 use Rattle.smt_eval.specs.Renaming.{Renaming, renamed}
 
 -- of a name with this place, or of one without: a list that is no number's

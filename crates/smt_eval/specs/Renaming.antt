@@ -6,9 +6,10 @@ use Rattle.smt_trees.specs.Sexp.{Sexp, Sexps, Atom, Reserved, Items, Nil, Cons, 
 use Rattle.smt_trees.specs.declared.reserved.Word.TheVariants.{As, Bang, Let, Underscore}
 use Rattle.smt_theory.specs.Operators.{is_plain_operator}
 use Rattle.smt_theory.specs.declared.theories.Theories.{Theories}
-use Rattle.smt_values.specs.Element.{Element, Abstract}
+use Rattle.smt_values.specs.Element as plain
+use Rattle.smt_arrays.specs.Element.{Element, Filled, Written, Plain as NoArray}
 use Rattle.smt_forms.specs.Bindings.{named_trees}
-use Rattle.smt_forms.specs.Identifier.{Identifier, Plain, Indexed, applied}
+use Rattle.smt_forms.specs.Identifier.{Identifier, Plain, Indexed, Qualified, applied}
 use Rattle.smt_forms.specs.Variables.{is_among}
 use Rattle.smt_terms.specs.Signature.{Entry, Origin, Declared, Defined, Signature}
 use Rattle.smt_faults.specs.declared.term_flaw.TermFlaw.{TermFlaw}
@@ -21,10 +22,16 @@ Renaming = List ℕ → List ℕ
 abbrev pub IsInjective : Renaming → Type 0
 IsInjective g = (x y : List ℕ) → g x ≡ g y → x ≡ y
 
--- an element under its other name; truth values, numbers and bit vectors stay
+-- an element that is no array under its other name; truth values, numbers and bit vectors stay
+abbrev pub renamed_plain : Renaming → plain.Element → plain.Element
+renamed_plain g (plain.Abstract x) = plain.Abstract (g x)
+renamed_plain g e = e
+
+-- an element under its other name, and an array with those of its indexes and elements
 abbrev pub renamed : Renaming → Element → Element
-renamed g (Abstract x) = Abstract (g x)
-renamed g e = e
+renamed g (NoArray e) = NoArray (renamed_plain g e)
+renamed g (Filled e) = Filled (renamed g e)
+renamed g (Written a i e) = Written (renamed g a) (renamed g i) (renamed g e)
 
 abbrev pub renamed_variables : Renaming → List (List ℕ × Element) → List (List ℕ × Element)
 renamed_variables g r = map (λ v. (v.0, renamed g v.1)) r
@@ -43,6 +50,7 @@ IsMet (Some parameters) n = parameters ≤ n
 abbrev pub IsHeadMet : Parameters → Result Identifier TermFlaw → ℕ → Type 0
 IsHeadMet takes (Ok (Plain f)) n = IsMet (takes f) n
 IsHeadMet takes (Ok (Indexed f indexes)) n = Unit {0}
+IsHeadMet takes (Ok (Qualified sort)) n = Unit {0}
 IsHeadMet takes (Err fault) n = Unit {0}
 
 -- this holds, unless it is a variable of which is spoken

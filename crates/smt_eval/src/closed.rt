@@ -3,6 +3,7 @@
 ghost use Rattle.std.specs.Prelude.{◌≡◌, ◌≤◌, ◌<◌, ◌+◌, ◌-◌, ◌^◌, length, IfOk, OnOk};
 ghost use Rattle.smt_trees.specs.Sexp.{Sexp};
 ghost use Rattle.smt_values.specs.Element.{known_element};
+ghost use Rattle.smt_arrays.specs.Element.{known_plain};
 ghost use Rattle.smt_machine.specs.Costs.{capped, within};
 ghost use Rattle.smt_machine.specs.Tables.{arounds_of, model_count, nodes_of};
 ghost use Rattle.smt_terms.specs.Library.{IsTerm, StandsFor, element_names_of, held_terms_of, terms_of};
@@ -78,8 +79,8 @@ pub fn cost_within(
 }
 
 /// What is known of a term of the library over the structure that an interpretation gives to its names;
-/// `None` where the value is open. An element of a declared sort is known under the number that its name has among
-/// those of the model's definitions.
+/// `None` where the value is open, or an array. An element of a declared sort is known under the number that its name
+/// has among those of the model's definitions.
 ///
 /// The term is closed, and a term of this library. The interpretation is one of a model of the names that the
 /// library has now. The call subtracts one from `left` for each term that it evaluates, parts and the bodies
@@ -103,8 +104,8 @@ pub fn eval(
     ensures known { (script definitions : Signature) (t : Sexp) → StandsFor library.now script
         → IsInterpretation interpretation.now script definitions → IsTerm library.now term t
         → IfOk result (λ v. known_element v
-        ≡ in_numbers (element_names_of interpretation.now.definitions)
-        (known_over (structure_of script definitions) t)) }
+        ≡ known_plain (in_numbers (element_names_of interpretation.now.definitions)
+        (known_over (structure_of script definitions) t))) }
 {
     eval_by(
         &mut Machine::new(library.alloc()),
@@ -141,15 +142,16 @@ pub fn eval_by(
     ensures known { (script definitions : Signature) (t : Sexp) → StandsFor library.now script
         → IsInterpretation interpretation.now script definitions → IsTerm library.now term t
         → IfOk result (λ v. known_element v
-        ≡ in_numbers (element_names_of interpretation.now.definitions)
-        (known_over (structure_of script definitions) t)) }
+        ≡ known_plain (in_numbers (element_names_of interpretation.now.definitions)
+        (known_over (structure_of script definitions) t))) }
 {
     nodes_give_the_values_of_their_terms();
     numbers_stand_for_names();
     elements_have_numbers();
     nodes_have_the_costs_of_their_terms();
     nodes_take_the_least_of_their_terms();
-    machine.eval(tables_of(library, interpretation), term, left)
+    let value = machine.eval(tables_of(library, interpretation), term, left)?;
+    Ok(machine.plain(value))
 }
 
 // The tables of the model and of the script.

@@ -9,7 +9,8 @@ ghost use Rattle.smt_trees.specs.Sexp.{Cons, Sexp, Sexps, append};
 ghost use Rattle.smt_trees.specs.View.{sexp_of};
 ghost use Rattle.smt_theory.specs.Sort.{Sort};
 ghost use Rattle.smt_theory.specs.declared.theories.Theories.{Theories};
-ghost use Rattle.smt_values.specs.Element.{Abstract, Agrees, Element, IsOfSort};
+ghost use Rattle.smt_values.specs.Element.{Abstract};
+ghost use Rattle.smt_arrays.specs.Element.{Agrees, Element, IsOfSort, Plain};
 ghost use Rattle.smt_values.specs.ElementNumbers.{numbered_in};
 ghost use Rattle.smt_values.specs.Operations.{DivisionByZero};
 ghost use Rattle.smt_forms.specs.Variables.{is_among};
@@ -49,13 +50,13 @@ ghost use Rattle.smt_eval.specs.Renaming.{renamed, renamed_variables};
 ghost use Rattle.smt_eval.specs.Structure.{IsStructure, structure_of};
 ghost use Rattle.smt_eval.specs.declared.model_fault.ModelFlaw.TheVariants.{Item, Lacks};
 
+use smt_arrays::laws::{known_results_are_true, results_are_of_their_sorts};
 use smt_machine::laws::{nodes_have_their_costs, nodes_have_their_least, nodes_have_their_values};
 use smt_names::laws::places_are_of_one_name;
 use smt_terms::laws::elements::items_that_tell_of_elements_are_set_aside;
 use smt_terms::laws::{items_are_well_sorted, repeated_items_are_set_aside, sorts_are_kept};
 use smt_theory::laws::{ranks_are_the_table, sorts_are_compared};
 use smt_values::laws::literals::{decimals_are_reals, decimals_are_their_digits};
-use smt_values::laws::{known_results_are_true, results_are_of_their_sorts};
 
 /// What is known of a term is its value in the structure that the definitions give (SMT-LIB 2.6, section
 /// 5.3). This holds whatever division by zero gives, and for all values of the variables that agree with what
@@ -115,7 +116,7 @@ pub fn values_are_elements_that_are_named()
         (names : List (List ℕ)) (x : List ℕ) → DefinitionsNameOnly (IsAmong names) definitions
         → NamesOnly (IsAmong names) (parameters_in definitions) (map (λ v. v.0) r) term
         → All (λ v. IsOfName (IsAmong names) v.1) r
-        → value_over z definitions r term ≡ Abstract x → is_among names x ≡ true }
+        → value_over z definitions r term ≡ Plain (Abstract x) → is_among names x ≡ true }
 {}
 
 /// The definitions of a model are over the script's theories, are well sorted and have different names. Each

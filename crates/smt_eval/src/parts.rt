@@ -26,7 +26,8 @@ pub struct Parts<'a> {
 impl<'a> Parts<'a> {
     ghost use Rattle.std.specs.Prelude.{◌≤◌, ◌<◌, ◌+◌, [], None, IfOk, OnOk, length, option_map};
     ghost use Rattle.smt_trees.specs.Sexp.{Sexp};
-    ghost use Rattle.smt_values.specs.Element.{known_element, known_elements};
+    ghost use Rattle.smt_arrays.specs.Tables.{Grows, all_known_in, known_in};
+    ghost use Rattle.smt_machine.specs.Memory.{Holds, arrays_in};
     ghost use Rattle.smt_machine.specs.Costs.{capped, cost};
     ghost use Rattle.smt_machine.specs.Given.{given};
     ghost use Rattle.smt_machine.specs.Least.{least};
@@ -139,7 +140,8 @@ impl<'a> Parts<'a> {
     }
 
     /// What is known of the value of a node over a frame, the values of variables by their places, of which some may be
-    /// open; `None` where the value is open.
+    /// open, as is an array that the machine does not have; `None` where the value is open. A value that is an array is
+    /// one of the machine's; those that it had stay.
     ///
     /// The machine is new, or has evaluated terms and nodes of this library over this interpretation alone. The call
     /// subtracts from `left` as `eval` does; `left` is no less than the cost of the node. The only error is want of
@@ -154,8 +156,10 @@ impl<'a> Parts<'a> {
         requires serves { Serves machine.old self.now.interpretation.now self.now.library.now }
         requires enough { cost (nodes_in self.now) (arounds_in self.now) node ≤ left.old }
         ensures serves { IfOk result (λ _. Serves machine.new self.now.interpretation.now self.now.library.now) }
-        ensures value { IfOk result (λ v. known_element v
-            ≡ given (nodes_in self.now) node (known_elements frame.now)) }
+        ensures value { IfOk result (λ v. known_in (arrays_in machine.new) v
+            ≡ given (nodes_in self.now) node (all_known_in (arrays_in machine.old) frame.now)) }
+        ensures held { IfOk result (λ v. Holds machine.new v) }
+        ensures grown { OnOk result (Grows (arrays_in machine.old) (arrays_in machine.new)) }
         ensures fewer { OnOk result (left.new < left.old) }
         ensures counted { OnOk result
             (left.new + least (nodes_in self.now) (arounds_in self.now) node ≤ left.old) }

@@ -10,9 +10,8 @@
 //! ```
 
 ghost use Rattle.std.specs.Prelude.{◌≡◌, IfOk};
-ghost use Rattle.smt_values.specs.Element.{known_element};
+ghost use Rattle.smt_eval.specs.PlainTerm.{known_single, known_without_arrays};
 ghost use Rattle.smt_values.specs.ElementNumbers.{numbered_in};
-ghost use Rattle.smt_eval.specs.Known.{known_over_by};
 
 mod evaluator;
 mod names;
@@ -57,11 +56,11 @@ impl Closed<'_> {
     ghost use Rattle.smt_terms.specs.Signature.{Signature};
     ghost use Rattle.smt_eval.specs.PlainTerm.{IsPlain};
 
-    /// What is known of the term's value, whatever it costs; `None` where the value is open. The only error
-    /// is want of memory.
+    /// What is known of the term's value, whatever it costs; `None` where the value is open. Each array is open, and so
+    /// is what is computed of one, as `select`. The only error is want of memory.
     pub fn value(&self) -> Result<Option<Value>, Memory>
         ensures { IfOk result (λ v. (structure : Signature) (term : Sexp) → IsPlain self.now structure term
-            → known_element v ≡ known_over_by (numbered_in self.now.names.now) structure term) }
+            → known_single v ≡ known_without_arrays (numbered_in self.now.names.now) structure term) }
     {
         known_value(self.over(), &[], self.tree)
     }

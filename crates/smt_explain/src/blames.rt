@@ -104,6 +104,7 @@ fn tell_misfit(page: &mut Page<'_>, dialogue: &Dialogue<'_>, found: Sort, wanted
     match wanted {
         Wanted::Only(sort) => put_sort(page, dialogue, sort),
         Wanted::AnyBits => page.put(b"a bit vector"),
+        Wanted::AnyArray => page.put(b"an array"),
     }
     page.put(b" is needed")
 }
@@ -124,8 +125,32 @@ fn tell_counts(page: &mut Page<'_>, kind: &'static str, needed: u64, given: u64)
     page.put_number(given)
 }
 
-// Writes a sort.
+// Writes a sort. (Arrays are at most two deep.)
 fn put_sort(page: &mut Page<'_>, dialogue: &Dialogue<'_>, sort: Sort) {
+    let Some((index, element)) = sort.array_parts() else {
+        return put_plain_sort(page, dialogue, sort);
+    };
+    let Some((inner, held)) = element.array_parts() else {
+        return put_array_sort(page, dialogue, index, element);
+    };
+    page.put(b"(Array ");
+    put_plain_sort(page, dialogue, index);
+    page.put(b" ");
+    put_array_sort(page, dialogue, inner, held);
+    page.put(b")")
+}
+
+// Writes a sort of arrays of elements that are none.
+fn put_array_sort(page: &mut Page<'_>, dialogue: &Dialogue<'_>, index: Sort, element: Sort) {
+    page.put(b"(Array ");
+    put_plain_sort(page, dialogue, index);
+    page.put(b" ");
+    put_plain_sort(page, dialogue, element);
+    page.put(b")")
+}
+
+// Writes a sort of no arrays.
+fn put_plain_sort(page: &mut Page<'_>, dialogue: &Dialogue<'_>, sort: Sort) {
     let text = match sort.command() {
         Some(command) => {
             let name = dialogue.declared_sort(u64::from(command));

@@ -1,14 +1,16 @@
-//! Identifiers: plain symbols, and symbols with indexes. This file knows no names but those of operators.
+//! Identifiers: plain symbols, symbols with indexes, and `const` with its sort. This file knows no names but those of
+//! operators.
 
-ghost use Rattle.std.specs.Prelude.{◌≡◌, Some, None, map, is_some, ok_or, MatchOption};
-ghost use Rattle.smt_trees.specs.Sexp.{Items};
+ghost use Rattle.std.specs.Prelude.{◌≡◌, Ok, Err, Some, None, map, is_some, ok_or, MatchOption, bytes_eq, codes};
+ghost use Rattle.smt_trees.specs.Sexp.{Cons, Items, Reserved};
+ghost use Rattle.smt_trees.specs.declared.reserved.Word.TheVariants.{As};
 ghost use Rattle.smt_trees.specs.View.{sexp_of, sexps_of};
 ghost use Rattle.smt_theory.specs.Index.{index_view};
 ghost use Rattle.smt_forms.specs.Identifier as identifiers;
-ghost use Rattle.smt_forms.specs.Identifier.{all_indexes, applied, index_of_numeral, index_of_tree, indexed};
-ghost use Rattle.smt_forms.specs.Identifier.{operator_of};
+ghost use Rattle.smt_forms.specs.Identifier.{Qualified, all_indexes, applied, applied_in, index_of_numeral};
+ghost use Rattle.smt_forms.specs.Identifier.{index_of_tree, indexed, operator_of, qualified};
 ghost use Rattle.smt_forms.specs.IdentifierView.{identifier_view};
-ghost use Rattle.smt_faults.specs.declared.term_flaw.TermFlaw.TheVariants.{Form};
+ghost use Rattle.smt_faults.specs.declared.term_flaw.TermFlaw.TheVariants.{Form, Unsupported};
 ghost use Rattle.smt_faults.specs.Outcome.{IsOutcome};
 
 use smt_faults::{TermFault, TermFlaw};
@@ -26,17 +28,21 @@ pub enum Identifier<'a> {
         name: &'a [u8],
         indexes: Vec<Index<'a>>,
     },
+    /// `(as const o)`, by the tree of the sort o: what makes an array of that sort of its one element. It is no
+    /// standard's.
+    Qualified(Tree<'a>),
 }
 
 impl Identifier<'_> {
     /// The operator of these theories that the identifier names, or why it names none. Look names in force up
-    /// first.
+    /// first. `(as const o)` names none: its operator holds a sort.
     pub fn operator(&self, theories: Theories) -> Result<Op, OpFault>
         ensures { result ≡ operator_of theories (identifier_view self.now) }
     {
         match self {
             Identifier::Plain(name) => op_of(theories, *name, &[]),
             Identifier::Indexed { name, indexes } => op_of(theories, *name, indexes.as_slice()),
+            Identifier::Qualified(_) => Err(OpFault::Unknown),
         }
     }
 }
@@ -58,12 +64,13 @@ pub fn applied_identifier<'a>(
     }
 }
 
-/// What is wrong with the form of a list of this head and these arguments; `None` where it applies an identifier.
+/// What is wrong with the form of a list of this head and these arguments; `None` where it applies an identifier. One
+/// with its sort is `Unsupported` but in the wide profile.
 #[inline(always)]
-pub fn applied_flaw(head: Tree<'_>, args: Trees<'_>) -> Option<TermFlaw>
+pub fn applied_flaw(wide: bool, head: Tree<'_>, args: Trees<'_>) -> Option<TermFlaw>
     ensures { MatchOption result
-        ((f : identifiers.Identifier) × (applied (sexp_of head.entry) (sexps_of args.entry) ≡ Ok f))
-        (λ flaw. applied (sexp_of head.entry) (sexps_of args.entry) ≡ Err flaw) }
+        ((f : identifiers.Identifier) × (applied_in wide (sexp_of head.entry) (sexps_of args.entry) ≡ Ok f))
+        (λ flaw. applied_in wide (sexp_of head.entry) (sexps_of args.entry) ≡ Err flaw) }
 {
     match head {
         Tree::Symbol(_) => match args.split_first() {
@@ -71,24 +78,78 @@ pub fn applied_flaw(head: Tree<'_>, args: Trees<'_>) -> Option<TermFlaw>
             None => Some(TermFlaw::Form),
         },
         Tree::Reserved(word) => Some(word_flaw(word)),
-        Tree::List(parts) => list_flaw(parts, args),
+        Tree::List(parts) => list_flaw(wide, parts, args),
         _ => Some(TermFlaw::Form),
     }
 }
 
 // The same where the head is a list of these parts.
-fn list_flaw(parts: Trees<'_>, args: Trees<'_>) -> Option<TermFlaw>
+fn list_flaw(wide: bool, parts: Trees<'_>, args: Trees<'_>) -> Option<TermFlaw>
     ensures { MatchOption result
-        ((f : identifiers.Identifier) × (applied (Items (sexps_of parts.entry)) (sexps_of args.entry) ≡ Ok f))
-        (λ flaw. applied (Items (sexps_of parts.entry)) (sexps_of args.entry) ≡ Err flaw) }
+        ((f : identifiers.Identifier) × (applied_in wide (Items (sexps_of parts.entry)) (sexps_of args.entry) ≡ Ok f))
+        (λ flaw. applied_in wide (Items (sexps_of parts.entry)) (sexps_of args.entry) ≡ Err flaw) }
 {
     match parts.split_first() {
-        Some((Tree::Reserved(Word::As), _)) => Some(TermFlaw::Unsupported),
+        Some((Tree::Reserved(Word::As), rest)) => qualified_flaw(wide, rest, args),
         Some((Tree::Reserved(Word::Underscore), rest)) if args.split_first().is_some() => {
             indexed_flaw(rest)
         }
         _ => Some(TermFlaw::Form),
     }
+}
+
+// The same where the head is a list of an `as` and these parts.
+fn qualified_flaw(wide: bool, parts: Trees<'_>, args: Trees<'_>) -> Option<TermFlaw>
+    ensures { MatchOption result
+        ((f : identifiers.Identifier)
+        × (applied_in wide (Items (Cons (Reserved As) (sexps_of parts.entry))) (sexps_of args.entry) ≡ Ok f))
+        (λ flaw. applied_in wide (Items (Cons (Reserved As) (sexps_of parts.entry))) (sexps_of args.entry)
+        ≡ Err flaw) }
+{
+    match constant_sort(parts, args) {
+        Some(_) if wide => None,
+        _ => Some(TermFlaw::Unsupported),
+    }
+}
+
+// The tree of the sort in `((as const sort) t)`, by the parts after the `as` and by the arguments, if these make such
+// a term.
+fn constant_sort<'a>(parts: Trees<'a>, args: Trees<'_>) -> Option<Tree<'a>>
+    ensures { MatchOption result
+        (applied (Items (Cons (Reserved As) (sexps_of parts.entry))) (sexps_of args.entry) ≡ Err Unsupported)
+        (λ sort. applied (Items (Cons (Reserved As) (sexps_of parts.entry))) (sexps_of args.entry)
+        ≡ Ok (Qualified (sexp_of sort))) }
+{
+    let Some((_, rest)) = args.split_first() else {
+        return None;
+    };
+    if rest.split_first().is_some() {
+        return None;
+    }
+    sort_of_const(parts)
+}
+
+// The tree of the sort in `(as const sort)`, by the parts after the `as`.
+fn sort_of_const<'a>(parts: Trees<'a>) -> Option<Tree<'a>>
+    ensures { MatchOption result (qualified (sexps_of parts.entry) ≡ Err Unsupported)
+        (λ sort. qualified (sexps_of parts.entry) ≡ Ok (Qualified (sexp_of sort))) }
+{
+    let Some((Tree::Symbol(name), rest)) = parts.split_first() else {
+        return None;
+    };
+    let Some((sort, rest)) = rest.split_first() else {
+        return None;
+    };
+    if rest.split_first().is_some() || !is_const(name) {
+        return None;
+    }
+    Some(sort)
+}
+
+fn is_const(name: &[u8]) -> bool
+    ensures { result ≡ bytes_eq name.now (codes "const") }
+{
+    name == b"const".as_slice()
 }
 
 // What is wrong with the form of an identifier with indexes, by the trees after the `_`.
@@ -117,7 +178,10 @@ fn applied_list<'a>(
     ensures { IsOutcome identifier_view (applied (Items (sexps_of parts.entry)) (sexps_of args.entry)) result }
 {
     match parts.split_first() {
-        Some((Tree::Reserved(Word::As), _)) => Err(TermFault::Unsupported),
+        Some((Tree::Reserved(Word::As), rest)) => match constant_sort(rest, args) {
+            Some(sort) => Ok(Identifier::Qualified(sort)),
+            None => Err(TermFault::Unsupported),
+        },
         Some((Tree::Reserved(Word::Underscore), rest)) if args.split_first().is_some() => {
             indexed_identifier(alloc, rest)
         }

@@ -5,7 +5,7 @@ use Rattle.std.proofs.Common.{nat_lt, inl, inr, ◌⊎◌}
 use Rattle.std.proofs.lemmas.Bool.{ltb-true}
 use Rattle.std.proofs.lemmas.Bool.Decides.{nat_tests}
 use Rattle.std.proofs.lemmas.Option.{slice_get_past}
-use Rattle.smt_values.specs.KnownOperations.{known_step}
+use Rattle.smt_arrays.specs.Known.{known_step}
 use Rattle.smt_machine.specs.Given.{fill, given, open_everywhere}
 use Rattle.smt_machine.specs.Costs.{around_at, cost, first_cost, last_cost, node_cost, part_cost, parts_cost}
 use Rattle.smt_machine.specs.Nodes.{Frame, Giving, Node, Known, Slot, Apply, Call, Let, node_value, part}

@@ -2,7 +2,6 @@
 use Rattle.std.proofs.Common.{◌≡◌, ℕ, zero, suc, ◌<◌, ◌≤◌, Bool, true, false, cond, List, [], ◌∷◌, ◌++◌, length}
 use Rattle.std.proofs.Common.{slice_get, slice_set, Option, None, Some, refl, ap, ◌∙◌, arith, nat_eq}
 use Rattle.std.proofs.lemmas.Bool.Decides.{nat_tests}
-use Rattle.smt_values.specs.Element.{known_element}
 use Rattle.smt_values.specs.declared.value.Value.{Value}
 use Rattle.smt_machine.specs.Internal.KeptView.{found_at, found_by, found_for}
 use Rattle.smt_machine.specs.declared.kept.Found.{Found}
@@ -66,14 +65,14 @@ same_number i = grind (arith, nat_tests)
 pub kept_more : (xs : List Found) (places : List ℕ) (i j : ℕ) (v : Option Value) (b : Bool) → nat_eq j i ≡ b
     → i < length places
     → found_by (xs ++ (record { number = i; value = v }) ∷ []) (slice_get (slice_set places i (length xs)) j) j
-    ≡ cond b (Some (known_element v)) (found_by xs (slice_get places j) j)
+    ≡ cond b (Some v) (found_by xs (slice_get places j) j)
 kept_more xs places i j v true e h =
     let x : Found = record { number = i; value = v } in
     let is : j ≡ i = grind (arith, nat_tests) in
     ap (λ k. found_by (xs ++ x ∷ []) (slice_get (slice_set places i (length xs)) k) k) is
     ∙ ap (λ o. found_by (xs ++ x ∷ []) o i) (get_set_same places i (length xs) h)
     ∙ ap (λ o. found_for o i) (get_last xs x)
-    ∙ ap (λ (t : Bool). cond t (Some (known_element v)) None) (same_number i)
+    ∙ ap (λ (t : Bool). cond t (Some v) None) (same_number i)
 kept_more xs places i j v false e h =
     let x : Found = record { number = i; value = v } in
     ap (λ o. found_by (xs ++ x ∷ []) o j)

@@ -1,6 +1,7 @@
 pub mod GivenLemmas
 pub mod LeastLemmas
 pub mod RunLemmas
+pub mod HeldLemmas
 pub mod StateLemmas
 pub mod StepLemmas
 pub mod KeptLemmas

@@ -43,7 +43,8 @@ operator_at at args h some =
 
     by : (n : node.Node) → parts_of n ≡ Args args
         → (op : Op)
-        × (Some (resolved (elements_at at) at.shift at.bodies.now at.declared.now n) ≡ Some (machine.Apply op (shifted at.shift args)))
+        × (Some (resolved (elements_at at) at.shift at.bodies.now at.declared.now n)
+        ≡ Some (machine.Apply op (shifted at.shift args)))
     by (node.Literal kind digits) e = leaf cc
     by (node.Element name) e = leaf cc
     by (node.Slot place) e = leaf cc

@@ -4,9 +4,11 @@ use Rattle.std.proofs.Common.{length, map, take, drop, slice_get, Option, Some, 
 use Rattle.std.proofs.Common.{subst, arith, nat_lt, append_assoc, append-nil, length-append}
 use Rattle.std.proofs.Math.Seq.{drop-append_seam}
 use Rattle.std.proofs.lemmas.List.{length-map, map-append, take-append-le, take_all}
-use Rattle.smt_values.specs.Element.{Element}
-use Rattle.smt_values.specs.KnownOperations.{known_step}
+use Rattle.smt_arrays.specs.Element.{Element}
+use Rattle.smt_arrays.specs.Known.{known_step}
+use Rattle.smt_arrays.specs.Tables.{Grows}
 use Rattle.smt_machine.proofs.GivenLemmas.{given_law, cost_law}
+use Rattle.smt_machine.proofs.HeldLemmas.{known_stays}
 use Rattle.smt_machine.proofs.LeastLemmas.{AtOnce, Owes, arguments_of_parts, least-append, node_owes}
 use Rattle.smt_machine.proofs.LeastLemmas.{owes_nothing}
 use Rattle.smt_machine.specs.Given.{given}
@@ -15,10 +17,10 @@ use Rattle.smt_machine.specs.Least.{inner_least, is_choice, least, parts_least}
 use Rattle.smt_machine.specs.Internal.States.{State, before_last, frame_of, last_of, state_of, with_last}
 use Rattle.smt_machine.specs.Internal.States.{with_value}
 use Rattle.smt_machine.specs.Internal.Tasks.{AreDue, IsAt, IsBased, IsDone, IsDue, IsPlanned, IsStep, finished}
-use Rattle.smt_machine.specs.Internal.Tasks.{body_least, charge, part_task, run, run_all, task_cost, task_work, tasks_cost, tasks_least}
-use Rattle.smt_machine.specs.Internal.Tasks.{visits, work}
+use Rattle.smt_machine.specs.Internal.Tasks.{body_least, charge, part_task, run, run_all, task_cost, task_work}
+use Rattle.smt_machine.specs.Internal.Tasks.{tasks_cost, tasks_least, visits, work}
 use Rattle.smt_machine.specs.Internal.KeptView.{kept_at}
-use Rattle.smt_machine.specs.Memory.{Remembers}
+use Rattle.smt_machine.specs.Memory.{Remembers, arrays_in}
 use Rattle.smt_machine.specs.Nodes.{Frame, Node, Known, Slot, Apply, Call, Let, node_value, part, parts}
 use Rattle.smt_machine.specs.declared.machine.Machine.{Machine}
 use Rattle.smt_machine.specs.declared.task.Task.{Task}
@@ -152,11 +154,13 @@ due_visits nodes i [] s = tt
 due_visits nodes i (j ∷ js) s = due-append nodes (visits i js) (part_task i j ∷ []) s
     (due_visits nodes i js (run nodes (part_task i j) s)) (due_part nodes i j s)
 
--- what another machine keeps alike
+-- what another machine keeps alike, over its arrays and more
 pub remembered : (nodes : List Node) (before after : Machine) → after.kept ≡ before.kept
-    → Remembers before nodes → Remembers after nodes
-remembered nodes before after same remembers number v is =
-    remembers number v (ap (λ k. kept_at k number) (sym same) ∙ is)
+    → Grows (arrays_in before) (arrays_in after) → Remembers before nodes → Remembers after nodes
+remembered nodes before after same grown remembers number v is =
+    let here : kept_at before.kept number ≡ Some v = ap (λ k. kept_at k number) (sym same) ∙ is in
+    known_stays (arrays_in before) (arrays_in after) v grown (before.kept_held number v here)
+    ∙ remembers number v here
 
 -- ---- the last values
 
@@ -223,9 +227,10 @@ pub grown : (nodes : List Node) (task : Task) (before after : Machine) (more : L
     → Pays nodes task more
     → Owes nodes task more
     → Remembers after nodes
+    → Grows (arrays_in before) (arrays_in after)
     → AreDue nodes more (state_of after)
     → IsDone nodes task before after
-grown nodes task before after more tasks leads based less pays owes remembers due = record {
+grown nodes task before after more tasks leads based less pays owes remembers arrays due = record {
   answer = ap (λ ts. run_all nodes ts (state_of after)) tasks
       ∙ run_all-append nodes before.tasks.items more (state_of after)
       ∙ ap (run_all nodes before.tasks.items) leads;
@@ -240,6 +245,7 @@ grown nodes task before after more tasks leads based less pays owes remembers du
       let e = ap (tasks_least nodes k) tasks in
       omega (arith, e, least-append nodes k before.tasks.items more, owes arounds);
   remembers = remembers;
+  grown = arrays;
   due = λ earlier.
       let P : State → Type 0 = λ s. AreDue nodes before.tasks.items s in
       let Q : List Task → Type 0 = λ ts. AreDue nodes ts (state_of after) in
@@ -257,7 +263,7 @@ pub settled : (nodes : List Node) (task : Task) (before after : Machine)
 settled nodes task before after is based less pays owes = λ remembers due.
     grown nodes task before after [] (is.tasks ∙ sym (append-nil before.tasks.items)) is.state
     (let P : State → Type 0 = λ s. IsBased s in subst P (sym is.state) based) less pays owes
-    (remembered nodes before after is.kept remembers) tt
+    (remembered nodes before after is.kept is.grown remembers) is.grown tt
 
 pub planned : (nodes : List Node) (task : Task) (before after : Machine) (more : List Task) (s : State)
     → IsPlanned more s before after
@@ -271,7 +277,7 @@ pub planned : (nodes : List Node) (task : Task) (before after : Machine) (more :
 planned nodes task before after more s is leads based less pays owes dues = λ remembers due.
     grown nodes task before after more is.tasks (ap (run_all nodes more) is.state ∙ leads)
     (let P : State → Type 0 = λ s. IsBased s in subst P (sym is.state) based) less pays owes
-    (remembered nodes before after is.kept remembers)
+    (remembered nodes before after is.kept is.grown remembers) is.grown
     (let P : State → Type 0 = λ s. AreDue nodes more s in subst P (sym is.state) dues)
 
 -- ---- visits

@@ -1,8 +1,8 @@
 -- What a step of the machine does for each task and each form of node.
 use Rattle.std.proofs.Common.{◌≡◌, ℕ, ◌+◌, ◌-◌, ◌*◌, ◌<◌, ◌≤◌, Bool, true, false, cond, List, [], ◌∷◌, ◌++◌}
 use Rattle.std.proofs.Common.{length, take, min, slice_get, Option, Some, None, refl, ap, sym, ◌∙◌, subst}
-use Rattle.std.proofs.Common.{inl, inr, ◌⊎◌, arith, append-nil, length-append, length-drop, nat_eq, nat_lt, Result, Ok, Err}
-use Rattle.std.proofs.Common.{IfOk}
+use Rattle.std.proofs.Common.{inl, inr, ◌⊎◌, arith, append-nil, length-append, length-drop, nat_eq, nat_lt}
+use Rattle.std.proofs.Common.{Result, Ok, Err, IfOk}
 use Rattle.std.proofs.Math.Seq.{drop-append_seam}
 use Rattle.std.proofs.lemmas.Bool.Decides.{nat_tests}
 use Rattle.std.proofs.lemmas.List.{drop_all, drop-append-le, take-append-le, take_all}
@@ -10,31 +10,36 @@ use Rattle.std.specs.Prelude.{option_and_then, if◌then◌else◌}
 use Rattle.smt_theory.specs.declared.op.CoreOp.TheVariants.{Ite}
 use Rattle.smt_theory.specs.declared.op.Op.{Op}
 use Rattle.smt_theory.specs.declared.op.Op.TheVariants.{Core}
-use Rattle.smt_values.specs.Element.{Element}
-use Rattle.smt_values.specs.KnownOperations.{known_choice, known_truth}
+use Rattle.smt_arrays.specs.Cells.{arrays_of}
+use Rattle.smt_arrays.specs.Element.{Element, known_plain}
+use Rattle.smt_arrays.specs.Known.{known_choice, known_step}
+use Rattle.smt_arrays.specs.Tables.{Grows, known_in}
+use Rattle.smt_values.specs.KnownOperations.{known_truth}
+use Rattle.smt_values.specs.declared.value.Value.{Value}
 use Rattle.smt_machine.proofs.GivenLemmas.{given_law, cost_law}
+use Rattle.smt_machine.proofs.HeldLemmas.{grows_as, grows_not, grows_on}
 use Rattle.smt_machine.proofs.LeastLemmas.{Owes, least-append, least_law, least_part, least_visits}
 use Rattle.smt_machine.proofs.RunLemmas.{due_before, due_later, due_part, due_visits, grown, last_of_more}
 use Rattle.smt_machine.proofs.RunLemmas.{made_of_last, planned, remembered, run_all-append, run_part}
 use Rattle.smt_machine.proofs.RunLemmas.{run_visits, settled, visited, work-append, work_part, work_visits}
 use Rattle.smt_machine.proofs.RunLemmas.{Pays, cost-append, cost_part, cost_visits, with_values}
+use Rattle.smt_machine.proofs.StateLemmas.{last_one}
 use Rattle.smt_machine.specs.Given.{given}
 use Rattle.smt_machine.specs.Costs.{cost, first_cost, last_cost, part_cost}
 use Rattle.smt_machine.specs.Least.{inner_least, least}
 use Rattle.smt_machine.specs.Internal.States.{State, before_last, first_of, frame_of, last_of, state_of}
 use Rattle.smt_machine.specs.Internal.KeptView.{kept_at}
-use Rattle.smt_machine.specs.Internal.States.{with_base, with_last, with_moved, with_value, without_last}
+use Rattle.smt_machine.specs.Internal.States.{with_base, with_frames, with_last, with_moved, with_value, without_last}
 use Rattle.smt_machine.specs.Internal.Tasks.{AreDue, IsAt, IsBased, IsBefore, IsChoice, IsDone, IsDue}
 use Rattle.smt_machine.specs.Internal.Tasks.{IsKeeping, IsPaid, IsPlanned, IsRunning, IsStep}
 use Rattle.smt_machine.specs.Internal.Tasks.{branches_cost, branches_of, chosen, chosen_between}
-use Rattle.smt_machine.specs.Internal.Tasks.{body_least, charge, chosen_cost, finished, part_task, run, run_all, task_cost}
-use Rattle.smt_machine.specs.Internal.Tasks.{task_work, tasks_cost, tasks_least}
-use Rattle.smt_machine.specs.Internal.Tasks.{visits, work}
-use Rattle.smt_machine.specs.Memory.{Remembers}
+use Rattle.smt_machine.specs.Internal.Tasks.{body_least, charge, chosen_cost, finished, part_task, run, run_all}
+use Rattle.smt_machine.specs.Internal.Tasks.{task_cost, task_work, tasks_cost, tasks_least, visits, work}
+use Rattle.smt_machine.specs.Memory.{Remembers, arrays_in}
 use Rattle.smt_machine.specs.Nodes.{Frame, Node, Apply, Call, Let, node_value, part}
 use Rattle.smt_machine.specs.declared.machine.Machine.{Machine}
 use Rattle.smt_machine.specs.declared.task.Task.{Task}
-use Rattle.smt_machine.specs.declared.task.Task.TheVariants.{Visit, Finish, Choose, Return, Unbind, Keep}
+use Rattle.smt_machine.specs.declared.task.Task.TheVariants.{Visit, Open, Finish, Choose, Return, Unbind, Keep}
 
 -- what follows from what holds unless memory was refused
 pub if_done : {T E : Type 0} {P Q : Type 0} (r : Result T E) → IfOk r (λ _. P) → (P → Q) → IfOk r (λ _. Q)
@@ -47,8 +52,30 @@ pub idle : (nodes : List Node) (task : Task) (m : Machine)
     → IsBased (state_of m) → 0 < task_work nodes task → Pays nodes task [] → Owes nodes task []
     → IsStep nodes task m m
 idle nodes task m same based less pays owes =
-    settled nodes task m m (record { tasks = refl; state = sym same; kept = refl })
+    settled nodes task m m (record { tasks = refl; state = sym same; kept = refl; grown = grows_not (arrays_in m) })
     (let P : State → Type 0 = λ s. IsBased s in subst P (sym same) based) less pays owes
+
+-- a part that is open
+pub open_done : (nodes : List Node) (before after : Machine)
+    → IsAt (with_value None (state_of before)) before after
+    → IsBased (state_of before) → IsStep nodes Open before after
+open_done nodes before after is based =
+    settled nodes Open before after is based (omega arith) (λ arounds. omega arith) (λ arounds. omega arith)
+
+-- the frames are as they were before a body
+pub returned : (nodes : List Node) (base : ℕ) (before after : Machine)
+    → IsAt (with_frames base (state_of before).base (state_of before)) before after
+    → IsStep nodes (Return base) before after
+returned nodes base before after is =
+    settled nodes (Return base) before after is (omega arith) (omega arith) (λ arounds. omega arith)
+    (λ arounds. omega arith)
+
+pub unbound : (nodes : List Node) (len : ℕ) (before after : Machine)
+    → IsAt (with_frames (state_of before).base len (state_of before)) before after
+    → IsStep nodes (Unbind len) before after
+unbound nodes len before after is =
+    settled nodes (Unbind len) before after is (omega arith) (omega arith) (λ arounds. omega arith)
+    (λ arounds. omega arith)
 
 -- ---- a choice
 
@@ -94,7 +121,7 @@ choice_planned nodes i op args condition before after at choice is based =
 
 choice_known : (vs : List (Option Element)) (a b : Option Element) → length vs ≤ 1
     → known_choice (vs ++ a ∷ b ∷ [])
-    ≡ option_and_then (λ c. if c then a else b) (known_truth (first_of vs))
+    ≡ option_and_then (λ c. if c then a else b) (known_truth (known_plain (first_of vs)))
 choice_known [] a b h = refl
 choice_known (v ∷ []) a b h = refl
 choice_known (v ∷ w ∷ vs) a b h = absurd (omega arith)
@@ -105,7 +132,7 @@ length_last xs = omega (arith, length-drop (length xs - 1) xs)
 -- the choice is what its condition says
 chosen_is : (nodes : List Node) (i a b : ℕ) (op : Op) (args : List ℕ) (t : Option Bool) (s : State)
     → Some (Apply op args) ≡ slice_get nodes i → Some (a, b) ≡ branches_of args
-    → t ≡ known_truth (first_of (last_of 1 s.values))
+    → t ≡ known_truth (known_plain (first_of (last_of 1 s.values)))
     → with_last 1 (option_and_then
     (λ c. if c then part i (given nodes) (frame_of s) a else part i (given nodes) (frame_of s) b) t) s
     ≡ run nodes (Choose i) s
@@ -142,7 +169,7 @@ branch_cost c false a b = omega arith
 pub chosen_one : (nodes : List Node) (i a b : ℕ) (op : Op) (args : List ℕ) (t : Option Bool) (c : Bool)
     (before middle after : Machine)
     → Some (Apply op args) ≡ slice_get nodes i → Some (a, b) ≡ branches_of args
-    → t ≡ known_truth (first_of (last_of 1 (state_of before).values)) → t ≡ Some c
+    → t ≡ known_truth (known_plain (first_of (last_of 1 (state_of before).values))) → t ≡ Some c
     → IsAt (without_last 1 (state_of before)) before middle
     → IsPlanned (part_task i (if c then a else b) ∷ []) (state_of middle) middle after
     → IsBased (state_of before)
@@ -155,6 +182,7 @@ chosen_one nodes i a b op args t c before middle after at branches is some taken
       tasks = is_planned.tasks ∙ ap (λ ts. ts ++ part_task i (if c then a else b) ∷ []) taken.tasks;
       state = is_planned.state ∙ taken.state;
       kept = is_planned.kept ∙ taken.kept;
+      grown = grows_on (arrays_in before) (arrays_in middle) (arrays_in after) taken.grown is_planned.grown;
     })
     (run_part nodes i (if c then a else b) (without_last 1 s)
     ∙ ap (λ v. with_last 1 v s) (branch_value value c a b)
@@ -176,7 +204,7 @@ chosen_one nodes i a b op args t c before middle after at branches is some taken
 pub chosen_none : (nodes : List Node) (i a b : ℕ) (op : Op) (args : List ℕ) (t : Option Bool)
     (before middle after : Machine)
     → Some (Apply op args) ≡ slice_get nodes i → Some (a, b) ≡ branches_of args
-    → t ≡ known_truth (first_of (last_of 1 (state_of before).values)) → t ≡ None
+    → t ≡ known_truth (known_plain (first_of (last_of 1 (state_of before).values))) → t ≡ None
     → IsAt (without_last 1 (state_of before)) before middle
     → IsAt (with_value None (state_of middle)) middle after
     → IsBased (state_of before)
@@ -193,6 +221,7 @@ chosen_none nodes i a b op args t before middle after at branches is none taken 
       tasks = left.tasks ∙ taken.tasks;
       state = left.state ∙ ap (with_value None) taken.state ∙ leads;
       kept = left.kept ∙ taken.kept;
+      grown = grows_on (arrays_in before) (arrays_in middle) (arrays_in after) taken.grown left.grown;
     })
     (let here : IsBased (with_last 1 None s) = based in subst B leads here)
     (omega arith) (λ arounds. omega arith) (λ arounds. omega arith)
@@ -206,6 +235,22 @@ state_is : (vs fs gs : List (Option Element)) (m n : ℕ) → fs ≡ gs → m �
     → (let r : State = record { values = vs; frames = fs; base = m } in r)
     ≡ (let r : State = record { values = vs; frames = gs; base = n } in r)
 state_is vs fs gs m n f b = cc
+
+pub operated_step : (nodes : List Node) (i n : ℕ) (op : Op) (args : List ℕ) (before after : Machine)
+    → Some (Apply op args) ≡ slice_get nodes i → length args ≡ n
+    → IsAt (with_last n (known_step op (last_of n (state_of before).values)) (state_of before)) before after
+    → IsBased (state_of before)
+    → IsStep nodes (Finish i) before after
+operated_step nodes i n op args before after at count is based =
+    let s : State = state_of before in
+    let made : State = with_last n (known_step op (last_of n s.values)) s in
+    let leads : made ≡ run nodes (Finish i) s =
+    ap (λ k. with_last k (known_step op (last_of k s.values)) s) (sym count) ∙ ap (λ m. finished nodes i m s) at in
+    let A : State → Type 0 = λ z. IsAt z before after in
+    let B : State → Type 0 = λ z. IsBased z in
+    settled nodes (Finish i) before after (subst A leads is)
+    (let here : B made = based in subst B leads here) (omega arith) (λ arounds. omega arith)
+    (λ arounds. let none = ap (body_least i (least nodes arounds)) (sym at) in omega (arith, none))
 
 pub entered_step : (nodes : List Node) (i n body : ℕ) (args : List ℕ) (before after : Machine)
     → Some (Call body args) ≡ slice_get nodes i → length args ≡ n
@@ -293,18 +338,19 @@ past_by true j is = cc
 past_by false j is = refl
 
 -- a value that is kept
-pub kept_step : (nodes : List Node) (i j k : ℕ) (v : Option Element) (before after : Machine)
+pub kept_step : (nodes : List Node) (i j k : ℕ) (v : Option Value) (before after : Machine)
     → Some (Call j []) ≡ slice_get nodes i → Some k ≡ (if nat_lt j i then Some j else None)
     → Some v ≡ kept_at before.kept k
-    → IsAt (with_value v (state_of before)) before after
+    → IsAt (with_value (known_in (arrays_in before) v) (state_of before)) before after
     → IsBased (state_of before)
     → IsStep nodes (Visit i) before after
 kept_step nodes i j k v before after at below kept is based = λ remembers due.
     let here = below_by (nat_lt j i) j k below in
-    let made : given nodes i (frame_of (state_of before)) ≡ v =
+    let made : given nodes i (frame_of (state_of before)) ≡ known_in (arrays_in before) v =
     constant_value nodes i j (frame_of (state_of before)) at here.0
     ∙ ap (λ n. given nodes n []) (sym here.1) ∙ sym (remembers k v (sym kept)) in
-    visited nodes i (slice_get nodes i) v before after refl (λ k. ap (inner_least i k) (sym at))
+    visited nodes i (slice_get nodes i) (known_in (arrays_in before) v) before after refl
+    (λ k. ap (inner_least i k) (sym at))
     (sym (given_law nodes i (frame_of (state_of before))) ∙ made) is based remembers due
 
 -- a body that is not below the constant
@@ -360,14 +406,15 @@ closed_step nodes i j k before after at below is based =
       (tt, (tt, tt)),
     )
 
-kept_by : (nodes : List Node) (k number : ℕ) (b : Bool) (v : Option Element) (before : Machine)
-    (w : Option Element) → nat_eq number k ≡ b → Remembers before nodes → w ≡ given nodes k []
+kept_by : (nodes : List Node) (k number : ℕ) (b : Bool) (v : Option Value) (before : Machine)
+    (w : Option Value) → nat_eq number k ≡ b → Remembers before nodes
+    → known_in (arrays_in before) w ≡ given nodes k []
     → cond b (Some w) (kept_at before.kept number) ≡ Some v
-    → v ≡ given nodes number []
+    → known_in (arrays_in before) v ≡ given nodes number []
 kept_by nodes k number true v before w same remembers due is =
     let e : w ≡ v = cc in
     let here : k ≡ number = grind (arith, nat_tests) in
-    sym e ∙ due ∙ ap (λ n. given nodes n []) here
+    ap (known_in (arrays_in before)) (sym e) ∙ due ∙ ap (λ n. given nodes n []) here
 kept_by nodes k number false v before w same remembers due is = remembers number v is
 
 -- the value that is due is kept
@@ -377,8 +424,10 @@ keeping_step nodes k before after is based = λ remembers due.
     grown nodes (Keep k) before after [] (is.tasks ∙ sym (append-nil before.tasks.items)) is.state
     (let P : State → Type 0 = λ s. IsBased s in subst P (sym is.state) based) (omega arith)
     (λ arounds. omega arith) (λ arounds. omega arith)
-    (λ number v here. kept_by nodes k number (nat_eq number k) v before
-    (first_of (last_of 1 (state_of before).values)) refl remembers due (sym (is.kept number) ∙ here)) tt
+    (λ number v here. ap (λ cells. known_in (arrays_of cells) v) is.arrays
+    ∙ kept_by nodes k number (nat_eq number k) v before (first_of (last_of 1 before.values.items)) refl remembers
+    (last_one (arrays_in before) before.values.items ∙ due) (sym (is.kept number) ∙ here))
+    (grows_as before.arrays after.arrays is.arrays) tt
 
 -- ---- the loop
 
@@ -417,24 +466,24 @@ dues_of nodes v task before middle running tasks =
 -- what a task does that is due
 done_of : (nodes : List Node) (v : Option Element) (task : Task) (before middle after : Machine)
     → IsRunning nodes v before
-    → state_of middle ≡ state_of before → middle.kept ≡ before.kept
+    → state_of middle ≡ state_of before → middle.kept ≡ before.kept → middle.arrays ≡ before.arrays
     → before.tasks.items ≡ middle.tasks.items ++ task ∷ []
     → IsStep nodes task middle after
     → IsDone nodes task middle after
-done_of nodes v task before middle after running state kept tasks step =
+done_of nodes v task before middle after running state kept arrays tasks step =
     let D : State → Type 0 = λ s. IsDue nodes task s in
-    step (remembered nodes before middle kept running.remembers)
+    step (remembered nodes before middle kept (grows_as before.arrays middle.arrays arrays) running.remembers)
     (subst D (sym state) (due_later nodes middle.tasks.items (task ∷ []) (state_of before)
     (dues_of nodes v task before middle running tasks)).0)
 
 pub turned : (nodes : List Node) (v : Option Element) (task : Task) (before middle after : Machine)
     → IsRunning nodes v before
-    → state_of middle ≡ state_of before → middle.kept ≡ before.kept
+    → state_of middle ≡ state_of before → middle.kept ≡ before.kept → middle.arrays ≡ before.arrays
     → before.tasks.items ≡ middle.tasks.items ++ task ∷ []
     → IsStep nodes task middle after
     → IsRunning nodes v after
-turned nodes v task before middle after running state kept tasks step =
-    let done = done_of nodes v task before middle after running state kept tasks step in
+turned nodes v task before middle after running state kept arrays tasks step =
+    let done = done_of nodes v task before middle after running state kept arrays tasks step in
     let D : State → Type 0 = λ s. AreDue nodes middle.tasks.items (run nodes task s) in
     record {
       answer = ap (λ (s : State). s.values) (done.answer
@@ -449,14 +498,27 @@ turned nodes v task before middle after running state kept tasks step =
           (dues_of nodes v task before middle running tasks)));
     }
 
+pub turned_grown : (nodes : List Node) (v : Option Element) (task : Task) (old : List Element)
+    (before middle after : Machine)
+    → IsRunning nodes v before → Grows old (arrays_in before)
+    → state_of middle ≡ state_of before → middle.kept ≡ before.kept → middle.arrays ≡ before.arrays
+    → before.tasks.items ≡ middle.tasks.items ++ task ∷ []
+    → IsStep nodes task middle after
+    → Grows old (arrays_in after)
+turned_grown nodes v task old before middle after running grown state kept arrays tasks step =
+    let done = done_of nodes v task before middle after running state kept arrays tasks step in
+    grows_on old (arrays_in before) (arrays_in after) grown
+    (grows_on (arrays_in before) (arrays_in middle) (arrays_in after)
+    (grows_as before.arrays middle.arrays arrays) done.grown)
+
 pub turned_less : (nodes : List Node) (v : Option Element) (task : Task) (before middle after : Machine)
     → IsRunning nodes v before
-    → state_of middle ≡ state_of before → middle.kept ≡ before.kept
+    → state_of middle ≡ state_of before → middle.kept ≡ before.kept → middle.arrays ≡ before.arrays
     → before.tasks.items ≡ middle.tasks.items ++ task ∷ []
     → IsStep nodes task middle after
     → work nodes after.tasks.items < work nodes before.tasks.items
-turned_less nodes v task before middle after running state kept tasks step =
-    let done = done_of nodes v task before middle after running state kept tasks step in
+turned_less nodes v task before middle after running state kept arrays tasks step =
+    let done = done_of nodes v task before middle after running state kept arrays tasks step in
     let e = ap (work nodes) tasks in
     omega (arith, e, work-append nodes middle.tasks.items (task ∷ []), done.falls)
 
@@ -480,14 +542,14 @@ task_paid nodes arounds root first left task before middle paid tasks =
 pub turned_paid : (nodes : List Node) (arounds : List ℕ) (root first left rest : ℕ) (v : Option Element)
     (task : Task) (before middle after : Machine)
     → IsRunning nodes v before → IsPaid nodes arounds root first left before
-    → state_of middle ≡ state_of before → middle.kept ≡ before.kept
+    → state_of middle ≡ state_of before → middle.kept ≡ before.kept → middle.arrays ≡ before.arrays
     → before.tasks.items ≡ middle.tasks.items ++ task ∷ []
     → IsStep nodes task middle after
     → rest + charge arounds task ≡ left
     → IsPaid nodes arounds root first rest after
-turned_paid nodes arounds root first left rest v task before middle after running paid state kept tasks step
-    counted =
-    let done = done_of nodes v task before middle after running state kept tasks step in
+turned_paid nodes arounds root first left rest v task before middle after running paid state kept arrays tasks
+    step counted =
+    let done = done_of nodes v task before middle after running state kept arrays tasks step in
     let c : ℕ → ℕ = cost nodes arounds in
     let e = ap (tasks_cost nodes c) tasks ∙ cost-append nodes c middle.tasks.items (task ∷ []) in
     let pays = done.pays arounds in

@@ -78,7 +78,8 @@ part_waits n c j k before after left is more = by (nat_lt j n) refl is
 -- a node costs as much as what is counted of it and its parts
 pub node_parts : (nodes : List Node) (arounds : List ℕ) (i around : ℕ) (node : Option Node)
     → around ≡ around_at arounds i → node ≡ slice_get nodes i
-    → cost nodes arounds i ≡ 1 + around + (first_cost i (cost nodes arounds) node + last_cost i (cost nodes arounds) node)
+    → cost nodes arounds i
+    ≡ 1 + around + (first_cost i (cost nodes arounds) node + last_cost i (cost nodes arounds) node)
 node_parts nodes arounds i around node annotated at =
     let law : cost nodes arounds i ≡ node_cost i (cost nodes arounds) around node =
     cost_law nodes arounds i

@@ -3,8 +3,8 @@
 use Rattle.std.specs.Prelude.{ℕ, List, ◌++◌, Option, Some, None, map, nat_lt, slice_get, unwrap_or}
 use Rattle.std.specs.Prelude.{if◌then◌else◌}
 use Rattle.smt_theory.specs.declared.op.Op.{Op}
-use Rattle.smt_values.specs.Element.{Element}
-use Rattle.smt_values.specs.KnownOperations.{known_step}
+use Rattle.smt_arrays.specs.Element.{Element}
+use Rattle.smt_arrays.specs.Known.{known_step}
 
 -- the values of variables, of which some may be open, by their places
 abbrev pub Frame : Type 0

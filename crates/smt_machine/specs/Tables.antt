@@ -4,6 +4,7 @@ use Rattle.std.specs.Prelude.{ℕ, ◌+◌, List, [], ◌++◌, Option, Some, No
 use Rattle.smt_values.specs.Element.{Naming}
 use Rattle.smt_values.specs.ElementNumbers.{numbered_in}
 use Rattle.smt_values.specs.Literals.{literal_element}
+use Rattle.smt_arrays.specs.Element.{Plain}
 use Rattle.smt_machine.specs.Costs.{cost}
 use Rattle.smt_machine.specs.Least.{least}
 use Rattle.smt_machine.specs.Nodes as machine
@@ -27,8 +28,9 @@ unnamed name = None
 -- A node of a table whose nodes stand behind n others, where this is known of elements. A defined name's body is a
 -- node of the same table, a declared name's is one from the start.
 abbrev pub resolved : Naming → ℕ → (bodies declared : List ℕ) → Node → machine.Node
-resolved elements n bodies declared (Literal kind digits) = machine.Known (literal_element kind digits)
-resolved elements n bodies declared (Element name) = machine.Known (elements name)
+resolved elements n bodies declared (Literal kind digits) =
+    machine.Known (option_map Plain (literal_element kind digits))
+resolved elements n bodies declared (Element name) = machine.Known (option_map Plain (elements name))
 resolved elements n bodies declared (Slot place) = machine.Slot place
 resolved elements n bodies declared (Apply op args) = machine.Apply op (shifted n args)
 resolved elements n bodies declared (Declared place args) = call (slice_get declared place) (shifted n args)

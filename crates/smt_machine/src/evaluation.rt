@@ -8,7 +8,10 @@ ghost use Rattle.smt_theory.specs.declared.op.Op.{Op};
 ghost use Rattle.smt_theory.specs.declared.op.Op.TheVariants.{Core};
 ghost use Rattle.smt_nodes.specs.NodeView.{node_view};
 ghost use Rattle.smt_nodes.specs.PartsView.{parts_view};
-ghost use Rattle.smt_values.specs.Element.{known_element, known_elements};
+ghost use Rattle.smt_arrays.specs.Cells.{arrays_of};
+ghost use Rattle.smt_arrays.specs.Element.{known_plain};
+ghost use Rattle.smt_arrays.specs.Tables.{Grows, all_known_in, known_in};
+ghost use Rattle.smt_arrays.specs.declared.arrays.Cell.{Cell};
 ghost use Rattle.smt_values.specs.KnownOperations.{known_truth};
 ghost use Rattle.smt_machine.specs.Costs.{cost};
 ghost use Rattle.smt_machine.specs.Given.{given};
@@ -17,7 +20,7 @@ ghost use Rattle.smt_machine.specs.Internal.States.{frame_of, state_of};
 ghost use Rattle.smt_machine.specs.Internal.Parts.{found, found_node, found_parts, meaning, number_of};
 ghost use Rattle.smt_machine.specs.Internal.Parts.{numbers_of};
 ghost use Rattle.smt_machine.specs.Internal.Tasks.{IsBased, IsBefore, IsChoice, IsStep, branches_of, charge};
-ghost use Rattle.smt_machine.specs.Memory.{Remembers};
+ghost use Rattle.smt_machine.specs.Memory.{Holds, Remembers, arrays_in};
 ghost use Rattle.smt_machine.specs.Nodes.{Apply, Call, Node as MachineNode};
 ghost use Rattle.smt_machine.specs.Tables.{arounds_of, call, model_count, nodes_of, term_cost, term_least};
 ghost use Rattle.smt_machine.specs.declared.task.Task.TheVariants.{Choose, Finish, Visit};
@@ -32,7 +35,8 @@ use smt_theory::Op;
 use smt_values::{Value, literal_of};
 
 impl Machine {
-    /// What is known of the value of a closed term of the script; `None` where the value is open.
+    /// What is known of the value of a closed term of the script; `None` where the value is open. A value that is an
+    /// array is one of the machine's; those that it had stay.
     ///
     /// The machine is new, or has evaluated terms over these tables alone. The call subtracts one from `left`
     /// for each node that it evaluates, and for each annotation round it; `left` is no less than the cost of
@@ -46,8 +50,10 @@ impl Machine {
         requires remembers { Remembers self.old (nodes_of tables) }
         requires enough { term_cost tables term ≤ left.old }
         ensures serves { IfOk result (λ _. Remembers self.new (nodes_of tables.entry)) }
-        ensures value { IfOk result (λ v. known_element v
+        ensures value { IfOk result (λ v. known_in (arrays_in self.new) v
             ≡ given (nodes_of tables.entry) (model_count tables.entry + term) []) }
+        ensures held { IfOk result (λ v. Holds self.new v) }
+        ensures grown { OnOk result (Grows (arrays_in self.old) (arrays_in self.new)) }
         ensures fewer { OnOk result (left.new < left.old) }
         ensures counted { OnOk result (left.new + term_least tables.entry term ≤ left.old) }
         ensures paid { OnOk result (left.old ≤ left.new + term_cost tables.entry term) }
@@ -60,8 +66,9 @@ impl Machine {
     }
 
     /// What is known of the value of a node over a frame, the values of variables by their places, of which some may
-    /// be open; `None` where the value is open. The node is named by its number in both tables, the model's nodes
-    /// first. Otherwise it is as `eval`: `left` is no less than the cost of the node.
+    /// be open, as is an array that the machine does not have; `None` where the value is open. The node is named by
+    /// its number in both tables, the model's nodes first. Otherwise it is as `eval`: `left` is no less than the cost
+    /// of the node.
     pub fn eval_in(
         &mut self,
         tables: Tables<'_>,
@@ -72,8 +79,10 @@ impl Machine {
         requires remembers { Remembers self.old (nodes_of tables) }
         requires enough { cost (nodes_of tables) (arounds_of tables) node ≤ left.old }
         ensures serves { IfOk result (λ _. Remembers self.new (nodes_of tables.entry)) }
-        ensures value { IfOk result (λ v. known_element v
-            ≡ given (nodes_of tables.entry) node (known_elements frame.now)) }
+        ensures value { IfOk result (λ v. known_in (arrays_in self.new) v
+            ≡ given (nodes_of tables.entry) node (all_known_in (arrays_in self.old) frame.now)) }
+        ensures held { IfOk result (λ v. Holds self.new v) }
+        ensures grown { OnOk result (Grows (arrays_in self.old) (arrays_in self.new)) }
         ensures fewer { OnOk result (left.new < left.old) }
         ensures counted { OnOk result
             (left.new + least (nodes_of tables.entry) (arounds_of tables.entry) node ≤ left.old) }
@@ -95,7 +104,9 @@ impl Machine {
         requires remembers { Remembers self.old (nodes_of tables.now) }
         requires enough { cost (nodes_of tables.now) (arounds_of tables.now) root ≤ left.old }
         ensures serves { IfOk result (λ _. Remembers self.new (nodes_of tables.now)) }
-        ensures value { IfOk result (λ v. known_element v ≡ given (nodes_of tables.now) root []) }
+        ensures value { IfOk result (λ v. known_in (arrays_in self.new) v ≡ given (nodes_of tables.now) root []) }
+        ensures held { IfOk result (λ v. Holds self.new v) }
+        ensures grown { OnOk result (Grows (arrays_in self.old) (arrays_in self.new)) }
         ensures fewer { OnOk result (left.new < left.old) }
         ensures counted { OnOk result
             (left.new + least (nodes_of tables.now) (arounds_of tables.now) root ≤ left.old) }
@@ -117,8 +128,10 @@ impl Machine {
         requires remembers { Remembers self.old (nodes_of tables.now) }
         requires enough { cost (nodes_of tables.now) (arounds_of tables.now) root ≤ left.old }
         ensures serves { IfOk result (λ _. Remembers self.new (nodes_of tables.now)) }
-        ensures value { IfOk result (λ v. known_element v
+        ensures value { IfOk result (λ v. known_in (arrays_in self.new) v
             ≡ given (nodes_of tables.now) root (frame_of (state_of self.old))) }
+        ensures held { IfOk result (λ v. Holds self.new v) }
+        ensures grown { OnOk result (Grows (arrays_in self.old) (arrays_in self.new)) }
         ensures fewer { OnOk result (left.new < left.old) }
         ensures counted { OnOk result
             (left.new + least (nodes_of tables.now) (arounds_of tables.now) root ≤ left.old) }
@@ -476,7 +489,8 @@ fn branches(args: Parts<'_>) -> Option<(Part, Part)>
 // The truth value that a value is.
 #[inline(always)]
 fn truth(value: &Option<Value>) -> Option<bool>
-    ensures { result ≡ known_truth (known_element value.now) }
+    ensures { (cells : List Cell)
+        → result ≡ known_truth (known_plain (known_in (arrays_of cells) value.now)) }
 {
     match value {
         Some(value) => value.truth(),

@@ -1,8 +1,7 @@
 //! The values that were found for closed nodes, by the numbers of the nodes. This file knows no node.
 
 ghost use Rattle.std.specs.Prelude.{◌≡◌, ℕ, ◌<◌, ◌==◌, ◌∷◌, ◌++◌, [], None, Some, IfOk, OnErr, OnOk, length};
-ghost use Rattle.std.specs.Prelude.{if◌then◌else◌, option_map, vec_capacity};
-ghost use Rattle.smt_values.specs.Element.{known_element};
+ghost use Rattle.std.specs.Prelude.{if◌then◌else◌, vec_capacity};
 ghost use Rattle.smt_machine.specs.Internal.KeptView.{found_at, kept_at};
 
 use smt_faults::Memory;
@@ -59,7 +58,7 @@ impl Kept {
     #[tactic(auto, unfolding(crate::specs::Internal::KeptView::kept_at))]
     #[inline(always)]
     pub(crate) fn get(&self, number: usize) -> Option<Option<Value>>
-        ensures { option_map known_element result ≡ kept_at self.now number }
+        ensures { result ≡ kept_at self.now number }
     {
         match self.places.get(number) {
             Some(place) => self.get_at(*place, number),
@@ -70,7 +69,7 @@ impl Kept {
     // The value at a place, if it was found for this number.
     #[inline(always)]
     fn get_at(&self, place: usize, number: usize) -> Option<Option<Value>>
-        ensures { option_map known_element result ≡ found_at self.now.found.items place number }
+        ensures { result ≡ found_at self.now.found.items place number }
     {
         match self.found.get(place) {
             Some(found) if found.number == number => Some(found.value),
@@ -80,8 +79,9 @@ impl Kept {
 
     /// Keeps a value for a number.
     pub(crate) fn insert(&mut self, number: usize, value: Option<Value>) -> Result<(), Memory>
-        ensures { IfOk result (λ _. (other : ℕ) → kept_at self.new other
-            ≡ (if other == number then Some (known_element value) else kept_at self.old other)) }
+        ensures kept { IfOk result (λ _. (other : ℕ) → kept_at self.new other
+            ≡ (if other == number then Some value else kept_at self.old other)) }
+        ensures unchanged { OnErr result ((other : ℕ) → kept_at self.new other ≡ kept_at self.old other) }
     {
         self.make_room(number)?;
         let place = self.found.len();
@@ -94,7 +94,7 @@ impl Kept {
     #[tactic(auto, unfolding(crate::specs::Internal::KeptView::kept_at))]
     fn make_room(&mut self, number: usize) -> Result<(), Memory>
         ensures room { IfOk result (λ _. number < length self.new.places.items) }
-        ensures kept { IfOk result (λ _. (other : ℕ) → kept_at self.new other ≡ kept_at self.old other) }
+        ensures kept { (other : ℕ) → kept_at self.new other ≡ kept_at self.old other }
         ensures found { self.new.found ≡ self.old.found }
     {
         let Some(len) = number.checked_add(1) else {

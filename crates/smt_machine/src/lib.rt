@@ -8,7 +8,9 @@
 //!
 //! **The contract for the layer above**: `Machine::eval` gives `given` of `specs/Given.antt` over the nodes
 //! of both tables, `nodes_of` of `specs/Tables.antt`, whatever these hold. By `nodes_have_their_values` of
-//! [`laws`] that is what each form of node makes of its parts, `node_value` of `specs/Nodes.antt`.
+//! [`laws`] that is what each form of node makes of its parts, `node_value` of `specs/Nodes.antt`. A value that is an
+//! array is one of the machine's (`smt_arrays`), at its place among `arrays_in` of `specs/Memory.antt`: an evaluation
+//! adds arrays, and those that are there stay until the machine forgets.
 //!
 //! The cost of a term is known before its evaluation. `costs` counts for every node how many nodes are
 //! evaluated for it at most, each annotation as one more, and `Machine::eval` subtracts that much from

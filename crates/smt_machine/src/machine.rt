@@ -1,30 +1,24 @@
 //! A machine's stacks, and how values move between them. This file fetches no node.
 
-ghost use Rattle.std.specs.Prelude.{◌≡◌, ◌∷◌, [], ◌++◌, IfOk, List, MatchOption, None, Some, length, option_map};
-ghost use Rattle.smt_values.specs.Element.{known_element, known_elements};
-ghost use Rattle.smt_values.specs.KnownOperations.{known_step};
-ghost use Rattle.smt_machine.specs.Internal.States.{first_of, frame_of, last_of, state_of, with_frames};
-ghost use Rattle.smt_machine.specs.Internal.States.{with_base, with_last, with_moved, with_value};
-ghost use Rattle.smt_machine.specs.Internal.States.{without_last};
-ghost use Rattle.smt_machine.specs.Internal.Parts.{number_of, numbers_of};
-ghost use Rattle.smt_machine.specs.Internal.KeptView.{kept_at};
-ghost use Rattle.smt_machine.specs.Internal.Tasks.{IsAt, IsBegun, IsKeeping, IsPlanned, part_task, visits};
-ghost use Rattle.smt_machine.specs.Memory.{HasNoMemory, Remembers};
-ghost use Rattle.smt_machine.specs.Nodes.{Node, at_place};
-ghost use Rattle.smt_machine.specs.declared.task.Task.TheVariants.{Keep, Return, Unbind, Visit};
+ghost use Rattle.std.proofs.Props.{props};
+ghost use Rattle.std.specs.Prelude.{length};
+ghost use Rattle.smt_arrays.specs.Cells.{arrays_of};
+ghost use Rattle.smt_arrays.specs.Tables.{AreHeld};
+ghost use Rattle.smt_machine.specs.Internal.Held.{AreKeptHeld, held-prop};
 
 use crate::items::{items_from, lesser};
 use crate::kept::{FEW, Kept};
 use crate::parts::{Part, Parts};
 use crate::task::{Task, task_of};
+use smt_arrays::Arrays;
 use smt_faults::Memory;
 use smt_theory::Op;
-use smt_values::{Value, apply_in_place};
+use smt_values::Value;
 use std::alloc::Global;
 
-/// Stacks for the evaluation of nodes, bounded by memory alone, and the values that were found for closed
-/// nodes. One machine serves many evaluations over the same tables, and keeps its memory from one to the
-/// next.
+/// Stacks for the evaluation of nodes, bounded by memory alone, the arrays that were made, and the values that were
+/// found for closed nodes. One machine serves many evaluations over the same tables, and keeps its memory from one to
+/// the next. A value that is an array means the one at its place among the machine's arrays.
 #[derive(Drop)]
 pub struct Machine {
     alloc: Global,
@@ -33,13 +27,33 @@ pub struct Machine {
     base: usize,
     tasks: Vec<Task>,
     kept: Kept,
+    arrays: Arrays,
+    ghost values_held: { AreHeld (length (arrays_of arrays)) values.items } by { Prim.hlevel (props, held-prop) },
+    ghost frames_held: { AreHeld (length (arrays_of arrays)) frames.items } by { Prim.hlevel (props, held-prop) },
+    ghost kept_held: { AreKeptHeld (length (arrays_of arrays)) kept } by { Prim.hlevel (props, held-prop) },
 }
 
 impl Machine {
+    ghost use Rattle.std.specs.Prelude.{◌≡◌, ◌∷◌, [], ◌++◌, IfOk, IfSome, List, MatchOption, None, Some};
+    ghost use Rattle.smt_arrays.specs.Element.{known_plain};
+    ghost use Rattle.smt_arrays.specs.Known.{known_step};
+    ghost use Rattle.smt_arrays.specs.Tables.{all_known_in, known_in};
+    ghost use Rattle.smt_values.specs.Element.{known_element};
+    ghost use Rattle.smt_machine.specs.Internal.States.{first_of, frame_of, last_of, state_of, with_frames};
+    ghost use Rattle.smt_machine.specs.Internal.States.{with_base, with_last, with_moved, with_value};
+    ghost use Rattle.smt_machine.specs.Internal.States.{without_last};
+    ghost use Rattle.smt_machine.specs.Internal.Parts.{number_of, numbers_of};
+    ghost use Rattle.smt_machine.specs.Internal.KeptView.{kept_at};
+    ghost use Rattle.smt_machine.specs.Internal.Tasks.{IsAt, IsBegun, IsKeeping, IsPlanned, part_task, visits};
+    ghost use Rattle.smt_machine.specs.Memory.{HasNoMemory, Holds, Remembers, arrays_in};
+    ghost use Rattle.smt_machine.specs.Nodes.{Node, at_place};
+    ghost use Rattle.smt_machine.specs.declared.task.Task.TheVariants.{Keep, Return, Unbind, Visit};
+
     /// A machine that has no memory yet, and may serve any tables.
     pub fn new(alloc: Global) -> Machine
         ensures memory { HasNoMemory result }
         ensures serves { (nodes : List Node) → Remembers result nodes }
+        ensures arrays { arrays_in result ≡ [] }
     {
         Machine {
             alloc,
@@ -48,14 +62,20 @@ impl Machine {
             base: 0,
             tasks: Vec::new(alloc),
             kept: Kept::new(alloc),
+            arrays: Arrays::new(alloc),
         }
     }
 
-    /// Makes the machine serve any tables again, as a new one does. It keeps memory that is not large.
+    /// Makes the machine serve any tables again, as a new one does: it has no arrays, and keeps memory that is not
+    /// large.
     pub fn forget(&mut self)
-        ensures { (nodes : List Node) → Remembers self.new nodes }
+        ensures serves { (nodes : List Node) → Remembers self.new nodes }
+        ensures arrays { arrays_in self.new ≡ [] }
     {
         self.kept.forget();
+        self.values.clear();
+        self.frames.clear();
+        self.arrays = Arrays::new(self.alloc);
         if self.values.capacity() > FEW {
             self.values = Vec::new(self.alloc);
         }
@@ -79,13 +99,44 @@ impl Machine {
         Ok(())
     }
 
-    /// Empties the stacks but for the values of a frame's variables, and plans one task.
+    /// Empties the stacks but for the values of a frame's variables, and plans one task. A value that is an array which
+    /// the machine does not have is open.
     pub(crate) fn begin_in(&mut self, frame: &[Option<Value>], task: Task) -> Result<(), Memory>
-        ensures { IfOk result (λ _. IsBegun task (known_elements frame.now) self.old self.new) }
+        ensures { IfOk result (λ _.
+            IsBegun task (all_known_in (arrays_in self.old) frame.now) self.old self.new) }
     {
         self.begin(task)?;
-        self.frames.extend_from_slice(frame)?;
+        let mut left = frame;
+        while let Some((value, rest)) = left.split_first() {
+            let value = self.held(*value);
+            self.frames.push(value)?;
+            left = rest;
+        }
         Ok(())
+    }
+
+    // The value; open where it is an array that the machine does not have.
+    fn held(&self, value: Option<Value>) -> Option<Value>
+        ensures known { known_in (arrays_in self.now) result ≡ known_in (arrays_in self.now) value }
+        ensures held { Holds self.now result }
+    {
+        match value {
+            Some(value) => {
+                if self.arrays.holds(&value) {
+                    Some(value)
+                } else {
+                    None
+                }
+            }
+            None => None,
+        }
+    }
+
+    /// The value, where it is no array; an array is open.
+    pub fn plain(&self, value: Option<Value>) -> Option<Value>
+        ensures { known_element result ≡ known_plain (known_in (arrays_in self.now) value) }
+    {
+        self.arrays.plain(value)
     }
 
     /// Takes the last task off the stack.
@@ -93,6 +144,7 @@ impl Machine {
     pub(crate) fn take_task(&mut self) -> Option<Task>
         ensures state { state_of self.new ≡ state_of self.old }
         ensures kept { self.new.kept ≡ self.old.kept }
+        ensures arrays { self.new.arrays ≡ self.old.arrays }
         ensures tasks { MatchOption result ((self.old.tasks.items ≡ []) × (self.new.tasks.items ≡ []))
             (λ task. self.old.tasks.items ≡ self.new.tasks.items ++ task ∷ []) }
     {
@@ -102,8 +154,9 @@ impl Machine {
     /// Adds a value.
     #[inline(always)]
     pub(crate) fn leave(&mut self, value: Option<Value>) -> Result<(), Memory>
+        requires { Holds self.old value }
         ensures { IfOk result (λ _.
-            IsAt (with_value (known_element value) (state_of self.old)) self.old self.new) }
+            IsAt (with_value (known_in (arrays_in self.old) value) (state_of self.old)) self.old self.new) }
     {
         self.values.push(value)?;
         Ok(())
@@ -112,7 +165,8 @@ impl Machine {
     /// The value at a place of the frame.
     #[inline(always)]
     pub(crate) fn value_at(&self, place: usize) -> Option<Value>
-        ensures { known_element result ≡ at_place (frame_of (state_of self.now)) place }
+        ensures known { known_in (arrays_in self.now) result ≡ at_place (frame_of (state_of self.now)) place }
+        ensures held { Holds self.now result }
     {
         let frames = self.frames.as_slice();
         if place < frames.len().saturating_sub(self.base) {
@@ -125,8 +179,10 @@ impl Machine {
     /// Takes the last value off the stack.
     #[inline(always)]
     pub(crate) fn take_last(&mut self) -> Option<Value>
-        ensures value { known_element result ≡ first_of (last_of 1 (state_of self.old).values) }
+        ensures value { known_in (arrays_in self.old) result ≡ first_of (last_of 1 (state_of self.old).values) }
+        ensures held { Holds self.old result }
         ensures rest { IsAt (without_last 1 (state_of self.old)) self.old self.new }
+        ensures arrays { self.new.arrays ≡ self.old.arrays }
     {
         match self.values.pop() {
             Some(value) => value,
@@ -141,9 +197,9 @@ impl Machine {
             IsAt (with_last count (known_step op (last_of count before.values)) before) self.old self.new) }
     {
         let start = self.values.len().saturating_sub(count);
-        let value = apply_in_place(op, &mut self.values[start..]);
+        let value = self.arrays.operate(op, &mut self.values[start..]);
         self.values.truncate(start);
-        self.values.push(value)?;
+        self.values.push(value?)?;
         Ok(())
     }
 
@@ -178,7 +234,8 @@ impl Machine {
     /// The value that is kept for a closed node.
     #[inline(always)]
     pub(crate) fn kept(&self, number: usize) -> Option<Option<Value>>
-        ensures { option_map known_element result ≡ kept_at self.now.kept number }
+        ensures kept { result ≡ kept_at self.now.kept number }
+        ensures held { IfSome result (λ value. Holds self.now value) }
     {
         self.kept.get(number)
     }
@@ -194,7 +251,8 @@ impl Machine {
 
     #[inline(always)]
     fn last_value(&self) -> Option<Value>
-        ensures { known_element result ≡ first_of (last_of 1 (state_of self.now).values) }
+        ensures value { result ≡ first_of (last_of 1 self.now.values.items) }
+        ensures held { Holds self.now result }
     {
         match self.values.as_slice().last() {
             Some(value) => *value,

@@ -9,6 +9,7 @@ ghost use Rattle.smt_nodes.specs.PartsView.{parts_view};
 ghost use Rattle.smt_machine.specs.Internal.Parts.{elements_at, found, found_around, found_node, found_parts};
 ghost use Rattle.smt_machine.specs.Internal.Parts.{meaning, number_of, numbers_of};
 ghost use Rattle.smt_values.specs.Element.{known_element};
+ghost use Rattle.smt_machine.specs.Internal.Held.{IsNoArray};
 ghost use Rattle.smt_machine.specs.Tables.{arounds_of, model_count, nodes_of, shifted};
 
 use crate::items::item_at;
@@ -176,8 +177,9 @@ impl<'a> Place<'a> {
     /// What is known of the element that the node is.
     #[inline(always)]
     pub(crate) fn element(&self) -> Option<Value>
-        ensures { (name : List ℕ) → found_node self.now ≡ Some (Element name)
+        ensures known { (name : List ℕ) → found_node self.now ≡ Some (Element name)
             → known_element result ≡ elements_at self.now name }
+        ensures plain { IsNoArray result }
     {
         if !self.named {
             return None;

@@ -82,7 +82,7 @@ fn value(alloc: Global) -> Result<(u64, Option<Value>, u64), Memory> {
     machine.eval(tables, term, &mut left)?;
     left = cost;
     let value = machine.eval(tables, term, &mut left)?;
-    Ok((cost, value, left))
+    Ok((cost, machine.plain(value), left))
 }
 
 fn is_integer(value: Option<Value>, integer: i128) -> bool {

@@ -1,21 +1,25 @@
-//! Operators that hold a number, as a table stores them: in a list of their own. This file knows no node.
+//! Operators that hold a number or a sort, as a table stores them: in a list of their own. This file knows no node.
 
 ghost use Rattle.std.specs.Prelude.{◌≡◌};
 
 use smt_theory::Op;
 use std::marker::Model;
 
-/// An operator with its numbers. Contracts see it as the operator. An `Op` itself can't be an item of a list
-/// that grows: the toolchain then makes no proof.
+/// An operator with its numbers, or its sort. Contracts see it as the operator. An `Op` itself can't be an item of a
+/// list that grows: the toolchain then makes no proof.
 #[derive(Clone, Copy)]
 pub(crate) struct NumberedOp {
     op: Op,
 }
 
 impl Model for NumberedOp {
+    ghost use Rattle.std.specs.Coded.{codes};
+    ghost use Rattle.smt_theory.specs.Internal.SortTokens.{sort_code};
     ghost use Rattle.smt_theory.specs.declared.op.Op.{Op};
 
     ghost Value = { Op };
+
+    ghost coded = { Prim.hlevel (codes, sort_code) };
 
     ghost view = { λ numbered. numbered.op };
 

@@ -1,12 +1,14 @@
 -- The texts of values, sorts and names, as SMT-LIB 2.6 writes them (section 3.1; theories Core, Reals_Ints and
 -- FixedSizeBitVectors).
 use Rattle.std.specs.Prelude.{ℕ, zero, suc, ℤ, pos, negsuc, List, [], ◌∷◌, ◌++◌, ◌*◌, ◌/◌, ◌%◌, ◌^◌, ◌==◌, ◌≡◌, ◌⊎◌}
-use Rattle.std.specs.Prelude.{Bool, codes, false, true, if◌then◌else◌, option_and_then, slice_get, unwrap_or}
+use Rattle.std.specs.Prelude.{Bool, Option, Some, None, codes, false, true, if◌then◌else◌, option_and_then, slice_get}
+use Rattle.std.specs.Prelude.{unwrap_or}
 use Rattle.std.specs.Fmt.{decimal, digit_glyph}
 use Rattle.smt_bits.specs.BitVector.{BitVector}
 use Rattle.smt_theory.specs.Sort.{Sort}
-use Rattle.smt_theory.specs.Sort.{Boolean, Int, Real, Bits, Free}
+use Rattle.smt_theory.specs.Sort.{Boolean, Int, Real, Bits, Free, Array}
 use Rattle.smt_values.specs.Element.{Element, Truth, Integer, Fraction, Vector, Abstract}
+use Rattle.smt_values.specs.ElementNumbers.{array_place, declared_number}
 
 -- an integer: of a negative one the minus sign is applied to its absolute value
 abbrev pub text_of_integer : ℤ → List ℕ
@@ -48,21 +50,28 @@ IsSymbol name text = (text ≡ name) ⊎ (text ≡ 124 ∷ (name ++ 124 ∷ []))
 
 -- the name that stands for a number among these, where the list of the number alone stands for the name
 abbrev pub element_named : List (List ℕ) → List ℕ → List ℕ
-element_named names number = unwrap_or (option_and_then (slice_get names) (slice_get number 0)) []
+element_named names number = unwrap_or (option_and_then (slice_get names) (declared_number number)) []
 
--- a value, of the sort `Real` or of another; an element of a declared sort is known by its number among these names
+-- of a number that is an array's, or of an element's
+abbrev pub IsTextOfNumber : List (List ℕ) → List ℕ → Option ℕ → List ℕ → Type 0
+IsTextOfNumber names number (Some place) text = text ≡ codes "an array"
+IsTextOfNumber names number None text = IsSymbol (element_named names number) text
+
+-- a value, of the sort `Real` or of another; an element of a declared sort is known by its number among these names,
+-- and of an array only that it is one
 abbrev pub IsTextOf : List (List ℕ) → (is_real : Bool) → Element → List ℕ → Type 0
 IsTextOf names is_real (Truth true) text = text ≡ codes "true"
 IsTextOf names is_real (Truth false) text = text ≡ codes "false"
 IsTextOf names is_real (Integer z) text = text ≡ (if is_real then text_of_real z else text_of_integer z)
 IsTextOf names is_real (Fraction n d) text = text ≡ text_of_fraction n d
 IsTextOf names is_real (Vector v) text = text ≡ text_of_bits v
-IsTextOf names is_real (Abstract number) text = IsSymbol (element_named names number) text
+IsTextOf names is_real (Abstract number) text = IsTextOfNumber names number (array_place number) text
 
--- a sort, and the name of a declared one
+-- a sort, and the name of a declared one; of a sort of arrays its own name
 abbrev pub IsTextOfSort : Sort → (name : List ℕ) → List ℕ → Type 0
 IsTextOfSort Boolean name text = text ≡ codes "Bool"
 IsTextOfSort Int name text = text ≡ codes "Int"
 IsTextOfSort Real name text = text ≡ codes "Real"
 IsTextOfSort (Bits width) name text = text ≡ codes "(_ BitVec " ++ (decimal width ++ codes ")")
 IsTextOfSort (Free command) name text = IsSymbol name text
+IsTextOfSort (Array index element) name text = text ≡ codes "Array"

@@ -3,7 +3,9 @@
 
 ghost use Rattle.std.proofs.Props.{props};
 ghost use Rattle.std.specs.Prelude.{◌≡◌, None, Some};
-ghost use Rattle.smt_values.specs.Element.{known_element, known_elements};
+ghost use Rattle.smt_arrays.specs.Element.{element_set};
+ghost use Rattle.smt_arrays.specs.Tables.{all_known_in, known_in};
+ghost use Rattle.smt_machine.specs.Memory.{arrays_in};
 ghost use Rattle.smt_machine.specs.Given.{given};
 ghost use Rattle.smt_eval.specs.Interpretation.{Serves};
 ghost use Rattle.smt_eval.specs.Parts.{nodes_in};
@@ -36,7 +38,7 @@ pub(crate) struct Evaluator<'l> {
     machine: Machine,
     steps: u64,
     stop: Option<Stop>,
-    ghost serves: { Serves machine parts.interpretation.now parts.library.now } by { Prim.hlevel props },
+    ghost serves: { Serves machine parts.interpretation.now parts.library.now } by { Prim.hlevel (props, element_set) },
 }
 
 /// The variables of all scopes, and the values of one scope.
@@ -102,8 +104,8 @@ impl Evaluator<'_> {
 
     /// The value of a node over a frame; `None` where it is open. It uses up the steps that the node costs.
     pub(crate) fn value_in(&mut self, frame: &[Option<Value>], node: usize) -> Option<Value>
-        ensures value { self.new.stop ≡ None → known_element result
-            ≡ given (nodes_in self.old.parts) node (known_elements frame.now) }
+        ensures value { self.new.stop ≡ None → known_in (arrays_in self.new.machine) result
+            ≡ given (nodes_in self.old.parts) node (all_known_in (arrays_in self.old.machine) frame.now) }
         ensures parts { self.new.parts ≡ self.old.parts }
     {
         let mut left = self.parts.cost(node);

@@ -21,7 +21,8 @@ use std::alloc::Global;
 const MOST: usize = 4096;
 
 /// The text of a value over these nodes; a bit vector in hexadecimal where its width allows, an integer with `.0` where
-/// it is a real's. Of an element it is the name that its number has among those of the model's elements.
+/// it is a real's. Of an element it is the name that its number has among those of the model's elements, of an array
+/// that it is one.
 pub(crate) fn value_text(
     alloc: Global,
     parts: Parts<'_>,
@@ -38,6 +39,9 @@ pub(crate) fn value_text(
         Value::Int(number) if is_real => real_text(alloc, number.get()),
         Value::Int(number) => integer_text(alloc, number.get()),
         Value::Ratio(ratio) => fraction_text(alloc, *ratio),
+        Value::Abstract(number) if number.array_place().is_some() => {
+            Ok(Vec::from_slice(alloc, b"an array")?)
+        }
         Value::Abstract(number) => symbol_text(alloc, element_name(parts, *number)),
     }
 }
@@ -55,7 +59,7 @@ fn element_name(parts: Parts<'_>, number: ElementNumber) -> &[u8]
     }
 }
 
-/// The text of a sort; `name` is that of a declared one.
+/// The text of a sort; `name` is that of a declared one. Of a sort of arrays it is the name `Array` alone.
 pub fn sort_text(alloc: Global, sort: Sort, name: &[u8]) -> Result<Vec<u8>, Memory>
     ensures { IfOk result (λ text. IsTextOfSort sort name.now text.items) }
 {
@@ -64,6 +68,7 @@ pub fn sort_text(alloc: Global, sort: Sort, name: &[u8]) -> Result<Vec<u8>, Memo
         SortKind::Int => Ok(Vec::from_slice(alloc, b"Int")?),
         SortKind::Real => Ok(Vec::from_slice(alloc, b"Real")?),
         SortKind::Free(_) => symbol_text(alloc, name),
+        SortKind::Array(_, _) => Ok(Vec::from_slice(alloc, b"Array")?),
         SortKind::Bits(width) => {
             let text = format!(in alloc; "(_ BitVec {})", width.bits())?;
             Ok(Vec::from_slice(alloc, text.as_bytes())?)

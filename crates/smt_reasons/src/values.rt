@@ -17,6 +17,10 @@ const TOO_LARGE: &str = "an integer below -2^127 or over 2^127 - 1";
 /// Why a real is open.
 const NO_ROOM: &str = "a fraction too large, or a step to it below -2^127 or over 2^127 - 1";
 
+/// Why it is open whether arrays are the same.
+const ARRAYS: &str =
+    "too much is written in the arrays, or the sort of their indexes may have no others";
+
 /// What is said of a condition.
 const CONDITION: &str = "it decides which branch of an ite is taken";
 
@@ -81,7 +85,16 @@ fn reason(walk: &mut Walk<'_, '_>, part: Part<'_>) -> Option<&'static str> {
     }
     match why(op, values.as_slice()) {
         Reason::Open(OpenReason::DivisionByZero) => Some("a division by zero"),
+        _ if values.iter().any(is_array) => Some(ARRAYS),
         _ => Some(too_large),
+    }
+}
+
+// Whether a value is an array.
+fn is_array(value: &Option<Value>) -> bool {
+    match value {
+        Some(Value::Abstract(number)) => number.array_place().is_some(),
+        _ => false,
     }
 }
 

@@ -6,6 +6,7 @@ use Rattle.smt_trees.specs.Sexp.{Atom, Cons, Items, Nil, Sexp, Sexps, Symbol}
 use Rattle.smt_trees.specs.View.{sexps_of}
 use Rattle.smt_trees.specs.declared.view.Trees.{Trees}
 use Rattle.smt_forms.specs.Identifier.{Identifier, Plain, applied}
+use Rattle.smt_terms.proofs.CheckerLemmas.{in_profile}
 use Rattle.smt_forms.specs.Labels.{labels_in, labels_in_all}
 use Rattle.smt_forms.specs.ScopeOf.{scope_of}
 use Rattle.smt_faults.specs.Outcome.{IsOutcome, Tells}
@@ -216,7 +217,8 @@ call_done library whole a left b outer mid new arguments c called none sort used
           (subst (λ t. Stands library d last a.around t c) (sym app.is)
           (stands_with library d new a.around arguments (Items parts) c
           (call_stands library d mid new a.around app.head args parts app.identifier (sorts_from start mid.arguments)
-          (terms_from start mid.arguments) b c refl app.plain app.named used so.stand.longer
+          (terms_from start mid.arguments) b c refl app.plain
+          (in_profile library.sorts.theories.wide app.head args app.identifier app.named) used so.stand.longer
           (subst (λ js. TermsStand library d mid args js b)
           (sym (terms_start d mid start (terms_since d mid) app.start so.waits.terms))
           (so_far-all AreDenoted library d mid args (sexps_of left) (terms_since d mid) b

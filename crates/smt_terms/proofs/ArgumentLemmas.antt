@@ -12,7 +12,7 @@ use Rattle.smt_terms.specs.Internal.DraftView.{argument_sorts, argument_terms, s
 use Rattle.smt_terms.specs.Internal.LabelsView.{labels_view}
 use Rattle.smt_terms.specs.Internal.LibraryView.{names_for, names_of_library}
 use Rattle.smt_terms.specs.declared.library.arguments.Arguments.{Arguments}
-use Rattle.smt_forms.specs.Identifier.{Identifier, applied}
+use Rattle.smt_forms.specs.Identifier.{Identifier, applied_in}
 use Rattle.smt_terms.specs.Internal.NodesView.{AddsApplied, Denoting, Stands}
 use Rattle.smt_terms.proofs.CheckerLemmas.{Scope}
 use Rattle.smt_terms.proofs.DraftLemmas.{sorts_kept}
@@ -84,7 +84,8 @@ terms_start old new start terms from is =
 
 -- the sort of a list whose arguments wait so is that of the call that it is
 pub called_from : (library : Library) (old new : Draft) (head : Sexp) (args parts : Sexps) (f : Identifier) (start : ℕ)
-    (sorts : List Sort) → parts ≡ Cons head args → IsPlainHead head → applied head args ≡ Ok f
+    (sorts : List Sort) → parts ≡ Cons head args → IsPlainHead head
+    → applied_in library.sorts.theories.wide head args ≡ Ok f
     → sorts_in (names_for library (labels_view old.labels)) (sorts_seen old) args ≡ Ok sorts
     → argument_sorts new.arguments ≡ argument_sorts old.arguments ++ sorts → start ≡ waiting old → SeesTheSame old new
     → sort_in (names_for library (labels_view old.labels)) (sorts_seen old) (Items parts)
@@ -141,7 +142,8 @@ pub applied_alone : (library : Library) (old new : Draft) (around : ℕ) (f : Id
     → AddsApplied library old new around f [] [] c
 applied_alone library old new around f start is c adds =
     subst (λ ss. AddsApplied library old new around f ss [] c) (no_sorts old start is)
-    (subst (λ js. AddsApplied library old new around f (sorts_from start old.arguments) js c) (no_terms old start is) adds)
+    (subst (λ js. AddsApplied library old new around f (sorts_from start old.arguments) js c)
+    (no_terms old start is) adds)
 
 -- ---- a draft with other arguments
 

@@ -2,11 +2,11 @@
 use Rattle.std.proofs.Common.{◌≡◌, ◌⊎◌, inl, inr, ℕ, List, Bool, true, false, ◌&&◌, Option, Some}
 use Rattle.std.proofs.Common.{None, Result, Ok, Err, subst, refl, sym, ap, ◌∙◌}
 use denote.Ref.{Bor}
-use Rattle.std.specs.Prelude.{IfErr, IfOk, IfSome, MatchOption, MatchResult, [], is_some, if◌then◌else◌}
+use Rattle.std.specs.Prelude.{IfErr, IfOk, IfSome, MatchOption, [], is_some, if◌then◌else◌}
 use Rattle.smt_faults.specs.declared.memory.Memory.{Memory}
 use Rattle.smt_trees.specs.Sexp.{Sexp, Sexps, Items, Nil, Cons}
 use Rattle.smt_theory.specs.Sort.{Sort}
-use Rattle.smt_forms.specs.Identifier.{Identifier, Plain, Indexed}
+use Rattle.smt_forms.specs.Identifier.{Identifier, Plain, Indexed, Qualified}
 use Rattle.smt_trees.specs.View.{sexp_of}
 use Rattle.smt_trees.specs.declared.view.Tree.{Tree}
 use Rattle.smt_theory.specs.declared.theories.Theories.{Theories}
@@ -77,6 +77,7 @@ pub symbol_of : (scope : List (List ℕ × Sort)) (f : Identifier) → names_var
     → (x : List ℕ) × (f ≡ Plain x)
 symbol_of scope (Plain x) h = (x, refl)
 symbol_of scope (Indexed x indexes) h = cc
+symbol_of scope (Qualified sort) h = cc
 
 -- what is told over the names of the script, or of the items, is told over both
 pub left_told : (script items : Library) (found : Option Blame) → IsTold script found
@@ -213,13 +214,12 @@ first_of_all names terms rest term result are told t ts sort same is other =
 
 -- ---- items that are there twice
 
-pub not_told : {U : Type 0} (o : Option (Result U TermFlaw)) (told : Option (Result (Option Entry) TermFlaw))
+pub not_told : {U : Type 0} (o : Option (Result U TermFault)) (told : Option (Result (Option Entry) TermFlaw))
     → MatchOption o (told ≡ None)
-    (λ r. MatchResult r (λ _. told ≡ Some (Ok None)) (λ flaw. told ≡ Some (Err flaw)))
+    (λ t. (r : Result (Option Entry) TermFlaw) × (told ≡ Some r) × IsOutcome (λ _. None) r t)
     → is_some o ≡ true → told ≡ None → ⊥
 not_told None told h some none = cc
-not_told (Some (Ok u)) told h some none = let clash = sym h ∙ none in cc
-not_told (Some (Err flaw)) told h some none = let clash = sym h ∙ none in cc
+not_told (Some t) told h some none = let clash = sym h.1 ∙ none in cc
 
 abbrev form_or : ItemForm → Result ItemForm TermFlaw → ItemForm
 form_or other (Ok form) = form

@@ -1,5 +1,5 @@
 -- Sorts of lists, one step at a time.
-use Rattle.std.proofs.Common.{◌≡◌, ℕ, true, false, List, [], ◌∷◌, ◌++◌, Option, Some, None, is_some}
+use Rattle.std.proofs.Common.{Bool, ◌≡◌, ℕ, true, false, List, [], ◌∷◌, ◌++◌, Option, Some, None, is_some}
 use Rattle.std.proofs.Common.{Result, Ok, Err, refl, sym, ap, ◌∙◌, append_assoc, append-nil, inl, inr}
 use Rattle.smt_trees.specs.Sexp.{Sexp, Sexps, Reserved, Items, Cons, Nil}
 use Rattle.smt_trees.specs.declared.reserved.Word.TheVariants.{As, Bang, Let, Underscore}
@@ -7,8 +7,11 @@ use Rattle.smt_theory.specs.Words.{look_up, result_and_then}
 use Rattle.smt_theory.specs.Sort.{Sort}
 use Rattle.smt_forms.specs.Heads.{begins_indexed}
 use Rattle.smt_terms.specs.Internal.SoFar.{IsPlainHead, sorts_behind}
-use Rattle.smt_terms.specs.Checking.{sort_in, sorts_in, sort_applied, sort_of_call, sort_unless_variable}
-use Rattle.smt_forms.specs.Identifier.{Identifier, Plain, Indexed, applied, indexed}
+use Rattle.smt_terms.specs.Checking.{sort_in, sorts_in, sort_applied, sort_of_call, sort_unless_variable, sort_of_rank}
+use Rattle.smt_forms.specs.Identifier.{Identifier, Plain, Indexed, Qualified, applied, applied_in, indexed}
+use Rattle.smt_forms.specs.Identifier.{of_profile}
+use Rattle.smt_theory.specs.Ranks.{rank_of}
+use Rattle.smt_terms.specs.Elements.{constant_op}
 use Rattle.smt_forms.specs.Heads.{begins_annotated, begins_let, begins_qualified}
 use Rattle.smt_terms.specs.Internal.Calls.{names_variable}
 use Rattle.smt_forms.specs.Labels.{labels_in}
@@ -82,7 +85,7 @@ as_head _ h = cc
 pub other_head : (names : Names) (scope : Scope) (head : Sexp) (args : Sexps)
     → begins_indexed head ≡ false → begins_let head ≡ false → begins_annotated head ≡ false
     → begins_qualified head ≡ false → sort_in names scope (Items (Cons head args))
-    ≡ result_and_then (applied head args)
+    ≡ result_and_then (applied_in names.theories.wide head args)
     (λ f. result_and_then (sorts_in names scope args) (λ ss. sort_of_call names scope f ss))
 other_head names scope (Reserved Underscore) args h i j k = cc
 other_head names scope (Reserved As) args h i j k = cc
@@ -100,6 +103,7 @@ call_of_variable names scope (Plain f) ss h = by (look_up scope f) h
     by None g = cc
     by (Some sort) g = refl
 call_of_variable names scope (Indexed f is) ss h = cc
+call_of_variable names scope (Qualified sort) ss h = cc
 
 -- and one of another identifier is an application
 pub call_of_name : (names : Names) (scope : Scope) (f : Identifier) (ss : List Sort)
@@ -111,10 +115,34 @@ call_of_name names scope (Plain f) ss h = by (look_up scope f) h
     by None g = refl
     by (Some sort) g = cc
 call_of_name names scope (Indexed f is) ss h = refl
+call_of_name names scope (Qualified sort) ss h = refl
+
+-- a fault of the sort of a constant array is that of its application
+pub constant_fault : (names : Names) (sort : Sexp) (args : List Sort) (e : TermFault)
+    → Tells (constant_op names.theories names.elements sort) e → Tells (sort_applied names (Qualified sort) args) e
+constant_fault names sort args e (inl m) = inl m
+constant_fault names sort args e (inr is) =
+    inr (ap (λ r. result_and_then r (λ op. sort_of_rank (rank_of op args))) is)
+
+-- what a list applies in a profile it applies
+pub in_profile : (wide : Bool) (head : Sexp) (args : Sexps) (f : Identifier) → applied_in wide head args ≡ Ok f
+    → applied head args ≡ Ok f
+in_profile wide head args f h = by (applied head args) h
+  where
+    of : (b : Bool) (sort : Sexp) (r : Result Identifier TermFlaw) → r ≡ Ok (Qualified sort)
+        → of_profile b (Qualified sort) ≡ Ok f → r ≡ Ok f
+    of true sort r is g = is ∙ g
+    of false sort r is g = cc
+
+    by : (r : Result Identifier TermFlaw) → result_and_then r (of_profile wide) ≡ Ok f → r ≡ Ok f
+    by (Ok (Plain x)) g = g
+    by (Ok (Indexed x is)) g = g
+    by (Ok (Qualified sort)) g = of wide sort (Ok (Qualified sort)) refl g
+    by (Err flaw) g = cc
 
 -- the sort of a list of parts, where its identifier and the sorts of its arguments are known
 pub applied_ok : (names : Names) (scope : Scope) (head : Sexp) (args parts : Sexps) (f : Identifier)
-    (ss : List Sort) → parts ≡ Cons head args → IsPlainHead head → applied head args ≡ Ok f
+    (ss : List Sort) → parts ≡ Cons head args → IsPlainHead head → applied_in names.theories.wide head args ≡ Ok f
     → sorts_in names scope args ≡ Ok ss
     → sort_in names scope (Items parts) ≡ sort_of_call names scope f ss
 applied_ok names scope head args parts f ss split other is done =
@@ -126,7 +154,7 @@ applied_ok names scope head args parts f ss split other is done =
 
 -- a fault of the form is the list's
 pub fault_of_form : (names : Names) (scope : Scope) (head : Sexp) (args parts : Sexps) (e : TermFault)
-    → parts ≡ Cons head args → IsPlainHead head → Tells (applied head args) e
+    → parts ≡ Cons head args → IsPlainHead head → Tells (applied_in names.theories.wide head args) e
     → Tells (sort_in names scope (Items parts)) e
 fault_of_form names scope head args parts e split other (inl m) = inl m
 fault_of_form names scope head args parts e split other (inr is) =
@@ -137,7 +165,7 @@ fault_of_form names scope head args parts e split other (inr is) =
 
 -- and one of the arguments
 pub fault_of_args : (names : Names) (scope : Scope) (head : Sexp) (args parts : Sexps) (f : Identifier)
-    (e : TermFault) → parts ≡ Cons head args → IsPlainHead head → applied head args ≡ Ok f
+    (e : TermFault) → parts ≡ Cons head args → IsPlainHead head → applied_in names.theories.wide head args ≡ Ok f
     → Tells (sorts_in names scope args) e
     → Tells (sort_in names scope (Items parts)) e
 fault_of_args names scope head args parts f e split other is (inl m) = inl m

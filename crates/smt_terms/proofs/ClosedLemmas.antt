@@ -13,7 +13,7 @@ use Rattle.smt_theory.specs.Sort.{Sort}
 use Rattle.smt_forms.specs.Bindings.{are_attributes, are_bindings, named_trees}
 use Rattle.smt_terms.specs.Checking.{bound_in, flaw_of_labels, sort_applied, sort_in, sort_of_call}
 use Rattle.smt_terms.specs.Checking.{sort_of_symbol, sort_unless_variable, sorts_in, unless}
-use Rattle.smt_forms.specs.Identifier.{Identifier, Plain, Indexed, applied}
+use Rattle.smt_forms.specs.Identifier.{Identifier, Plain, Indexed, Qualified, applied_in}
 use Rattle.smt_terms.specs.Labels.{Unread}
 use Rattle.smt_forms.specs.Variables.{any_uses_outer, bindings_use_outer, is_among, uses_outer}
 use Rattle.smt_forms.specs.Labels.{labels_among, labels_in, labels_in_bindings}
@@ -75,6 +75,7 @@ closed-call : (names : Names) (inner outer : Scope) (f : Identifier) (args : Lis
 closed-call names inner outer (Plain f) args sort h = closed-unless (look_up (inner ++ outer) f)
     (look_up inner f) (sort_applied names (Plain f) args) sort (inner_none inner outer f) h
 closed-call names inner outer (Indexed f is) args sort h = h
+closed-call names inner outer (Qualified o) args sort h = h
 
 -- ## Bound names
 
@@ -114,13 +115,13 @@ bound-names names scope bound _ vs h = cc
 -- what a list applies
 closed-application : (names : Names) (inner outer : Scope) (head : Sexp) (args : Sexps) (sort : Sort)
     → ((ss : List Sort) → sorts_in names (inner ++ outer) args ≡ Ok ss → sorts_in names inner args ≡ Ok ss)
-    → result_and_then (applied head args)
+    → result_and_then (applied_in names.theories.wide head args)
     (λ f. result_and_then (sorts_in names (inner ++ outer) args)
     (λ ss. sort_of_call names (inner ++ outer) f ss)) ≡ Ok sort
-    → result_and_then (applied head args)
+    → result_and_then (applied_in names.theories.wide head args)
     (λ f. result_and_then (sorts_in names inner args) (λ ss. sort_of_call names inner f ss)) ≡ Ok sort
 closed-application names inner outer head args sort sorts h =
-    kept-steps (applied head args) (applied head args)
+    kept-steps (applied_in names.theories.wide head args) (applied_in names.theories.wide head args)
     (λ f. result_and_then (sorts_in names (inner ++ outer) args)
     (λ ss. sort_of_call names (inner ++ outer) f ss))
     (λ f. result_and_then (sorts_in names inner args) (λ ss. sort_of_call names inner f ss)) sort (λ f is. is)

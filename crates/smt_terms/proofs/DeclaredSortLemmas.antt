@@ -1,5 +1,5 @@
 -- The name of a declared sort, from a place on.
-use Rattle.std.proofs.Common.{◌≡◌, ◌≤◌, ◌+◌, ℕ, zero, suc, cond, List, [], ◌∷◌, length, drop, slice_get, Option, Some}
+use Rattle.std.proofs.Common.{◌≡◌, ◌≤◌, ◌+◌, ℕ, zero, suc, cond, List, [], ◌∷◌, length, drop, slice_get, Some}
 use Rattle.std.proofs.Common.{None, refl, ap, arith, add-one}
 use Rattle.smt_theory.specs.Sort.{Sort}
 use Rattle.smt_terms.specs.DeclaredSorts.{declares, name_of_sort}

@@ -1,7 +1,7 @@
 -- Nodes stand for their terms in longer tables too.
 use Rattle.std.proofs.Common.{◌≡◌, ℕ, zero, suc, ◌+◌, Bool, true, false, cond, List, [], ◌∷◌, ◌++◌}
-use Rattle.std.proofs.Common.{length, slice_get, Option, Some, None, option_map, Result, Ok, Err, refl, ap, sym, ◌∙◌, subst}
-use Rattle.std.proofs.Common.{◌≤◌, arith}
+use Rattle.std.proofs.Common.{length, slice_get, Option, Some, None, Result, Ok, Err, refl, ap, sym, ◌∙◌}
+use Rattle.std.proofs.Common.{subst, ◌≤◌, arith}
 use Rattle.std.specs.Prelude.{bytes_eq}
 use Rattle.smt_trees.specs.Sexp.{Sexp, Sexps, Atom, Reserved, Items, Nil, Cons, Numeral, Decimal, Hexadecimal}
 use Rattle.smt_trees.specs.Sexp.{Binary, Symbol}
@@ -12,14 +12,14 @@ use Rattle.smt_theory.specs.declared.op.Op.{Op}
 use Rattle.smt_theory.specs.declared.op.OpFault.{OpFault}
 use Rattle.smt_theory.specs.Sort.{Sort}
 use Rattle.smt_forms.specs.ElementNames.{qualified_symbol}
-use Rattle.smt_terms.specs.Elements.{element_among}
-use Rattle.smt_forms.specs.Identifier.{Identifier, Plain, Indexed}
+use Rattle.smt_terms.specs.Elements.{constant_op, element_among}
+use Rattle.smt_forms.specs.Identifier.{Identifier, Plain, Indexed, Qualified}
 use Rattle.smt_forms.specs.Labels.{labels_among}
 use Rattle.smt_theory.specs.declared.literal.LiteralKind.TheVariants as literal
 use Rattle.smt_nodes.specs.Node as node
 use Rattle.smt_nodes.specs.Node.{Node, Row}
 use Rattle.smt_terms.specs.Denotes.{AreBound, AreDenoted, Denotes, HasBodyBelow, Head, IsLonger, IsNameOf}
-use Rattle.smt_terms.specs.Denotes.{IsNode, IsRow, Slots, Table, UsesNone, applied_node, element_node}
+use Rattle.smt_terms.specs.Denotes.{IsNode, IsRow, Slots, Table, UsesNone, applied_node, constant_node, element_node}
 use Rattle.smt_terms.specs.Denotes.{named_node, node_alone, node_of, qualified_node}
 use Rattle.smt_terms.specs.Denotes.{slots_bound, symbol_node, unless_labelled}
 
@@ -103,6 +103,9 @@ module _ (t u : Table) (longer : IsLonger t u) where
       ∙ applied_kept (op_by t.theories f []) f args n h
   node_kept (Indexed f indexes) args n h =
       ap (λ ts. applied_node (op_by ts f indexes) None args) longer.theories ∙ h
+  node_kept (Qualified sort) args n h =
+      ap (λ ts. constant_node (constant_op ts u.elements sort) args) longer.theories
+      ∙ ap (λ es. constant_node (constant_op t.theories es sort) args) longer.elements ∙ h
 
   is_kept : (i around : ℕ) (n : Option Node) → IsNode t around i n → IsNode u around i n
   is_kept i around n h = (row_kept i around n h.0, below_kept i n h.1)
@@ -167,7 +170,8 @@ module _ (t u : Table) (longer : IsLonger t u) where
         is_kept i around (Some (node.Literal literal.Decimal digits)) d
     denotes_kept slots next around i (Atom Hexadecimal digits) d =
         is_kept i around (Some (node.Literal literal.Hexadecimal digits)) d
-    denotes_kept slots next around i (Atom Binary digits) d = is_kept i around (Some (node.Literal literal.Binary digits)) d
+    denotes_kept slots next around i (Atom Binary digits) d =
+        is_kept i around (Some (node.Literal literal.Binary digits)) d
     denotes_kept slots next around i (Items (Cons (Reserved Underscore) parts)) d =
         (d.0, d.1, made_kept i around (node_of t d.0 []) (node_of u d.0 []) (node_kept d.0 []) d.2)
     denotes_kept slots next around i (Items (Cons (Reserved As) parts)) d =

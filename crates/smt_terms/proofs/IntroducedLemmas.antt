@@ -17,7 +17,7 @@ use Rattle.smt_forms.specs.Bindings.{are_attributes, are_bindings}
 use Rattle.smt_terms.specs.Checking.{bound_in, flaw_of_label, flaw_of_labels, sort_in, sort_of_call}
 use Rattle.smt_terms.specs.Checking.{sorts_in, unless}
 use Rattle.smt_terms.specs.Definitions.{definition}
-use Rattle.smt_forms.specs.Identifier.{applied}
+use Rattle.smt_forms.specs.Identifier.{applied_in}
 use Rattle.smt_terms.specs.Labels.{Labels, Refused, Given, Unread, with_labels}
 use Rattle.smt_forms.specs.Variables.{is_among, uses_variable}
 use Rattle.smt_forms.specs.Labels.{labels_among, labels_in, labels_in_all, labels_in_bindings}
@@ -129,12 +129,12 @@ passed-else false r e y h = h
 -- the labels of a list of terms
 fit-application : (names : Names) (scope : Scope) (head : Sexp) (args : Sexps) (sort : Sort)
     → ((ss : List Sort) → sorts_in names scope args ≡ Ok ss → AreFit names (labels_in_all args))
-    → result_and_then (applied head args)
+    → result_and_then (applied_in names.theories.wide head args)
     (λ f. result_and_then (sorts_in names scope args) (λ ss. sort_of_call names scope f ss)) ≡ Ok sort
     → AreFit names (labels_in_all args)
 fit-application names scope head args sort fit h =
     let a =
-    answered (applied head args)
+    answered (applied_in names.theories.wide head args)
     (λ f. result_and_then (sorts_in names scope args) (λ ss. sort_of_call names scope f ss)) sort h in
     let b = answered (sorts_in names scope args) (λ ss. sort_of_call names scope a.0 ss) sort a.2 in
     fit b.0 b.1
@@ -323,8 +323,8 @@ Covers-push names Refused earlier e is covers = absurd is
 Covers-push names Unread earlier e is covers = absurd is
 
 -- labels that fit are introduced
-introduced : (names : Names) (theories : Theories) (elements : Option ElementNames) (earlier : List Entry) (ls : Labelled)
-    → names.theories ≡ theories → IsGivenList names.labels
+introduced : (names : Names) (theories : Theories) (elements : Option ElementNames) (earlier : List Entry)
+    (ls : Labelled) → names.theories ≡ theories → IsGivenList names.labels
     → Keeps (unlabelled names) (unlabelled_over theories elements earlier) → Covers names names.labels earlier
     → AreFit names ls → AreIntroduced theories elements earlier (label_entries names ls)
 introduced names theories elements earlier [] same is keeps covers fits = tt

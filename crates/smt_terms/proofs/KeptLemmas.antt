@@ -2,6 +2,7 @@
 use Rattle.std.proofs.Common.{◌≡◌, ℕ, ◌*◌, Bool, true, false, cond, not, ◌||◌, List, [], ◌∷◌, ◌++◌, map, length, Option}
 use Rattle.std.proofs.Common.{Some, None, is_some, ok_or, Result, Ok, Err, refl, ap, sym, ◌∙◌}
 use Rattle.std.specs.Option.{option_or}
+use Rattle.std.specs.Prelude.{bytes_eq, codes}
 use Rattle.smt_trees.specs.Sexp as sexp
 use Rattle.smt_trees.specs.Sexp.{Sexp, Sexps, Atom, Reserved, Items, Nil, Cons, Symbol, Keyword, Numeral}
 use Rattle.smt_trees.specs.Sexp.{Hexadecimal, Binary}
@@ -12,23 +13,30 @@ use Rattle.smt_theory.specs.Words.{look_up, result_and_then}
 use Rattle.smt_theory.specs.declared.op.Op.{Op}
 use Rattle.smt_theory.specs.declared.op.OpFault.{OpFault}
 use Rattle.smt_theory.specs.declared.op.OpFault.TheVariants as ops
+use Rattle.smt_theory.specs.Ranks.{rank_of}
 use Rattle.smt_theory.specs.Sort.{Sort}
+use Rattle.smt_theory.specs.declared.op.ArraysOp.TheVariants.{Const}
+use Rattle.smt_theory.specs.declared.op.Op.TheVariants.{Arrays}
+use Rattle.smt_theory.specs.declared.theories.Theories.{Theories}
 use Rattle.smt_forms.specs.Bindings.{are_attributes, are_bindings}
 use Rattle.smt_forms.specs.ElementNames.{begins_at}
 use Rattle.smt_forms.specs.Variables.{is_among}
 use Rattle.smt_terms.specs.Checking.{bound_in, flaw_of_label, flaw_of_labels, sort_applied, sort_in}
-use Rattle.smt_terms.specs.Checking.{sort_of_call, sort_of_operator, sort_of_plain, sort_of_symbol}
+use Rattle.smt_terms.specs.Checking.{sort_of_call, sort_of_operator, sort_of_plain, sort_of_rank, sort_of_symbol}
 use Rattle.smt_terms.specs.Checking.{sort_alone, sort_unless_element, sort_unless_variable, sorts_in, unless}
 use Rattle.smt_terms.specs.Elements.{ElementNames, element_among, element_in, if_free, names_element, or_ill_sorted}
-use Rattle.smt_terms.specs.Elements.{qualified_in, qualified_sort}
-use Rattle.smt_forms.specs.Identifier.{Identifier, Plain, Indexed, applied, indexed}
+use Rattle.smt_terms.specs.Elements.{abbreviations_of, constant_op, constant_sorts, qualified_in, qualified_sort}
+use Rattle.smt_forms.specs.Identifier.{Identifier, Plain, Indexed, Qualified, applied_in, indexed}
 use Rattle.smt_terms.specs.Labels.{Labels, Unread, with_labels}
 use Rattle.smt_forms.specs.Labels.{labels_among, labels_in, labels_in_bindings}
 use Rattle.smt_terms.specs.Signature.{Names, Rank, behind, unlabelled}
-use Rattle.smt_terms.specs.SortTrees.{bit_vectors, numerals, reals, sort_named}
+use Rattle.smt_terms.specs.SortTrees as trees
+use Rattle.smt_terms.specs.SortTrees.{SortNames, array_of, bit_vectors, numerals, or_named, reals, sort_named}
+use Rattle.smt_terms.specs.SortTrees.{sort_of_list, sort_of_word}
+use Rattle.smt_terms.specs.declared.named_sort.NamedSort.{NamedSort}
 use Rattle.smt_terms.specs.WellSorted.{Keeps, KeepsElements}
 use Rattle.smt_faults.specs.declared.term_flaw.TermFlaw.{TermFlaw}
-use Rattle.smt_faults.specs.declared.term_flaw.TermFlaw.TheVariants.{BoundTwice, Form, NotFresh, Unsupported}
+use Rattle.smt_faults.specs.declared.term_flaw.TermFlaw.TheVariants.{BoundTwice, Form, NotFresh, Unknown, Unsupported}
 use Rattle.smt_terms.proofs.CheckerLemmas.{Scope}
 use Rattle.smt_terms.proofs.ElementLemmas.{no_element}
 
@@ -60,6 +68,71 @@ pub kept-else : {A : Type 0} (b : Bool) (x y : Result A TermFlaw) (e : TermFlaw)
 kept-else true x y e a f h = cc
 kept-else false x y e a f h = f h
 
+-- ## Sorts
+
+-- what names sorts keeps those that lists and symbols name
+pub record KeepsSorts (names more : SortNames) : Type 0 where
+  pub word : (x : List ℕ) (sort : Sort)
+      → trees.sort_of_symbol names.theories x (look_up names.abbreviations x) ≡ Ok sort
+      → trees.sort_of_symbol more.theories x (look_up more.abbreviations x) ≡ Ok sort
+  pub list : (parts : Sexps) (sort : Sort) → sort_of_list names.theories parts ≡ Ok sort
+      → sort_of_list more.theories parts ≡ Ok sort
+  pub wide : names.theories.wide ≡ true → more.theories.wide ≡ true
+  pub arrays : more.theories.arrays ≡ names.theories.arrays
+
+kept-pair : (is_array w v a b : Bool) (i e j f : Result Sort TermFlaw) (sort : Sort) → (w ≡ true → v ≡ true) → b ≡ a
+    → ((s : Sort) → i ≡ Ok s → j ≡ Ok s) → ((s : Sort) → e ≡ Ok s → f ≡ Ok s)
+    → cond is_array (cond (not w) (Err Unsupported) (cond (not a) (Err Unknown)
+    (result_and_then i (λ s. result_and_then e (array_of s))))) (Err Unknown) ≡ Ok sort
+    → cond is_array (cond (not v) (Err Unsupported) (cond (not b) (Err Unknown)
+    (result_and_then j (λ s. result_and_then f (array_of s))))) (Err Unknown) ≡ Ok sort
+kept-pair false w v a b i e j f sort wide same first second h = cc
+kept-pair true false v a b i e j f sort wide same first second h = cc
+kept-pair true true v false b i e j f sort wide same first second h = cc
+kept-pair true true v true false i e j f sort wide same first second h = cc
+kept-pair true true false true true i e j f sort wide same first second h = let w = wide refl in cc
+kept-pair true true true true true i e j f sort wide same first second h =
+    kept-steps i j (λ s. result_and_then e (array_of s)) (λ s. result_and_then f (array_of s)) sort first
+    (λ s. kept-steps e f (array_of s) (array_of s) sort second (λ x g. g)) h
+
+pub kept-named : (names more : SortNames) → KeepsSorts names more → (t : Sexp) (sort : Sort)
+    → sort_named names t ≡ Ok sort → sort_named more t ≡ Ok sort
+kept-named names more keeps (Atom Symbol x) sort h = keeps.word x sort h
+kept-named names more keeps (Items (Cons (Atom Symbol x) (Cons first (Cons second Nil)))) sort h =
+    kept-pair (bytes_eq x (codes "Array")) names.theories.wide more.theories.wide names.theories.arrays
+    more.theories.arrays (sort_named names first) (sort_named names second) (sort_named more first)
+    (sort_named more second) sort keeps.wide keeps.arrays (kept-named names more keeps first)
+    (kept-named names more keeps second) h
+kept-named names more keeps (Items parts) sort h = keeps.list parts sort h
+kept-named names more keeps _ sort h = cc
+
+-- a sort that is named by no abbreviation is the same where there are some
+pub kept-abbreviated : (theories : Theories) (abbreviations : List (List ℕ × NamedSort)) (t : Sexp) (sort : Sort)
+    → sort_named (record { theories = theories; abbreviations = [] }) t ≡ Ok sort
+    → sort_named (record { theories = theories; abbreviations = abbreviations }) t ≡ Ok sort
+kept-abbreviated theories abbreviations =
+    kept-named (record { theories = theories; abbreviations = [] })
+    (record { theories = theories; abbreviations = abbreviations }) (record {
+      word = λ x sort. by (look_up abbreviations x) (sort_of_word theories x) sort;
+      list = λ parts sort h. h;
+      wide = λ h. h;
+      arrays = refl;
+    })
+  where
+    by : (o : Option NamedSort) (r : Result Sort TermFlaw) (sort : Sort) → or_named None r ≡ Ok sort
+        → or_named o r ≡ Ok sort
+    by o (Ok s) sort h = h
+    by o (Err flaw) sort h = cc
+
+-- so is the operator of a constant array where elements come
+pub kept-constant : (theories : Theories) (elements more : Option ElementNames) (t : Sexp) (op : Op)
+    → KeepsElements elements more → constant_op theories elements t ≡ Ok op → constant_op theories more t ≡ Ok op
+kept-constant theories None more t op keeps h =
+    kept-steps (sort_named (constant_sorts theories None) t) (sort_named (constant_sorts theories more) t)
+    (λ s. Ok (Arrays (Const s))) (λ s. Ok (Arrays (Const s))) op
+    (kept-abbreviated theories (abbreviations_of more) t) (λ s i. i) h
+kept-constant theories (Some elements) more t op keeps h = ap (λ es. constant_op theories es t) keeps ∙ h
+
 -- ## Names
 
 -- a name that is no plain operator's has no sort as an operator
@@ -86,6 +159,11 @@ kept-applied names more keeps (Plain f) args sort h =
     kept-plain names more keeps f args sort (look_up names.ranks f) (look_up more.ranks f) refl refl h
 kept-applied names more keeps (Indexed f is) args sort h =
     ap (λ theories. sort_of_operator (op_by theories f is) args) keeps.theories ∙ h
+kept-applied names more keeps (Qualified o) args sort h =
+    kept-steps (constant_op names.theories names.elements o) (constant_op more.theories more.elements o)
+    (λ op. sort_of_rank (rank_of op args)) (λ op. sort_of_rank (rank_of op args)) sort
+    (λ op is. ap (λ theories. constant_op theories more.elements o) keeps.theories
+    ∙ kept-constant names.theories names.elements more.elements o op keeps.elements is) (λ op i. i) h
 
 -- the sort of an operator stays where elements come, and that of an element where they stay
 pub kept-element : (elements more : Option ElementNames) (x : List ℕ) (op : Result Op OpFault) (sort : Sort)
@@ -166,12 +244,13 @@ kept-call names more keeps scope (Plain f) args sort h =
     (kept-applied names more keeps (Plain f) args sort) h
 kept-call names more keeps scope (Indexed f is) args sort h =
     kept-applied names more keeps (Indexed f is) args sort h
+kept-call names more keeps scope (Qualified o) args sort h = kept-applied names more keeps (Qualified o) args sort h
 
 -- ## Terms
 
 -- what a list applies
 abbrev application : Names → Scope → Sexp → Sexps → Result Sort TermFlaw
-application names scope head args = result_and_then (applied head args)
+application names scope head args = result_and_then (applied_in names.theories.wide head args)
     (λ f. result_and_then (sorts_in names scope args) (λ ss. sort_of_call names scope f ss))
 
 kept-application : (names more : Names) → Keeps names more
@@ -179,10 +258,11 @@ kept-application : (names more : Names) → Keeps names more
     → ((ss : List Sort) → sorts_in names scope args ≡ Ok ss → sorts_in more scope args ≡ Ok ss)
     → application names scope head args ≡ Ok sort → application more scope head args ≡ Ok sort
 kept-application names more keeps scope head args sort sorts h =
-    kept-steps (applied head args) (applied head args)
+    kept-steps (applied_in names.theories.wide head args) (applied_in more.theories.wide head args)
     (λ f. result_and_then (sorts_in names scope args) (λ ss. sort_of_call names scope f ss))
     (λ f. result_and_then (sorts_in more scope args) (λ ss. sort_of_call more scope f ss)) sort
-    (λ f is. is) (λ f i. kept-steps (sorts_in names scope args) (sorts_in more scope args)
+    (λ f is. ap (λ theories. applied_in theories.wide head args) keeps.theories ∙ is)
+    (λ f i. kept-steps (sorts_in names scope args) (sorts_in more scope args)
     (λ ss. sort_of_call names scope f ss) (λ ss. sort_of_call more scope f ss) sort sorts
     (λ ss. kept-call names more keeps scope f ss sort) i) h
 

@@ -13,12 +13,12 @@ use Rattle.smt_terms.specs.Internal.SoFar.{AreGivenOf, IsPlainHead}
 use Rattle.smt_terms.specs.Checking.{flaw_of_label, flaw_of_labels, sort_applied, sort_in, sort_of_call, sort_of_plain}
 use Rattle.smt_terms.specs.Checking.{sort_unless_variable, sorts_in}
 use Rattle.smt_forms.specs.Heads.{begins_indexed}
-use Rattle.smt_forms.specs.Identifier.{Identifier, Plain, Indexed}
+use Rattle.smt_forms.specs.Identifier.{Identifier, Plain, Indexed, Qualified}
 use Rattle.smt_forms.specs.Labels.{label_of_tree}
 use Rattle.smt_forms.specs.Heads.{begins_annotated, begins_let, begins_qualified}
 use Rattle.smt_terms.specs.Internal.LabelsView.{AreGiven, AreSorted, given_names, given_terms, labels_view}
 use Rattle.smt_terms.specs.Internal.LibraryView.{names_for, names_of_library}
-use Rattle.smt_forms.specs.Identifier.{applied}
+use Rattle.smt_forms.specs.Identifier.{applied_in}
 use Rattle.smt_terms.specs.Labels as spec
 use Rattle.smt_forms.specs.Labels.{labels_among, labels_in, labels_in_all}
 use Rattle.smt_terms.specs.Labels.{with_labels}
@@ -243,6 +243,7 @@ pub applied_without_labels : (library : Library) (labels : spec.Labels) (f : Ide
 applied_without_labels library labels (Plain f) args =
     plain_without_labels library labels f args (look_up (names_of_library library).ranks f)
 applied_without_labels library labels (Indexed f is) args = refl
+applied_without_labels library labels (Qualified sort) args = refl
 
 pub call_without_labels : (library : Library) (labels : spec.Labels) (scope : Scope) (f : Identifier)
     (args : List Sort) → sort_of_call (names_for library labels) scope f args
@@ -250,6 +251,7 @@ pub call_without_labels : (library : Library) (labels : spec.Labels) (scope : Sc
 call_without_labels library labels scope (Plain f) args = ap (λ r. sort_unless_variable (look_up scope f) r)
     (plain_without_labels library labels f args (look_up (names_of_library library).ranks f))
 call_without_labels library labels scope (Indexed f is) args = refl
+call_without_labels library labels scope (Qualified sort) args = refl
 
 -- a list with another head has the labels of its arguments
 other_labels : (head : Sexp) (args : Sexps) → begins_indexed head ≡ false → begins_let head ≡ false
@@ -264,8 +266,9 @@ other_labels _ args h i j k = refl
 -- the sort of a list is that of the call that it is
 pub called : (library : Library) (labels : spec.Labels) (scope : Scope) (head : Sexp) (args parts : Sexps)
     (f : Identifier) (ss given : List Sort) (r : Result Sort TermFlaw) → parts ≡ Cons head args
-    → IsPlainHead head → applied head args ≡ Ok f → sorts_in (names_for library labels) scope args ≡ Ok ss
-    → given ≡ ss → r ≡ sort_of_call (names_of_library library) scope f given
+    → IsPlainHead head → applied_in library.sorts.theories.wide head args ≡ Ok f
+    → sorts_in (names_for library labels) scope args ≡ Ok ss → given ≡ ss
+    → r ≡ sort_of_call (names_of_library library) scope f given
     → sort_in (names_for library labels) scope (Items parts) ≡ r
 called library labels scope head args parts f ss given r split other is done same call =
     applied_ok (names_for library labels) scope head args parts f ss split other is done

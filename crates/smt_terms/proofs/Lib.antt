@@ -23,6 +23,7 @@ pub mod ItemSortLemmas
 pub mod RepeatedLemmas
 pub mod SetAsideLemmas
 pub mod ProfileLemmas
+pub mod ReadSortLemmas
 pub mod WrittenLemmas
 pub mod DraftLemmas
 pub mod DenotesLemmas

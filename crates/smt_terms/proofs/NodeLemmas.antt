@@ -11,17 +11,19 @@ use Rattle.smt_theory.specs.declared.op.Op.{Op}
 use Rattle.smt_theory.specs.declared.op.OpFault.{OpFault}
 use Rattle.smt_theory.specs.Sort.{Sort}
 use Rattle.smt_forms.specs.Heads.{begins_annotated, begins_indexed, begins_let, begins_qualified}
-use Rattle.smt_forms.specs.Identifier.{Identifier, Plain, Indexed, applied, indexed}
+use Rattle.smt_forms.specs.Identifier.{Identifier, Plain, Indexed, Qualified, applied, indexed}
 use Rattle.smt_nodes.specs.Node as node
 use Rattle.smt_nodes.specs.Node.{Node, Row}
 use Rattle.smt_nodes.specs.Nodes.{rows_of}
 use Rattle.smt_terms.specs.Internal.SoFar.{IsPlainHead}
 use Rattle.smt_terms.specs.Denotes.{AreDenoted, Denotes, HasBodyBelow, Head, IsNode, IsRow, Slots, Table}
-use Rattle.smt_terms.specs.Denotes.{applied_node, element_node, named_node, node_alone, node_at, node_of, symbol_node}
-use Rattle.smt_terms.specs.Elements.{element_among}
+use Rattle.smt_terms.specs.Denotes.{applied_node, constant_node, element_node, named_node, node_alone, node_at, node_of}
+use Rattle.smt_terms.specs.Denotes.{symbol_node}
+use Rattle.smt_faults.specs.declared.term_flaw.TermFlaw.{TermFlaw}
+use Rattle.smt_terms.specs.Elements.{constant_op, element_among}
 use Rattle.smt_terms.specs.Internal.DraftView.{IsPlaced, seen_by}
-use Rattle.smt_terms.specs.Internal.NodesView.{AddsAlone, AddsApplied, AddsNode, GrowsTo, KeepsNamed, Stands, TermsStand}
-use Rattle.smt_terms.specs.Internal.NodesView.{row_with}
+use Rattle.smt_terms.specs.Internal.NodesView.{AddsAlone, AddsApplied, AddsNode, GrowsTo, KeepsNamed, Stands}
+use Rattle.smt_terms.specs.Internal.NodesView.{TermsStand, row_with}
 use Rattle.smt_terms.specs.Internal.TableView.{HasBody, IsReady, places_seen, rows_in, slots_seen}
 use Rattle.smt_terms.specs.Internal.TableView.{table_in, table_of}
 use Rattle.smt_terms.specs.declared.library.Found.{Found}
@@ -104,6 +106,11 @@ has_body t (Plain f) args n ready h =
     applied_body t (op_by t.theories f []) (look_up t.heads f) args n (ready.bodied f) h
 has_body t (Indexed f is) args n ready h =
     applied_body t (op_by t.theories f is) None args n (λ head g. cc) h
+has_body t (Qualified sort) args n ready h = by (constant_op t.theories t.elements sort) h
+  where
+    by : (r : Result Op TermFlaw) → constant_node r args ≡ Some n → HasBodyBelow t.bodies (length t.rows) (Some n)
+    by (Ok op) g = subst (λ (p : Option Node). HasBodyBelow t.bodies (length t.rows) p) g tt
+    by (Err fault) g = cc
 
 -- ## One node more
 
@@ -163,8 +170,9 @@ variable_stands library old new around x b c placed found is longer adds =
     ))
 
 -- an application whose node is as the table of names has it
-applied_stands : (library : Library) (old mid new : Draft) (around : ℕ) (term : Sexp) (f : Identifier) (sorts : List Sort)
-    (args : List ℕ) (c : CheckedTerm) → GrowsTo old mid → KeepsNamed library old mid → GrowsTo mid new
+applied_stands : (library : Library) (old mid new : Draft) (around : ℕ) (term : Sexp) (f : Identifier)
+    (sorts : List Sort) (args : List ℕ) (c : CheckedTerm) → GrowsTo old mid → KeepsNamed library old mid
+    → GrowsTo mid new
     → AddsApplied library mid new around f sorts args c → length args ≡ length sorts
     → (IsReady (table_in library old) → c.is_open ≡ false
     → IsNode (table_in library new) around (length (rows_in library mid)) (node_of (table_in library new) f args)
@@ -187,6 +195,7 @@ applied_stands library old mid new around term f sorts args c first named second
         by : (g : Identifier) → node_of (table_in library d) g args ≡ node_of (table_of library) g args
         by (Plain x) = refl
         by (Indexed x is) = refl
+        by (Qualified sort) = refl
 
 -- a symbol that is no variable
 pub symbol_stands : (library : Library) (old new : Draft) (around : ℕ) (x : List ℕ) (c : CheckedTerm)
@@ -244,8 +253,8 @@ other_denotes t slots next around i head args other f js is made all =
 
 -- an application to arguments that stand for theirs
 pub call_stands : (library : Library) (old mid new : Draft) (around : ℕ) (head : Sexp) (args parts : Sexps)
-    (f : Identifier) (sorts : List Sort) (js : List ℕ) (is_open : Bool) (c : CheckedTerm) → parts ≡ Cons head args → IsPlainHead head
-    → applied head args ≡ Ok f → c.is_open ≡ is_open → GrowsTo old mid
+    (f : Identifier) (sorts : List Sort) (js : List ℕ) (is_open : Bool) (c : CheckedTerm)
+    → parts ≡ Cons head args → IsPlainHead head → applied head args ≡ Ok f → c.is_open ≡ is_open → GrowsTo old mid
     → TermsStand library old mid args js is_open → length js ≡ length sorts → GrowsTo mid new
     → AddsApplied library mid new around f sorts js c → Stands library old new around (Items parts) c
 call_stands library old mid new around head args parts f sorts js is_open c split other is same first all counted

@@ -8,6 +8,7 @@ use Rattle.smt_trees.specs.Sexp.{Sexp, Sexps, Atom, Reserved, Items, Nil, Cons, 
 use Rattle.smt_trees.specs.Sexp.{Hexadecimal, Binary}
 use Rattle.smt_trees.specs.declared.reserved.Word.TheVariants.{As, Bang, Let, Underscore}
 use Rattle.std.proofs.lemmas.Slice.Eq.{bytes_eq-Decides}
+use Rattle.smt_theory.specs.Arrays.{arrays_named}
 use Rattle.smt_theory.specs.Bits.{added_op, bits_named, constant_digits, conversion_plain, indexed_bits}
 use Rattle.smt_theory.specs.Bits.{indexed_constant, indexed_other, named_among, only_width, overflow_plain}
 use Rattle.smt_theory.specs.Core.{core_named}
@@ -18,7 +19,9 @@ use Rattle.smt_theory.specs.Reals.{has_reals_op, reals_named}
 use Rattle.smt_theory.specs.declared.op.BitsOp.{BitsOp}
 use Rattle.smt_theory.specs.declared.op.BitsOp.TheVariants.{FromInt, FromIntOlder}
 use Rattle.smt_theory.specs.declared.op.Op.{Op}
-use Rattle.smt_theory.specs.declared.op.Op.TheVariants.{Core, Ints, Reals, Bits}
+use Rattle.smt_theory.specs.Ranks.{rank_of}
+use Rattle.smt_theory.specs.declared.op.ArraysOp.TheVariants.{Const}
+use Rattle.smt_theory.specs.declared.op.Op.TheVariants.{Core, Ints, Reals, Bits, Arrays}
 use Rattle.smt_theory.specs.declared.op.OpFault.{OpFault}
 use Rattle.smt_theory.specs.declared.op.OpFault.TheVariants as ops
 use Rattle.smt_theory.specs.declared.op.OpFault.TheVariants.{Index as WrongIndex}
@@ -27,24 +30,25 @@ use Rattle.smt_theory.specs.Words.{if_passes, look_up, result_and_then}
 use Rattle.smt_theory.specs.Sort.{Sort, Boolean, Real}
 use Rattle.smt_theory.specs.declared.theories.Theories.{Theories}
 use Rattle.smt_forms.specs.Bindings.{are_attributes, are_bindings}
-use Rattle.smt_forms.specs.Identifier.{Identifier, Plain, Indexed, applied, indexed}
+use Rattle.smt_forms.specs.Identifier.{Identifier, Plain, Indexed, Qualified, applied, applied_in, indexed, of_profile}
 use Rattle.smt_forms.specs.ItemForm.{ItemForm}
 use Rattle.smt_forms.specs.Labels.{labels_among, labels_in, labels_in_bindings}
 use Rattle.smt_terms.specs.Elements.{ElementNames}
 use Rattle.smt_terms.specs.Checking.{bound_in, flaw_of_label, flaw_of_labels, sort_alone, sort_applied, sort_in}
-use Rattle.smt_terms.specs.Checking.{sort_of_call, sort_of_operator, sort_of_plain, sort_of_symbol, sort_unless_element}
-use Rattle.smt_terms.specs.Checking.{sort_unless_variable, sorts_in, unless}
-use Rattle.smt_terms.specs.Elements.{element_among}
+use Rattle.smt_terms.specs.Checking.{sort_of_call, sort_of_operator, sort_of_plain, sort_of_rank, sort_of_symbol}
+use Rattle.smt_terms.specs.Checking.{sort_unless_element, sort_unless_variable, sorts_in, unless}
+use Rattle.smt_terms.specs.Elements.{constant_op, constant_sorts, element_among}
 use Rattle.smt_terms.specs.Labels.{Labels, Refused, with_labels}
 use Rattle.smt_terms.specs.WellSorted.{KeepsElements}
 use Rattle.smt_terms.specs.Definitions.{definition, definition_in, parameters_named}
-use Rattle.smt_terms.specs.Freshness.{is_bound, is_element, is_element_name, is_taken_undeclared, item_elements, name_flaw}
+use Rattle.smt_terms.specs.Freshness.{is_bound, is_element, is_element_name, is_taken_undeclared, item_elements}
+use Rattle.smt_terms.specs.Freshness.{name_flaw}
 use Rattle.smt_terms.specs.Items.{form_in, has_rank_of, is_defined_in, item_in, items_before}
 use Rattle.smt_terms.specs.Repeated.{widened}
 use Rattle.smt_terms.specs.Signature.{Entry, Names, Rank, Signature, behind, declared_named, entry_named, names_of}
 use Rattle.smt_terms.specs.Signature.{ranks_of, sort_names_of}
 use Rattle.smt_terms.specs.SortTrees as trees
-use Rattle.smt_terms.specs.SortTrees.{SortNames, sort_named}
+use Rattle.smt_terms.specs.SortTrees.{SortNames, is_some_tree, or_named, sort_named, sort_of_list}
 use Rattle.smt_terms.specs.declared.named_sort.NamedSort.{NamedSort}
 use Rattle.smt_faults.specs.declared.term_flaw.TermFlaw.{TermFlaw}
 use Rattle.smt_faults.specs.declared.term_flaw.TermFlaw.TheVariants.{BoundTwice, Form, IllSorted, NotFresh}
@@ -52,7 +56,8 @@ use Rattle.smt_faults.specs.declared.term_flaw.TermFlaw.TheVariants.{Unknown, Un
 use Rattle.smt_terms.proofs.CheckerLemmas.{Scope}
 use Rattle.smt_terms.proofs.ItemLemmas.{is_named, item_behind}
 use Rattle.smt_terms.proofs.ItemSortLemmas.{no_fault}
-use Rattle.smt_terms.proofs.KeptLemmas.{kept-else, kept-qualified, kept-steps, kept-then, no_rank, unless-none}
+use Rattle.smt_terms.proofs.KeptLemmas.{KeepsSorts, kept-constant, kept-else, kept-named, kept-qualified, kept-steps}
+use Rattle.smt_terms.proofs.KeptLemmas.{kept-then, no_rank, unless-none}
 use Rattle.smt_terms.proofs.WrittenLemmas.{form_defined}
 use Rattle.smt_terms.proofs.RepeatedLemmas.{item_kept, taken_by}
 
@@ -84,18 +89,64 @@ wide-word theories false true reals strings sort h = h
 wide-word theories false false true strings sort h = wide-reals theories theories.reals sort h
 wide-word theories false false false strings sort h = h
 
+-- and a word that names none names none
+wide-no-word : (theories : Theories) (bools ints reals strings : Bool) (flaw : TermFlaw)
+    → cond bools (Ok Boolean) (cond ints (trees.integers theories) (cond reals (trees.reals theories)
+    (cond strings (Err Unsupported) (Err Unknown)))) ≡ Err flaw
+    → (e : TermFlaw) × (cond bools (Ok Boolean) (cond ints (trees.integers theories)
+    (cond reals (trees.reals (record theories { wide = true }))
+    (cond strings (Err Unsupported) (Err Unknown)))) ≡ Err e)
+wide-no-word theories true ints reals strings flaw h = cc
+wide-no-word theories false true reals strings flaw h = (flaw, h)
+wide-no-word theories false false true strings flaw h = by theories.reals h
+  where
+    by : (b : Bool) → cond b (Ok Real) (Err (cond theories.wide Unknown Unsupported)) ≡ Err flaw
+        → (e : TermFlaw) × (cond b (Ok Real) (Err Unknown) ≡ Err e)
+    by true g = cc
+    by false g = (Unknown, refl)
+wide-no-word theories false false false strings flaw h = (flaw, h)
+
+wide-symbol-named : (theories : Theories) (abbreviations : List (List ℕ × NamedSort)) (x : List ℕ) (sort : Sort)
+    → trees.sort_of_symbol theories x (look_up abbreviations x) ≡ Ok sort
+    → trees.sort_of_symbol (record theories { wide = true }) x (look_up abbreviations x) ≡ Ok sort
+wide-symbol-named theories abbreviations x sort h =
+    by (trees.sort_of_word theories x) (look_up abbreviations x) refl h
+  where
+    by : (r : Result Sort TermFlaw) (o : Option NamedSort) → trees.sort_of_word theories x ≡ r
+        → or_named o r ≡ Ok sort → or_named o (trees.sort_of_word (record theories { wide = true }) x) ≡ Ok sort
+    by (Ok s) o is g =
+        ap (or_named o) (wide-word theories (bytes_eq x (codes "Bool")) (bytes_eq x (codes "Int"))
+        (bytes_eq x (codes "Real")) (bytes_eq x (codes "String")) s is) ∙ g
+    by (Err flaw) None is g = cc
+    by (Err flaw) (Some named) is g =
+        ap (or_named (Some named)) (wide-no-word theories (bytes_eq x (codes "Bool")) (bytes_eq x (codes "Int"))
+        (bytes_eq x (codes "Real")) (bytes_eq x (codes "String")) flaw is).1 ∙ g
+
+-- lists name sorts in the wide profile too, but for those of arrays
+wide-list : (theories : Theories) (parts : Sexps) (sort : Sort) → sort_of_list theories parts ≡ Ok sort
+    → sort_of_list (record theories { wide = true }) parts ≡ Ok sort
+wide-list theories (Cons (Reserved Underscore) parts) sort h = h
+wide-list theories (Cons (Atom Symbol name) args) sort h =
+    absurd (by (bytes_eq name (codes "Array")) (is_some_tree args) h)
+  where
+    by : (b c : Bool) → cond b (Err (cond theories.wide Form Unsupported)) (cond c (Err Unknown) (Err Form)) ≡ Ok sort
+        → ⊥
+    by true c g = cc
+    by false true g = cc
+    by false false g = cc
+wide-list theories _ sort h = cc
+
 -- a tree that names a sort names it in the wide profile too
 wide-named : (names : SortNames) (t : Sexp) (sort : Sort) → sort_named names t ≡ Ok sort
     → sort_named (wide_sorts names) t ≡ Ok sort
-wide-named names (Atom Symbol x) sort h = by (look_up names.abbreviations x) h
-  where
-    by : (o : Option NamedSort) → trees.sort_of_symbol names.theories x o ≡ Ok sort
-        → trees.sort_of_symbol (record names.theories { wide = true }) x o ≡ Ok sort
-    by None g =
-        wide-word names.theories (bytes_eq x (codes "Bool")) (bytes_eq x (codes "Int"))
-        (bytes_eq x (codes "Real")) (bytes_eq x (codes "String")) sort g
-    by (Some named) g = g
-wide-named names _ sort h = h
+wide-named names =
+    let keeps : KeepsSorts names (wide_sorts names) = record {
+      word = wide-symbol-named names.theories names.abbreviations;
+      list = wide-list names.theories;
+      wide = λ h. refl;
+      arrays = refl;
+    } in
+    kept-named names (wide_sorts names) keeps
 
 -- ## Terms
 
@@ -147,7 +198,8 @@ plain-kept theories x op =
     (or-kept (option_map Ints (if_passes (has_ints_op theories) (ints_named x))) _ _ op
     (or-kept (cond theories.bits (option_map Bits (bits_named x)) None) _ _ op
     (or-kept (option_map Reals (if_passes (has_reals_op theories) (reals_named x))) _ _ op
-    (added-kept theories x op))))
+    (or-kept (cond theories.arrays (option_map Arrays (arrays_named x)) None) _ _ op
+    (added-kept theories x op)))))
 
 other-kept : (converts : Bool) (x : List ℕ) (indexes : List IndexView) (op : BitsOp)
     → indexed_other false x indexes ≡ Ok op → indexed_other converts x indexes ≡ Ok op
@@ -251,28 +303,60 @@ wide-symbol names elements none x None None sort is h =
     (sym (ap (λ es. sort_unless_element (element_among es x) (op_by names.theories x [])) none)
     ∙ sym (ap (λ q. sort_alone names x q) is) ∙ h)
 
-wide-applied : (names : Names) (elements : Option ElementNames) (f : Identifier) (args : List Sort) (sort : Sort)
+-- the operator of a constant array
+wide-constant : (names : Names) (elements : Option ElementNames) → names.elements ≡ None → (t : Sexp) (op : Op)
+    → constant_op names.theories names.elements t ≡ Ok op
+    → constant_op (record names.theories { wide = true }) elements t ≡ Ok op
+wide-constant names elements none t op h =
+    let theories : Theories = record names.theories { wide = true } in
+    let sorts = constant_sorts names.theories None in
+    kept-constant theories None elements t op tt
+    (kept-steps (sort_named sorts t) (sort_named (wide_sorts sorts) t) (λ s. Ok (Arrays (Const s)))
+    (λ s. Ok (Arrays (Const s))) op (wide-named sorts t) (λ s g. g)
+    (sym (ap (λ es. constant_op names.theories es t) none) ∙ h))
+
+wide-applied : (names : Names) (elements : Option ElementNames) → names.elements ≡ None → (f : Identifier)
+    (args : List Sort) (sort : Sort)
     → sort_applied names f args ≡ Ok sort → sort_applied (wider names elements) f args ≡ Ok sort
-wide-applied names elements (Plain f) args sort h = by (look_up names.ranks f) h
+wide-applied names elements none (Plain f) args sort h = by (look_up names.ranks f) h
   where
     by : (o : Option Rank) → sort_of_plain names f o args ≡ Ok sort
         → sort_of_plain (wider names elements) f o args ≡ Ok sort
     by None g = operator-kept (op_by names.theories f []) _ args sort (operators-kept names.theories f []) g
     by (Some rank) g = g
-wide-applied names elements (Indexed f indexes) args sort h =
+wide-applied names elements none (Indexed f indexes) args sort h =
     operator-kept (op_by names.theories f indexes) _ args sort (operators-kept names.theories f indexes) h
+wide-applied names elements none (Qualified o) args sort h =
+    kept-steps (constant_op names.theories names.elements o)
+    (constant_op (record names.theories { wide = true }) elements o) (λ op. sort_of_rank (rank_of op args))
+    (λ op. sort_of_rank (rank_of op args)) sort (wide-constant names elements none o) (λ op i. i) h
 
-wide-call : (names : Names) (elements : Option ElementNames) (scope : Scope) (f : Identifier) (args : List Sort)
-    (sort : Sort) → sort_of_call names scope f args ≡ Ok sort
+wide-call : (names : Names) (elements : Option ElementNames) → names.elements ≡ None → (scope : Scope)
+    (f : Identifier) (args : List Sort) (sort : Sort) → sort_of_call names scope f args ≡ Ok sort
     → sort_of_call (wider names elements) scope f args ≡ Ok sort
-wide-call names elements scope (Plain f) args sort h = by (look_up scope f) h
+wide-call names elements none scope (Plain f) args sort h = by (look_up scope f) h
   where
     by : (o : Option Sort) → sort_unless_variable o (sort_applied names (Plain f) args) ≡ Ok sort
         → sort_unless_variable o (sort_applied (wider names elements) (Plain f) args) ≡ Ok sort
-    by None g = wide-applied names elements (Plain f) args sort g
+    by None g = wide-applied names elements none (Plain f) args sort g
     by (Some s) g = g
-wide-call names elements scope (Indexed f indexes) args sort h =
-    wide-applied names elements (Indexed f indexes) args sort h
+wide-call names elements none scope (Indexed f indexes) args sort h =
+    wide-applied names elements none (Indexed f indexes) args sort h
+wide-call names elements none scope (Qualified o) args sort h =
+    wide-applied names elements none (Qualified o) args sort h
+
+-- what a list applies, it applies in the wide profile too
+wide-of : (wide : Bool) (head : Sexp) (args : Sexps) (f : Identifier) → applied_in wide head args ≡ Ok f
+    → applied_in true head args ≡ Ok f
+wide-of true head args f h = h
+wide-of false head args f h = by (applied head args) h
+  where
+    by : (r : Result Identifier TermFlaw) → result_and_then r (of_profile false) ≡ Ok f
+        → result_and_then r (of_profile true) ≡ Ok f
+    by (Ok (Plain x)) g = g
+    by (Ok (Indexed x is)) g = g
+    by (Ok (Qualified o)) g = cc
+    by (Err flaw) g = cc
 
 -- a term keeps its sort where no label may be given
 mutual
@@ -293,7 +377,7 @@ mutual
   wide-sort names elements none refused scope (Items (Cons (Reserved Underscore) parts)) sort h =
       kept-steps (indexed parts) (indexed parts) (λ f. sort_applied names f [])
       (λ f. sort_applied (wider names elements) f []) sort (λ f is. is)
-      (λ f i. wide-applied names elements f [] sort i) h
+      (λ f i. wide-applied names elements none f [] sort i) h
   wide-sort names elements none refused scope (Items (Cons (Reserved As) parts)) sort h =
       kept-qualified names.elements elements names.ranks names.ranks parts sort
       (subst (λ e. KeepsElements e elements) (sym none) tt)
@@ -329,15 +413,15 @@ mutual
       (refused-faults (behind ls names) elements scope term xs (refused-behind ls names.labels refused)) ∙ i)) h
   wide-sort names elements none refused scope (Items (Cons (Reserved Bang) args)) sort h = cc
   wide-sort names elements none refused scope (Items (Cons head args)) sort h =
-      kept-steps (applied head args) (applied head args)
+      kept-steps (applied_in names.theories.wide head args) (applied_in true head args)
       (λ f. result_and_then (sorts_in names scope args) (λ ss. sort_of_call names scope f ss))
       (λ f. result_and_then (sorts_in (wider names elements) scope args)
       (λ ss. sort_of_call (wider names elements) scope f ss)) sort
-      (λ f is. is)
+      (wide-of names.theories.wide head args)
       (λ f. kept-steps (sorts_in names scope args) (sorts_in (wider names elements) scope args)
       (λ ss. sort_of_call names scope f ss) (λ ss. sort_of_call (wider names elements) scope f ss) sort
       (wide-sorts names elements none refused scope args)
-      (λ ss i. wide-call names elements scope f ss sort i)) h
+      (λ ss i. wide-call names elements none scope f ss sort i)) h
 
   wide-sorts : (names : Names) (elements : Option ElementNames) → names.elements ≡ None
       → names.labels ≡ Refused → (scope : Scope) (ts : Sexps) (sorts : List Sort)
@@ -419,7 +503,8 @@ taken-kept false false false p q e h = e
 -- what an item of these parts defines
 wide-form : (script : Signature) (earlier : List Entry) (form : ItemForm) (e : Entry)
     → script.theories.wide ≡ false → is_element_name (widened script) form.name ≡ false
-    → is_plain_operator (widened script).theories form.name ≡ false → form_in script earlier form ≡ Ok e → form_in (widened script) earlier form ≡ Ok e
+    → is_plain_operator (widened script).theories form.name ≡ false → form_in script earlier form ≡ Ok e
+    → form_in (widened script) earlier form ≡ Ok e
 wide-form script earlier form e narrow apart new h =
     let names = names_of (items_before script earlier) in
     let wide = names_of (items_before (widened script) earlier) in
@@ -468,7 +553,8 @@ not_defined script earlier form e h =
     (is_some (declared_named script.entries form.name)) (is_element (names_of script) form.name)
     (is_some (look_up (ranks_of script.entries) form.name)) (is_plain_operator script.theories form.name)
     (is_named script.entries form.name)
-    (no_fault script earlier form.name (unless-none (name_flaw script earlier form.name) (item_behind script earlier form) e h).0).1
+    (no_fault script earlier form.name
+    (unless-none (name_flaw script earlier form.name) (item_behind script earlier form) e h).0).1
 
 -- where the profile is the wide one already, nothing changes
 already_wide : (script : Signature) → script.theories.wide ≡ true → widened script ≡ script

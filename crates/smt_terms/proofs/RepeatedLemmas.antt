@@ -1,6 +1,7 @@
 -- Items that are set aside, and those that are not.
-use Rattle.std.proofs.Common.{◌≡◌, inl, inr, ℕ, Bool, true, false, cond, List, [], map, Option, Some, None, is_some, unwrap_or}
-use Rattle.std.proofs.Common.{Result, Ok, Err, refl, ap, sym, ◌∙◌}
+use Rattle.std.proofs.Common.{◌≡◌, inl, inr, ℕ, Bool, true, false, cond, List, [], map, Option, Some, None, is_some}
+use Rattle.std.proofs.Common.{unwrap_or, Result, Ok, Err, MatchResult, OnOk, IfErr, refl, ap, sym, ◌∙◌, subst}
+use Rattle.std.proofs.lemmas.List.{append-nil}
 use Rattle.smt_trees.specs.Sexp.{Sexp, Sexps, Atom, Reserved, Items, Nil, Cons, Symbol}
 use Rattle.smt_trees.specs.declared.reserved.Word.TheVariants.{DeclareFun, DeclareSort, Forall}
 use Rattle.smt_theory.specs.Sort.{is_same_sort}
@@ -11,9 +12,9 @@ use Rattle.smt_terms.specs.Definitions.{parameters_named}
 use Rattle.smt_terms.specs.Internal.LibraryView.{names_of_library, sort_names}
 use Rattle.smt_terms.specs.Library.{StandsFor}
 use Rattle.smt_terms.specs.Items.{declared_item, element_told, form_in, has_rank_of, is_set_aside, item_by, item_in}
-use Rattle.smt_terms.specs.Items.{repeated_in, told_in, told_item, told_sort}
+use Rattle.smt_terms.specs.Items.{list_of, repeated_in, told_in, told_item, told_sort}
 use Rattle.smt_terms.specs.Elements.{element_sort}
-use Rattle.smt_terms.specs.Signature.{Entry, Signature, entry_named, sort_names_of}
+use Rattle.smt_terms.specs.Signature.{Entry, Signature, entry_named, sort_names_of, with_entries}
 use Rattle.smt_terms.specs.SortTrees.{sort_named}
 use Rattle.smt_faults.specs.Outcome.{Tells}
 use Rattle.smt_faults.specs.declared.term_fault.TermFault.{TermFault}
@@ -89,6 +90,39 @@ told_as library s x tree element b c stands is named same =
     (in_force library s x b c stands named same)
     ∙ ap (λ sorts. cond c (Err NotFresh) (result_and_then (sort_named sorts tree) (told_sort element)))
     (sym (sorts_as library s stands))
+
+-- what a library says of an item that tells of elements
+abbrev pub IsToldBy : Library → Sexp → Result (Unit {0}) TermFault → Type 0
+IsToldBy script tree told = (s : Signature) → StandsFor script s
+    → (r : Result (Option Entry) TermFlaw) × (told_item s tree ≡ Some r) × MatchResult told (λ _. r ≡ Ok None) (Tells r)
+
+-- it adds nothing
+pub told_ok : (script items : Library) (tree : Sexp) (told : Result (Unit {0}) TermFault) → IsToldBy script tree told
+    → OnOk told ((s m : Signature) → StandsFor script s → StandsFor items m
+    → (o : Option Entry) × (item_in s m.entries tree ≡ Ok o) × StandsFor items (with_entries m (list_of o)))
+told_ok script items tree (Ok v) h = λ s m stands reads.
+    let t = h s stands in (
+      None,
+      ap (λ o. unwrap_or o (result_and_then (item_form tree) (item_by s m.entries))) t.1 ∙ t.2,
+      subst (λ (es : List Entry). StandsFor items (record m { entries = es })) (sym (append-nil m.entries)) reads,
+    )
+told_ok script items tree (Err fault) h = tt
+
+-- or is refused
+pub told_refused : (script items : Library) (tree : Sexp) (told : Result (Unit {0}) TermFault)
+    → IsToldBy script tree told
+    → IfErr told (λ fault. (s m : Signature) → StandsFor script s → StandsFor items m
+    → Tells (item_in s m.entries tree) fault)
+told_refused script items tree (Ok v) h = tt
+told_refused script items tree (Err fault) h = λ s m stands reads.
+    let t = h s stands in
+    let rest = result_and_then (item_form tree) (item_by s m.entries) in
+    by s m t.0 (ap (λ o. unwrap_or o rest) t.1) t.2
+  where
+    by : (s m : Signature) (r : Result (Option Entry) TermFlaw) → item_in s m.entries tree ≡ r → Tells r fault
+        → Tells (item_in s m.entries tree) fault
+    by s m r same (inl memory) = inl memory
+    by s m r same (inr e) = inr (same ∙ e)
 
 -- so what defines something is none
 untold : (script : Signature) (tree : Sexp) (e : Entry) (rest : Result (Option Entry) TermFlaw)

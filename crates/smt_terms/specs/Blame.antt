@@ -1,9 +1,9 @@
 -- What is to blame where a term, a declaration, a definition or an item of a model is refused (SMT-LIB 2.6, sections
 -- 3.5, 3.6, 4.2.3 and 4.2.6): a fact on a name or a part, over the names in force. That it is the first such part, in
 -- the order in which parts are checked, is not said here.
-use Rattle.std.specs.Prelude.{◌≡◌, ◌⊎◌, ◌+◌, ◌-◌, ◌*◌, ◌==◌, ◌&&◌, ◌||◌, ℕ, List, [], ◌∷◌, Bool, true, false, not}
+use Rattle.std.specs.Prelude.{◌≡◌, ◌⊎◌, ◌+◌, ◌-◌, ◌*◌, ◌==◌, ◌&&◌, ◌||◌, ℕ, List, [], Bool, true, false, not}
 use Rattle.std.specs.Prelude.{Option, Some, None, Result, Ok, Err, is_some, length, option_map, option_and_then}
-use Rattle.std.specs.Prelude.{slice_get, if◌then◌else◌, IfOk, IfSome}
+use Rattle.std.specs.Prelude.{slice_get, codes, if◌then◌else◌, IfOk, IfSome}
 use Rattle.smt_faults.specs.declared.memory.Memory.{Memory}
 use Rattle.std.specs.List.{position, zip}
 use Rattle.smt_trees.specs.Sexp.{Sexp, Sexps, Atom, Reserved, Items, Nil, Cons, Binary, Decimal, Hexadecimal}
@@ -24,13 +24,14 @@ use Rattle.smt_theory.specs.declared.op.OpFault.{OpFault}
 use Rattle.smt_theory.specs.declared.op.OpFault.TheVariants as faults
 use Rattle.smt_theory.specs.Sort.{Sort}
 use Rattle.smt_theory.specs.declared.theories.Theories.{Theories}
-use Rattle.smt_forms.specs.Identifier.{Identifier, Plain, Indexed, applied, indexed, operator_of}
+use Rattle.smt_forms.specs.Identifier.{Identifier, Plain, Indexed, Qualified, applied, indexed}
+use Rattle.smt_forms.specs.Identifier.{operator_of}
 use Rattle.smt_faults.specs.declared.term_flaw.TermFlaw.{TermFlaw}
 use Rattle.smt_faults.specs.declared.term_flaw.TermFlaw.TheVariants as term_flaws
 use Rattle.smt_forms.specs.ItemForm.{ItemForm, item_form}
 use Rattle.smt_theory.specs.Sort.{Boolean}
 use Rattle.smt_terms.specs.Checking.{sort_in}
-use Rattle.smt_terms.specs.Elements.{element_sort}
+use Rattle.smt_terms.specs.Elements.{constant_op, element_sort}
 use Rattle.smt_terms.specs.Freshness.{is_defined_before, is_sort_taken, is_taken}
 use Rattle.smt_terms.specs.Items.{is_set_aside, told_item}
 use Rattle.smt_terms.specs.Signature.{Names, Rank, Signature, names_of, sort_names_of}
@@ -47,15 +48,17 @@ use Rattle.smt_terms.specs.declared.blame.Theory.TheVariants.{Integers, Reals, B
 abbrev pub name_of : Identifier → List ℕ
 name_of (Plain x) = x
 name_of (Indexed x indexes) = x
+name_of (Qualified sort) = codes "const"
 
 abbrev pub is_unknown_operator : Result Op OpFault → Bool
 is_unknown_operator (Err faults.Unknown) = true
 is_unknown_operator _ = false
 
--- a symbol alone may be a name in force
+-- a symbol alone may be a name in force; `const` with its sort is always known
 abbrev pub is_named : Names → Identifier → Bool
 is_named names (Plain x) = is_some (look_up names.ranks x)
 is_named names (Indexed x indexes) = false
+is_named names (Qualified sort) = true
 
 -- whether an identifier is no name in force, and no operator of these theories
 abbrev pub is_unknown : Names → Theories → Identifier → Bool
@@ -135,10 +138,15 @@ abbrev pub plain_flaw : Names → List ℕ → Option Rank → List Sort → Opt
 plain_flaw names x None sorts = operator_flaw (op_by names.theories x []) sorts
 plain_flaw names x (Some rank) sorts = parameter_flaw rank.parameters sorts
 
+abbrev pub constant_flaw : Result Op TermFlaw → List Sort → Option RankFlaw
+constant_flaw (Ok op) sorts = misfit_of op sorts
+constant_flaw (Err fault) sorts = None
+
 -- of an identifier that is no variable
 abbrev pub call_flaw : Names → Identifier → List Sort → Option RankFlaw
 call_flaw names (Plain x) sorts = plain_flaw names x (look_up names.ranks x) sorts
 call_flaw names (Indexed x indexes) sorts = operator_flaw (op_by names.theories x indexes) sorts
+call_flaw names (Qualified sort) sorts = constant_flaw (constant_op names.theories names.elements sort) sorts
 
 -- ---- each kind of blame
 

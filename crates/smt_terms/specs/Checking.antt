@@ -17,8 +17,8 @@ use Rattle.smt_theory.specs.declared.op.OpFault.{OpFault}
 use Rattle.smt_theory.specs.declared.op.OpFault.TheVariants as ops
 use Rattle.smt_theory.specs.Sort.{Sort}
 use Rattle.smt_forms.specs.Bindings.{are_attributes, are_bindings}
-use Rattle.smt_forms.specs.Identifier.{Identifier, Plain, Indexed, applied, indexed}
-use Rattle.smt_terms.specs.Elements.{element_among, qualified_sort}
+use Rattle.smt_forms.specs.Identifier.{Identifier, Plain, Indexed, Qualified, applied_in, indexed}
+use Rattle.smt_terms.specs.Elements.{constant_op, element_among, qualified_sort}
 use Rattle.smt_terms.specs.Labels.{Labels, Refused, Given, Unread}
 use Rattle.smt_forms.specs.Variables.{uses_variable}
 use Rattle.smt_forms.specs.Labels.{labels_among, labels_in, labels_in_bindings}
@@ -52,6 +52,8 @@ sort_of_plain names f (Some rank) args = sort_of_name rank args
 abbrev pub sort_applied : Names → Identifier → List Sort → Result Sort TermFlaw
 sort_applied names (Plain f) args = sort_of_plain names f (look_up names.ranks f) args
 sort_applied names (Indexed f indexes) args = sort_of_operator (op_by names.theories f indexes) args
+sort_applied names (Qualified sort) args =
+    result_and_then (constant_op names.theories names.elements sort) (λ op. sort_of_rank (rank_of op args))
 
 -- that of a symbol alone that is no name in force: an operator's, or else the element's that it may be
 abbrev pub sort_unless_element : Option Sort → Result Op OpFault → Result Sort TermFlaw
@@ -78,6 +80,7 @@ abbrev pub sort_of_call : Names → List (List ℕ × Sort) → Identifier → L
 sort_of_call names scope (Plain f) args =
     sort_unless_variable (look_up scope f) (sort_applied names (Plain f) args)
 sort_of_call names scope (Indexed f indexes) args = sort_applied names (Indexed f indexes) args
+sort_of_call names scope (Qualified sort) args = sort_applied names (Qualified sort) args
 
 -- a fault, or what comes where there is none
 abbrev pub unless : {A : Type 0} → Option TermFlaw → Result A TermFlaw → Result A TermFlaw
@@ -125,7 +128,7 @@ abbrev mutual
       (λ s. unless (flaw_of_labels (behind (labels_in term) names) scope term (labels_among attributes))
       (Ok s)) else Err Form
   sort_in names scope (Items (Cons head args)) =
-      result_and_then (applied head args)
+      result_and_then (applied_in names.theories.wide head args)
       (λ f. result_and_then (sorts_in names scope args) (λ ss. sort_of_call names scope f ss))
 
   pub sorts_in : Names → List (List ℕ × Sort) → Sexps → Result (List Sort) TermFlaw

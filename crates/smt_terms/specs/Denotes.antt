@@ -13,13 +13,14 @@ use Rattle.smt_theory.specs.Sort.{Boolean}
 use Rattle.smt_theory.specs.declared.theories.Theories.{Theories}
 use Rattle.smt_forms.specs.Bindings.{named_trees}
 use Rattle.smt_forms.specs.ElementNames.{qualified_symbol}
-use Rattle.smt_forms.specs.Identifier.{Identifier, Plain, Indexed, applied, indexed}
+use Rattle.smt_forms.specs.Identifier.{Identifier, Plain, Indexed, Qualified, applied, indexed}
 use Rattle.smt_forms.specs.Labels.{labels_among}
 use Rattle.smt_forms.specs.Variables.{uses_variable}
 use Rattle.smt_theory.specs.declared.literal.LiteralKind.TheVariants as literal
 use Rattle.smt_nodes.specs.Node as node
 use Rattle.smt_nodes.specs.Node.{Node, Row}
-use Rattle.smt_terms.specs.Elements.{ElementNames, element_among}
+use Rattle.smt_faults.specs.declared.term_flaw.TermFlaw.{TermFlaw}
+use Rattle.smt_terms.specs.Elements.{ElementNames, constant_op, element_among}
 use Rattle.smt_terms.specs.declared.library.Found.{Found}
 use Rattle.smt_terms.specs.declared.library.Found.TheVariants as place
 
@@ -54,10 +55,16 @@ abbrev pub applied_node : Result Op OpFault → Option Head → List ℕ → Opt
 applied_node (Ok op) head args = Some (node.Apply op args)
 applied_node (Err fault) head args = named_node head args
 
+-- that of an operator that holds its sort, if there is one
+abbrev pub constant_node : Result Op TermFlaw → List ℕ → Option Node
+constant_node (Ok op) args = Some (node.Apply op args)
+constant_node (Err fault) args = None
+
 -- that of an identifier with arguments
 abbrev pub node_of : Table → Identifier → List ℕ → Option Node
 node_of t (Plain f) args = applied_node (op_by t.theories f []) (look_up t.heads f) args
 node_of t (Indexed f indexes) args = applied_node (op_by t.theories f indexes) None args
+node_of t (Qualified sort) args = constant_node (constant_op t.theories t.elements sort) args
 
 -- that of the element that a symbol is, if it is one
 abbrev pub element_node : List ℕ → Option Sort → Option Node

@@ -1,11 +1,14 @@
--- Elements of declared sorts, as the bodies of a printed model's items name them (SMT-LIB 2.6, section 4.2.6). No term
--- of a script names one.
-use Rattle.std.specs.Prelude.{ℕ, List, Bool, false, not, ◌||◌, Option, Some, None, is_some, option_and_then}
+-- What stands behind an `as`: elements of declared sorts, as the bodies of a printed model's items name them (SMT-LIB
+-- 2.6, section 4.2.6), which no term of a script names; and the sorts of constant arrays.
+use Rattle.std.specs.Prelude.{ℕ, List, [], Bool, false, not, ◌||◌, Option, Some, None, is_some, option_and_then}
 use Rattle.std.specs.Prelude.{Result, Ok, Err, if◌then◌else◌}
-use Rattle.smt_trees.specs.Sexp.{Sexps, Atom, Nil, Cons, Symbol}
+use Rattle.smt_trees.specs.Sexp.{Sexp, Sexps, Atom, Nil, Cons, Symbol}
 use Rattle.smt_theory.specs.Words.{look_up, result_and_then}
-use Rattle.smt_theory.specs.Sort.{Sort}
-use Rattle.smt_theory.specs.Sort.{Free}
+use Rattle.smt_theory.specs.Sort.{Sort, Free}
+use Rattle.smt_theory.specs.declared.op.ArraysOp.TheVariants.{Const}
+use Rattle.smt_theory.specs.declared.op.Op.{Op}
+use Rattle.smt_theory.specs.declared.op.Op.TheVariants.{Arrays}
+use Rattle.smt_theory.specs.declared.theories.Theories.{Theories}
 use Rattle.smt_forms.specs.ElementNames.{begins_at, sort_of_element}
 use Rattle.smt_forms.specs.Variables.{is_among}
 use Rattle.smt_terms.specs.SortTrees.{SortNames, sort_named}
@@ -64,3 +67,19 @@ abbrev pub qualified_sort : {A : Type 0} → Option ElementNames → List (List 
     → Result Sort TermFlaw
 qualified_sort None names parts = Err Unsupported
 qualified_sort (Some elements) names parts = qualified_in elements names parts
+
+-- ---- constant arrays
+
+abbrev pub abbreviations_of : Option ElementNames → List (List ℕ × NamedSort)
+abbreviations_of None = []
+abbreviations_of (Some elements) = elements.sorts.abbreviations
+
+-- what names the sort of a constant array: the theories, and in a model the names of the script's sorts. In a script
+-- no such name is read there, so that a term is the same whatever names of sorts come and go
+abbrev pub constant_sorts : Theories → Option ElementNames → SortNames
+constant_sorts theories elements = record { theories = theories; abbreviations = abbreviations_of elements }
+
+-- the operator `(as const sort)`, or the first fault of its sort
+abbrev pub constant_op : Theories → Option ElementNames → Sexp → Result Op TermFlaw
+constant_op theories elements sort =
+    result_and_then (sort_named (constant_sorts theories elements) sort) (λ s. Ok (Arrays (Const s)))

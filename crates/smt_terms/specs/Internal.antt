@@ -8,3 +8,4 @@ pub mod NodesView
 pub mod SoFar
 pub mod Frames
 pub mod Blamed
+pub mod ReadSorts

@@ -1,12 +1,11 @@
 -- SMT-LIB 2.6, section 3.5: the sort that a tree names, which may be an abbreviation (section 4.2.3), or its
 -- first fault. Which sorts are not supported, and which fault is told, is this project's choice.
-use Rattle.std.specs.Prelude.{ℕ, List, [], ◌∷◌, Bool, true, false, not, Option, Some, None, is_some}
+use Rattle.std.specs.Prelude.{ℕ, List, [], ◌∷◌, Bool, true, false, not, ◌||◌, Option, Some, None, is_some}
 use Rattle.std.specs.Prelude.{option_map, Result, Ok, Err, ok_or, bytes_eq, codes, if◌then◌else◌}
 use Rattle.std.specs.Str.Parse.{digits_value}
 use Rattle.smt_trees.specs.Sexp.{Sexp, Sexps, Atom, Reserved, Items, Nil, Cons, Numeral, Symbol}
 use Rattle.smt_trees.specs.declared.reserved.Word.TheVariants.{Underscore}
-use Rattle.smt_theory.specs.Sort.{Sort}
-use Rattle.smt_theory.specs.Sort.{Boolean, Int, Real, Bits}
+use Rattle.smt_theory.specs.Sort.{Sort, Boolean, Int, Real, Bits, Array, array_of_sort}
 use Rattle.smt_theory.specs.declared.theories.Theories.{Theories}
 use Rattle.smt_theory.specs.Width.{width_of}
 use Rattle.smt_theory.specs.Words.{look_up, result_and_then}
@@ -26,7 +25,7 @@ reals theories = if theories.reals then Ok Real else Err (if theories.wide then 
 abbrev pub numerals : Theories → Result Sort TermFlaw
 numerals theories = if theories.ints then Ok Int else if theories.reals then Ok Real else Err Unknown
 
--- the sort of a symbol that abbreviates none
+-- the sort of the theories that a symbol is
 abbrev pub sort_of_word : Theories → List ℕ → Result Sort TermFlaw
 sort_of_word theories name =
     if bytes_eq name (codes "Bool") then Ok Boolean else if bytes_eq name (codes "Int") then integers theories
@@ -34,10 +33,16 @@ sort_of_word theories name =
     else if bytes_eq name (codes "String") then Err Unsupported
     else Err Unknown
 
--- the sort of a symbol, by what it stands for
+-- a sort, or else that for which a name stands, if it stands for one
+abbrev pub or_named : Option NamedSort → Result Sort TermFlaw → Result Sort TermFlaw
+or_named named (Ok sort) = Ok sort
+or_named None (Err flaw) = Err flaw
+or_named (Some named) (Err flaw) = Ok named.sort
+
+-- the sort of a symbol: that of the theories, or else that for which it stands. No name of a sort of the theories
+-- stands for another sort (`is_sort_taken`)
 abbrev pub sort_of_symbol : Theories → List ℕ → Option NamedSort → Result Sort TermFlaw
-sort_of_symbol theories name None = sort_of_word theories name
-sort_of_symbol theories name (Some named) = Ok named.sort
+sort_of_symbol theories name named = or_named named (sort_of_word theories name)
 
 -- bit vectors of a width that there may be, or none where the number of bits is out of range
 abbrev pub bit_vectors : Theories → Option ℕ → Result Sort TermFlaw
@@ -60,13 +65,41 @@ abbrev pub is_some_tree : Sexps → Bool
 is_some_tree Nil = false
 is_some_tree (Cons x xs) = true
 
--- the sort that a list of these parts names
+-- ---- sorts of arrays
+
+abbrev pub is_array : Sort → Bool
+is_array sort = is_some (array_of_sort sort)
+
+-- whether a sort is one of arrays whose elements are arrays
+abbrev pub is_nested : Sort → Bool
+is_nested (Array index element) = is_array element
+is_nested _ = false
+
+-- the sort of arrays with these indexes and elements: indexes are no arrays, and arrays are at most two deep
+abbrev pub array_of : (index element : Sort) → Result Sort TermFlaw
+array_of index element =
+    if is_array index || is_nested element then Err Unsupported else Ok (Array index element)
+
+-- the sort `(Array index element)`, by the sorts that its parts name
+abbrev pub array_sort : Theories → (index element : Result Sort TermFlaw) → Result Sort TermFlaw
+array_sort theories index element =
+    if not theories.wide then Err Unsupported else if not theories.arrays then Err Unknown
+    else result_and_then index (λ i. result_and_then element (array_of i))
+
+-- the sort that a list of a symbol and two trees names, by the sorts that these name
+abbrev pub sort_of_pair : Theories → List ℕ → (first second : Result Sort TermFlaw) → Result Sort TermFlaw
+sort_of_pair theories name first second =
+    if bytes_eq name (codes "Array") then array_sort theories first second else Err Unknown
+
+-- the sort that a list of other parts names
 abbrev pub sort_of_list : Theories → Sexps → Result Sort TermFlaw
 sort_of_list theories (Cons (Reserved Underscore) parts) = indexed_sort theories parts
 sort_of_list theories (Cons (Atom Symbol name) args) =
-    if bytes_eq name (codes "Array") then Err Unsupported else if is_some_tree args then Err Unknown
-    else Err Form
+    if bytes_eq name (codes "Array") then Err (if theories.wide then Form else Unsupported)
+    else if is_some_tree args then Err Unknown else Err Form
 sort_of_list theories _ = Err Form
+
+-- ---- all sorts
 
 -- what names sorts: the theories, and the names of sorts in force with what they stand for
 pub record SortNames : Type 0 where
@@ -76,6 +109,8 @@ pub record SortNames : Type 0 where
 -- the sort that a tree names, or its first fault
 abbrev pub sort_named : SortNames → Sexp → Result Sort TermFlaw
 sort_named names (Atom Symbol name) = sort_of_symbol names.theories name (look_up names.abbreviations name)
+sort_named names (Items (Cons (Atom Symbol name) (Cons first (Cons second Nil)))) =
+    sort_of_pair names.theories name (sort_named names first) (sort_named names second)
 sort_named names (Items parts) = sort_of_list names.theories parts
 sort_named names _ = Err Form
 

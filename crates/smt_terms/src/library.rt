@@ -16,6 +16,7 @@ mod blamed_names;
 mod blamed_parts;
 mod blames;
 mod checker;
+mod constants;
 mod declared_sorts;
 mod definitions;
 mod draft;
@@ -396,7 +397,7 @@ impl Library<'_> {
         ensures next { IfOk result (λ d. (d.command ≡ command) × (d.name ≡ name_count self.now)) }
     {
         let params = self.sorts.sorts_of(self.alloc, params)?;
-        let result = self.sorts.sort_of(sort)?;
+        let result = self.sorts.sort_of(self.alloc, sort)?;
         Ok(Declared {
             name: self.names.len(),
             params,

@@ -1,7 +1,9 @@
 //! The trees that name sorts, and abbreviations of sorts. This file knows no names of functions.
 
-ghost use Rattle.std.specs.Prelude.{◌≡◌, ◌++◌, ◌∷◌, [], bytes_eq, Ok, Err, IfErr, OnErr, OnOk};
+ghost use Rattle.std.specs.Prelude.{◌≡◌, ◌<◌, ◌++◌, ◌∷◌, [], bytes_eq, Ok, Err, IfErr, IfOk, OnErr, OnOk, false};
+ghost use Rattle.std.specs.Prelude.{MatchOption, MatchResult, Result};
 ghost use Rattle.std.specs.Str.Parse.{digits_value};
+ghost use Rattle.smt_trees.specs.Sexp.{Atom, Cons, Items, Nil, Symbol};
 ghost use Rattle.smt_trees.specs.View.{sexp_of, sexps_of};
 ghost use Rattle.smt_theory.specs.Sort.{is_same_sort};
 ghost use Rattle.smt_theory.specs.Width.{width_of};
@@ -13,9 +15,12 @@ ghost use Rattle.smt_terms.specs.Elements as elements;
 ghost use Rattle.smt_terms.specs.SortTrees.{sort_named, sorts_named};
 ghost use Rattle.smt_faults.specs.Outcome.{IsOutcome, Tells};
 ghost use Rattle.smt_terms.specs.SortTrees as sorts;
+ghost use Rattle.smt_terms.specs.Internal.ReadSorts.{ComesTo, IsBegun, are_two, work_left};
+ghost use Rattle.smt_terms.specs.declared.sorts.Step.TheVariants.{Named, Read};
+ghost use Rattle.smt_theory.specs.Sort as theory;
 
 use crate::named_sort::NamedSort;
-use smt_faults::{TermFault, TermFlaw};
+use smt_faults::{Memory, TermFault, TermFlaw};
 use smt_forms::{are_indexes, sort_of_element};
 use smt_names::NameMap;
 use smt_theory::{Sort, SortKind, Theories, Width, number};
@@ -46,28 +51,103 @@ impl SortNames {
     }
 
     /// The sort that a tree names, or what is wrong with it: `Form`, `Unsupported` for a sort of the standard that the
-    /// profile lacks, `Unknown`, or `Index` for a width of bit vectors out of range.
-    pub(crate) fn sort_of(&self, tree: Tree<'_>) -> Result<Sort, TermFlaw>
-        ensures { result ≡ sort_named (sort_names self.now) (sexp_of tree.entry) }
+    /// profile lacks and for arrays as indexes or three deep, `Unknown`, or `Index` for a width of bit vectors out of
+    /// range. `Memory` says nothing of the tree: there is no room for the numbers of some declared sorts in a sort of
+    /// arrays.
+    pub(crate) fn sort_of(&self, alloc: Global, tree: Tree<'_>) -> Result<Sort, TermFault>
+        ensures { IsOutcome (λ sort. sort) (sort_named (sort_names self.now) (sexp_of tree.entry)) result }
     {
-        match tree {
-            Tree::Symbol(name) => self.sort_of_symbol(name),
-            Tree::List(parts) => sort_of_list(self.theories, parts),
-            _ => Err(TermFlaw::Form),
-        }
+        self.sort_under(alloc, self.theories, tree)
     }
 
     /// The same in other theories.
-    pub(crate) fn sort_under(&self, theories: Theories, tree: Tree<'_>) -> Result<Sort, TermFlaw>
-        ensures { result ≡ sort_named (record (sort_names self.now) { theories = theories }) (sexp_of tree.entry) }
+    pub(crate) fn sort_under(
+        &self,
+        alloc: Global,
+        theories: Theories,
+        tree: Tree<'_>,
+    ) -> Result<Sort, TermFault>
+        ensures { IsOutcome (λ sort. sort)
+            (sort_named (record (sort_names self.now) { theories = theories }) (sexp_of tree.entry)) result }
+    {
+        match self.read(alloc, theories, tree) {
+            Ok(sort) => Ok(sort),
+            Err(refusal) => Err(refusal.fault),
+        }
+    }
+
+    /// The part of a tree that has its first fault; `None` where it names a sort.
+    pub(crate) fn refused_part<'a>(&self, alloc: Global, tree: Tree<'a>) -> Option<Tree<'a>> {
+        match self.read(alloc, self.theories, tree) {
+            Ok(_) => None,
+            Err(refusal) => Some(refusal.part),
+        }
+    }
+
+    // The sort that a tree names in these theories, or its first fault and the part that has it. Sorts of arrays wait
+    // for their parts on a stack of their own, as trees may be deep.
+    fn read<'a>(
+        &self,
+        alloc: Global,
+        theories: Theories,
+        tree: Tree<'a>,
+    ) -> Result<Sort, Refusal<'a>>
+        ensures { MatchResult result
+            (λ sort. sort_named (record (sort_names self.now) { theories = theories }) (sexp_of tree.entry) ≡ Ok sort)
+            (λ refusal. Tells (sort_named (record (sort_names self.now) { theories = theories }) (sexp_of tree.entry))
+            refusal.fault) }
+    {
+        let mut waiting = Vec::new(alloc);
+        let mut step = Step::Read(tree);
+        loop {
+            step = match step {
+                Step::Read(part) => match self.enter(theories, &mut waiting, part) {
+                    Ok(next) => next,
+                    Err(fault) => return Err(Refusal { fault, part }),
+                },
+                Step::Named(sort) => match waiting.pop() {
+                    Some(array) => match go_on(&mut waiting, array, sort) {
+                        Ok(next) => next,
+                        Err(fault) => return Err(Refusal { fault, part: tree }),
+                    },
+                    None => return Ok(sort),
+                },
+            };
+        }
+    }
+
+    // Begins to read a tree: a sort of arrays that it may name waits for that of its indexes.
+    fn enter<'a>(
+        &self,
+        theories: Theories,
+        waiting: &mut Vec<Waiting<'a>>,
+        tree: Tree<'a>,
+    ) -> Result<Step<'a>, TermFault>
+        ensures next { (whole : Result theory.Sort TermFlaw)
+            → ComesTo (record (sort_names self.now) { theories = theories }) whole waiting.old.items (Read tree.entry)
+            → MatchResult result
+            (ComesTo (record (sort_names self.now) { theories = theories }) whole waiting.new.items) (Tells whole) }
+        ensures less { IfOk result (λ step. work_left waiting.new.items step
+            < work_left waiting.old.items (Read tree.entry)) }
+    {
+        match self.begin(theories, tree) {
+            Begun::Found(Ok(sort)) => Ok(Step::Named(sort)),
+            Begun::Found(Err(flaw)) => Err(TermFault::from(flaw)),
+            Begun::Parts(index, element) => {
+                wait(waiting, element, None)?;
+                Ok(Step::Read(index))
+            }
+        }
+    }
+
+    // What a tree names in these theories, or the trees of the parts of a sort of arrays.
+    pub(crate) fn begin<'a>(&self, theories: Theories, tree: Tree<'a>) -> Begun<'a>
+        ensures { IsBegun (record (sort_names self.now) { theories = theories }) (sexp_of tree.entry) result }
     {
         match tree {
-            Tree::Symbol(name) => match self.get(name) {
-                Some(named) => Ok(named.sort),
-                None => sort_of_word(theories, name),
-            },
-            Tree::List(parts) => sort_of_list(theories, parts),
-            _ => Err(TermFlaw::Form),
+            Tree::Symbol(name) => Begun::Found(self.sort_of_symbol(theories, name)),
+            Tree::List(parts) => begin_list(theories, parts),
+            _ => Begun::Found(Err(TermFlaw::Form)),
         }
     }
 
@@ -79,7 +159,7 @@ impl SortNames {
         let mut found = Vec::new(alloc);
         let mut left = trees;
         while let Some((tree, rest)) = left.split_first() {
-            found.push(self.sort_of(tree)?)?;
+            found.push(self.sort_of(alloc, tree)?)?;
             left = rest;
         }
         Ok(found)
@@ -105,7 +185,7 @@ impl SortNames {
         if self.is_taken(name) {
             return Err(TermFault::NotFresh);
         }
-        let sort = self.sort_of(tree)?;
+        let sort = self.sort_of(alloc, tree)?;
         let named = NamedSort {
             sort,
             is_declared: false,
@@ -149,12 +229,15 @@ impl SortNames {
 
     /// The sort that a tree names, if a command declares it; or what is wrong with it: the fault of the tree, or
     /// `IllSorted` for another sort.
-    pub(crate) fn declared_sort(&self, tree: Tree<'_>) -> Result<Sort, TermFlaw>
-        ensures { result ≡ result_and_then (sort_named (sort_names self.now) (sexp_of tree.entry))
-            (λ sort. elements.or_ill_sorted (elements.if_free sort)) }
+    pub(crate) fn declared_sort(&self, alloc: Global, tree: Tree<'_>) -> Result<Sort, TermFault>
+        ensures { IsOutcome (λ sort. sort) (result_and_then (sort_named (sort_names self.now) (sexp_of tree.entry))
+            (λ sort. elements.or_ill_sorted (elements.if_free sort))) result }
     {
-        let sort = self.sort_of(tree)?;
-        if_free(sort).ok_or(TermFlaw::IllSorted)
+        let sort = self.sort_of(alloc, tree)?;
+        match if_free(sort) {
+            Some(sort) => Ok(sort),
+            None => Err(TermFault::IllSorted),
+        }
     }
 
     // What a name stands for that was declared or defined.
@@ -171,15 +254,112 @@ impl SortNames {
         is_theory_sort(self.theories.wide, name) || self.get(name).is_some()
     }
 
-    // The sort that a symbol names: that for which it stands, or else the sort of that name.
-    fn sort_of_symbol(&self, name: &[u8]) -> Result<Sort, TermFlaw>
-        ensures { result ≡ sorts.sort_of_symbol (sort_names self.now).theories name.now
-            (look_up (abbreviations_of self.now) name.now) }
+    // The sort that a symbol names: that of the theories, or else that for which it stands.
+    fn sort_of_symbol(&self, theories: Theories, name: &[u8]) -> Result<Sort, TermFlaw>
+        ensures { result ≡ sorts.sort_of_symbol theories name.now (look_up (abbreviations_of self.now) name.now) }
     {
-        match self.get(name) {
-            Some(named) => Ok(named.sort),
-            None => sort_of_word(self.theories, name),
+        match sort_of_word(theories, name) {
+            Ok(sort) => Ok(sort),
+            Err(flaw) => match self.get(name) {
+                Some(named) => Ok(named.sort),
+                None => Err(flaw),
+            },
         }
+    }
+}
+
+/// What is found of a tree before its parts are read: what it names, or the trees of the indexes and of the elements
+/// of a sort of arrays.
+#[derive(Clone, Copy)]
+pub(crate) enum Begun<'a> {
+    Found(Result<Sort, TermFlaw>),
+    Parts(Tree<'a>, Tree<'a>),
+}
+
+// A sort of arrays that waits for a part: the tree of its elements, and the sort of its indexes, once that is known.
+#[derive(Clone, Copy)]
+struct Waiting<'a> {
+    element: Tree<'a>,
+    index: Option<Sort>,
+}
+
+// What is known of a part: the tree that is to be read, or the sort that it names.
+#[derive(Clone, Copy)]
+enum Step<'a> {
+    Read(Tree<'a>),
+    Named(Sort),
+}
+
+// Why a tree names no sort: its first fault, and the part that has it. A sort of arrays that can't be made is a fault
+// of the whole.
+#[derive(Clone, Copy)]
+struct Refusal<'a> {
+    fault: TermFault,
+    part: Tree<'a>,
+}
+
+// Goes on with a sort of arrays whose part is of this sort. It waited behind the others that wait.
+fn go_on<'a>(
+    waiting: &mut Vec<Waiting<'a>>,
+    array: Waiting<'a>,
+    sort: Sort,
+) -> Result<Step<'a>, TermFault>
+    ensures next { (names : sorts.SortNames) (whole : Result theory.Sort TermFlaw)
+        → ComesTo names whole (waiting.old.items ++ array.entry ∷ []) (Named sort)
+        → MatchResult result (ComesTo names whole waiting.new.items) (Tells whole) }
+    ensures less { IfOk result (λ step. work_left waiting.new.items step
+        < work_left (waiting.old.items ++ array.entry ∷ []) (Named sort)) }
+{
+    match array.index {
+        Some(index) => Ok(Step::Named(array_of(index, sort)?)),
+        None => {
+            wait(waiting, array.element, Some(sort))?;
+            Ok(Step::Read(array.element))
+        }
+    }
+}
+
+// Makes a sort of arrays wait behind the others, with the tree of its elements and what is known of its indexes.
+fn wait<'a>(
+    waiting: &mut Vec<Waiting<'a>>,
+    element: Tree<'a>,
+    index: Option<Sort>,
+) -> Result<(), Memory>
+    ensures { OnOk result (waiting.new.items
+        ≡ waiting.old.items ++ (record { element = element.entry; index = index }) ∷ []) }
+{
+    match waiting.push(Waiting { element, index }) {
+        Ok(()) => Ok(()),
+        Err(_) => Err(Memory),
+    }
+}
+
+// The sort of arrays with these indexes and elements; `Memory` where there is no room for the numbers of their sorts.
+fn array_of(index: Sort, element: Sort) -> Result<Sort, TermFault>
+    ensures { IsOutcome (λ sort. sort) (sorts.array_of index element) result }
+{
+    if is_array(index) || is_nested(element) {
+        return Err(TermFault::Unsupported);
+    }
+    match Sort::array(index, element) {
+        Some(sort) => Ok(sort),
+        None => Err(TermFault::Memory),
+    }
+}
+
+fn is_array(sort: Sort) -> bool
+    ensures { result ≡ sorts.is_array sort }
+{
+    sort.array_parts().is_some()
+}
+
+// Whether a sort is one of arrays whose elements are arrays.
+fn is_nested(sort: Sort) -> bool
+    ensures { result ≡ sorts.is_nested sort }
+{
+    match sort.array_parts() {
+        Some((_, element)) => is_array(element),
+        None => false,
     }
 }
 
@@ -245,23 +425,86 @@ pub(crate) fn numerals(theories: Theories) -> Result<Sort, TermFlaw>
     }
 }
 
-// The sort that a list with these parts names.
-fn sort_of_list(theories: Theories, parts: Trees<'_>) -> Result<Sort, TermFlaw>
-    ensures { result ≡ sorts.sort_of_list theories (sexps_of parts.entry) }
+// What a list of these parts names, or the trees of the parts of a sort of arrays.
+fn begin_list<'a>(theories: Theories, parts: Trees<'a>) -> Begun<'a>
+    ensures { (names : sorts.SortNames) → names.theories ≡ theories
+        → IsBegun names (Items (sexps_of parts.entry)) result }
 {
     match parts.split_first() {
-        Some((Tree::Reserved(Word::Underscore), rest)) => indexed_sort(theories, rest),
-        Some((Tree::Symbol(name), rest)) => {
-            if is_named(name, b"Array") {
-                Err(TermFlaw::Unsupported)
-            } else if rest.split_first().is_some() {
-                Err(TermFlaw::Unknown)
-            } else {
-                Err(TermFlaw::Form)
-            }
+        Some((Tree::Symbol(name), args)) => begin_named(theories, name, args),
+        Some((Tree::Reserved(Word::Underscore), rest)) => {
+            Begun::Found(indexed_sort(theories, rest))
         }
-        _ => Err(TermFlaw::Form),
+        _ => Begun::Found(Err(TermFlaw::Form)),
     }
+}
+
+// The same of a list that begins with this symbol, by the trees after it.
+fn begin_named<'a>(theories: Theories, name: &[u8], args: Trees<'a>) -> Begun<'a>
+    ensures { (names : sorts.SortNames) → names.theories ≡ theories
+        → IsBegun names (Items (Cons (Atom Symbol name.now) (sexps_of args.entry))) result }
+{
+    match two_trees(args) {
+        Some((first, second)) => begin_pair(theories, name, first, second),
+        None => Begun::Found(Err(list_flaw(theories, name, args))),
+    }
+}
+
+// The same where two trees stand after the symbol.
+fn begin_pair<'a>(
+    theories: Theories,
+    name: &[u8],
+    first: Tree<'a>,
+    second: Tree<'a>,
+) -> Begun<'a>
+    ensures { (names : sorts.SortNames) → names.theories ≡ theories
+        → IsBegun names (Items (Cons (Atom Symbol name.now)
+        (Cons (sexp_of first.entry) (Cons (sexp_of second.entry) Nil)))) result }
+{
+    if !is_named(name, b"Array") {
+        return Begun::Found(Err(TermFlaw::Unknown));
+    }
+    if !theories.wide {
+        return Begun::Found(Err(TermFlaw::Unsupported));
+    }
+    if !theories.arrays {
+        return Begun::Found(Err(TermFlaw::Unknown));
+    }
+    Begun::Parts(first, second)
+}
+
+// What is wrong with a list of a symbol and other trees than two, where a sort is wanted.
+fn list_flaw(theories: Theories, name: &[u8], args: Trees<'_>) -> TermFlaw
+    ensures { sorts.sort_of_list theories (Cons (Atom Symbol name.now) (sexps_of args.entry)) ≡ Err result }
+{
+    if is_named(name, b"Array") {
+        if theories.wide {
+            TermFlaw::Form
+        } else {
+            TermFlaw::Unsupported
+        }
+    } else if args.split_first().is_some() {
+        TermFlaw::Unknown
+    } else {
+        TermFlaw::Form
+    }
+}
+
+// The trees, if they are two.
+fn two_trees<'a>(trees: Trees<'a>) -> Option<(Tree<'a>, Tree<'a>)>
+    ensures { MatchOption result (are_two (sexps_of trees.entry) ≡ false)
+        (λ p. sexps_of trees.entry ≡ Cons (sexp_of p.0) (Cons (sexp_of p.1) Nil)) }
+{
+    let Some((first, rest)) = trees.split_first() else {
+        return None;
+    };
+    let Some((second, rest)) = rest.split_first() else {
+        return None;
+    };
+    if rest.split_first().is_some() {
+        return None;
+    }
+    Some((first, second))
 }
 
 // The sort `(_ symbol index ..)`, from the parts after the `_`.

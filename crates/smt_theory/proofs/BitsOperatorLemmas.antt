@@ -9,7 +9,7 @@ use Rattle.std.proofs.Math.Pow.{pow_mono}
 use Rattle.std.proofs.lemmas.Slice.Eq.{bytes_eq-Decides}
 use Rattle.smt_theory.proofs.DigitLemmas.{large_below_word}
 use Rattle.smt_theory.proofs.LookUpLemmas.{map-some, ok_or-Ok}
-use Rattle.smt_theory.specs.Bits.{AreInRange, IsBitsName, added_op, bits_indexes}
+use Rattle.smt_theory.specs.Bits.{AreInRange, IsBitsName, bits_indexes}
 use Rattle.smt_theory.specs.Bits.{bits_named, constant_by, conversion_plain}
 use Rattle.smt_theory.specs.Bits.{constant_digits, extract_by, indexed_bits, indexed_constant}
 use Rattle.smt_theory.specs.Bits.{has_bits_op, has_conversions, named_among, only_number, only_width, overflow_plain}
@@ -18,6 +18,8 @@ use Rattle.smt_theory.specs.Numbers.{below_word, is_numeral}
 use Rattle.smt_theory.specs.Core.{core_named}
 use Rattle.smt_theory.specs.Ints.{divisible_by, ints_named}
 use Rattle.smt_theory.specs.Operators.{op_by}
+use Rattle.smt_theory.specs.declared.op.Op.{Op}
+use Rattle.smt_theory.specs.Arrays.{arrays_named}
 use Rattle.smt_theory.specs.Reals.{reals_named}
 use Rattle.smt_theory.specs.Width.{width_of}
 use Rattle.smt_theory.specs.Index.{IndexView}
@@ -297,22 +299,26 @@ overflows_of theories h = by theories.wide theories.bits h
     by true false h = cc
     by false bits h = cc
 
--- a name that no theory of every profile has, nor the theory Reals
+-- a name that no theory of every profile has, nor the theories Reals and ArraysEx
 abbrev IsOther : List ℕ → Type 0
 IsOther symbol = (core_named symbol ≡ None) × (ints_named symbol ≡ None) × (bits_named symbol ≡ None)
-    × (reals_named symbol ≡ None)
+    × (reals_named symbol ≡ None) × (arrays_named symbol ≡ None)
+
+no_array : (b : Bool) → cond {A = Option Op} b None None ≡ None
+no_array true = refl
+no_array false = refl
 
 overflow_found : (theories : Theories) (symbol : List ℕ) (op : BitsOp) → IsTrue (theories.wide && theories.bits)
     → IsOther symbol → named_among overflow_plain symbol ≡ Some op → op_by theories symbol [] ≡ Ok (Bits op)
 overflow_found theories symbol op here other is =
-    let there = overflows_of theories here in rw (other.0, other.1, other.2, other.3, there.0, there.1, is) refl
+    let there = overflows_of theories here in rw (other.0, other.1, other.2, other.3, other.4, no_array theories.arrays, there.0, there.1, is) refl
 
 conversion_found : (theories : Theories) (symbol : List ℕ) (op : BitsOp) → IsTrue (has_conversions theories)
     → IsOther symbol → named_among overflow_plain symbol ≡ None → named_among conversion_plain symbol ≡ Some op
     → op_by theories symbol [] ≡ Ok (Bits op)
 conversion_found theories symbol op here other none is =
     let there = conversions_of theories here in
-    rw (other.0, other.1, other.2, other.3, there.0, there.1, there.2, none, is) refl
+    rw (other.0, other.1, other.2, other.3, other.4, no_array theories.arrays, there.0, there.1, there.2, none, is) refl
 
 -- of n bits of an integer
 from_int_found : (theories : Theories) (symbol : List ℕ) (make : ℕ → BitsOp) (n : ℕ)
@@ -338,13 +344,13 @@ bits_found theories symbol (Unary Not) here range h =
 bits_found theories symbol (Unary Negate) here range h =
     rw h (plain_found theories (codes "bvneg") (Unary Negate) here refl refl refl)
 bits_found theories symbol (Unary NegateOverflows) here range h =
-    rw h (overflow_found theories (codes "bvnego") (Unary NegateOverflows) here (refl, refl, refl, refl) refl)
+    rw h (overflow_found theories (codes "bvnego") (Unary NegateOverflows) here (refl, refl, refl, refl, refl) refl)
 bits_found theories symbol (Unary ToInt) here range h =
-    rw h (conversion_found theories (codes "ubv_to_int") (Unary ToInt) here (refl, refl, refl, refl) refl refl)
+    rw h (conversion_found theories (codes "ubv_to_int") (Unary ToInt) here (refl, refl, refl, refl, refl) refl refl)
 bits_found theories symbol (Unary ToIntOlder) here range h =
-    rw h (conversion_found theories (codes "bv2nat") (Unary ToIntOlder) here (refl, refl, refl, refl) refl refl)
+    rw h (conversion_found theories (codes "bv2nat") (Unary ToIntOlder) here (refl, refl, refl, refl, refl) refl refl)
 bits_found theories symbol (Unary SignedToInt) here range h =
-    rw h (conversion_found theories (codes "sbv_to_int") (Unary SignedToInt) here (refl, refl, refl, refl) refl refl)
+    rw h (conversion_found theories (codes "sbv_to_int") (Unary SignedToInt) here (refl, refl, refl, refl, refl) refl refl)
 bits_found theories symbol (Folded And) here range h =
     rw h (plain_found theories (codes "bvand") (Folded And) here refl refl refl)
 bits_found theories symbol (Folded Or) here range h =
@@ -396,19 +402,19 @@ bits_found theories symbol (Comparison SignedGreater) here range h =
 bits_found theories symbol (Comparison SignedAtLeast) here range h =
     rw h (plain_found theories (codes "bvsge") (Comparison SignedAtLeast) here refl refl refl)
 bits_found theories symbol (Comparison UnsignedAddOverflows) here range h =
-    rw h (overflow_found theories (codes "bvuaddo") (Comparison UnsignedAddOverflows) here (refl, refl, refl, refl) refl)
+    rw h (overflow_found theories (codes "bvuaddo") (Comparison UnsignedAddOverflows) here (refl, refl, refl, refl, refl) refl)
 bits_found theories symbol (Comparison SignedAddOverflows) here range h =
-    rw h (overflow_found theories (codes "bvsaddo") (Comparison SignedAddOverflows) here (refl, refl, refl, refl) refl)
+    rw h (overflow_found theories (codes "bvsaddo") (Comparison SignedAddOverflows) here (refl, refl, refl, refl, refl) refl)
 bits_found theories symbol (Comparison UnsignedMultiplyOverflows) here range h =
-    rw h (overflow_found theories (codes "bvumulo") (Comparison UnsignedMultiplyOverflows) here (refl, refl, refl, refl) refl)
+    rw h (overflow_found theories (codes "bvumulo") (Comparison UnsignedMultiplyOverflows) here (refl, refl, refl, refl, refl) refl)
 bits_found theories symbol (Comparison SignedMultiplyOverflows) here range h =
-    rw h (overflow_found theories (codes "bvsmulo") (Comparison SignedMultiplyOverflows) here (refl, refl, refl, refl) refl)
+    rw h (overflow_found theories (codes "bvsmulo") (Comparison SignedMultiplyOverflows) here (refl, refl, refl, refl, refl) refl)
 bits_found theories symbol (Comparison UnsignedSubtractOverflows) here range h =
-    rw h (overflow_found theories (codes "bvusubo") (Comparison UnsignedSubtractOverflows) here (refl, refl, refl, refl) refl)
+    rw h (overflow_found theories (codes "bvusubo") (Comparison UnsignedSubtractOverflows) here (refl, refl, refl, refl, refl) refl)
 bits_found theories symbol (Comparison SignedSubtractOverflows) here range h =
-    rw h (overflow_found theories (codes "bvssubo") (Comparison SignedSubtractOverflows) here (refl, refl, refl, refl) refl)
+    rw h (overflow_found theories (codes "bvssubo") (Comparison SignedSubtractOverflows) here (refl, refl, refl, refl, refl) refl)
 bits_found theories symbol (Comparison SignedDivideOverflows) here range h =
-    rw h (overflow_found theories (codes "bvsdivo") (Comparison SignedDivideOverflows) here (refl, refl, refl, refl) refl)
+    rw h (overflow_found theories (codes "bvsdivo") (Comparison SignedDivideOverflows) here (refl, refl, refl, refl, refl) refl)
 bits_found theories symbol Comp here range h =
     rw h (plain_found theories (codes "bvcomp") Comp here refl refl refl)
 bits_found theories symbol (ZeroExtend i) here range h =

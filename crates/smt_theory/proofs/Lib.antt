@@ -8,3 +8,4 @@ pub mod RankLemmas
 pub mod MisfitLemmas
 pub mod WideLemmas
 mod DigitTableLemmas
+pub mod SortLemmas

@@ -8,11 +8,11 @@ use Rattle.std.proofs.lemmas.List.{length-map}
 use Rattle.std.proofs.lemmas.List.Sums.{AllPass-from_list_all, position_or_len_is}
 use Rattle.smt_theory.specs.Misfits.{argument, argument_misfit, counts_of, first_no_number, first_other}
 use Rattle.smt_theory.specs.Misfits.{first_other_width}
-use Rattle.smt_theory.specs.Misfits.{is_bits, misfit_by, unless_ranked}
+use Rattle.smt_theory.specs.Misfits.{is_bits, misfit_by, other_at, unless_ranked}
 use Rattle.smt_theory.specs.Shapes.{AreNumbers, AreOf, HasShape, IsNumber, all_are, branch_sort, counts, rank_by}
 use Rattle.smt_theory.specs.Shapes.{takes_count}
 use Rattle.std.specs.Bool.{then_some}
-use Rattle.smt_theory.specs.Sort.{Sort, Boolean, Int, Real, Bits, is_number, is_same_sort}
+use Rattle.smt_theory.specs.Sort.{Sort, Boolean, Int, Real, Bits, Array, is_number, is_same_sort}
 use Rattle.smt_theory.specs.declared.misfits.RankFlaw.{RankFlaw}
 use Rattle.smt_theory.specs.declared.misfits.RankFlaw.TheVariants.{Argument}
 use Rattle.smt_theory.specs.declared.misfits.Wanted.TheVariants.{Only, AnyBits}
@@ -20,7 +20,8 @@ use Rattle.smt_theory.specs.declared.shapes.Arity.{Arity}
 use Rattle.smt_theory.specs.declared.shapes.Arity.TheVariants.{Several}
 use Rattle.smt_theory.specs.declared.shapes.Shape.{Shape}
 use Rattle.smt_theory.specs.declared.shapes.Shape.TheVariants.{Constant, Uniform, Calculated, Numbers, Alike}
-use Rattle.smt_theory.specs.declared.shapes.Shape.TheVariants.{Choice, Vectors, Joined, OutOfRange}
+use Rattle.smt_theory.specs.declared.shapes.Shape.TheVariants.{Choice, Vectors, Joined, Selected, Stored, Filled}
+use Rattle.smt_theory.specs.declared.shapes.Shape.TheVariants.{OutOfRange}
 use Rattle.smt_theory.proofs.RankLemmas.{are_numbers-Decides, are_of-Decides, both, first_is, is_same_sort-Decides}
 use Rattle.smt_theory.proofs.RankLemmas.{is_number-Decides, nat_le-Decides}
 use Rattle.smt_theory.proofs.RankLemmas.{shape-row}
@@ -131,6 +132,10 @@ width_fits arity m (a ∷ args) h =
     first : a ≡ Bits m
     first = first_is arity (Bits m) a args h
 
+-- a sort is none other than itself
+not_other : (place : ℕ) (sort : Sort) → other_at place sort sort ≡ None
+not_other place sort = ap (λ b. cond b None (Some (Argument place (Only sort)))) (is_same_self sort)
+
 fits : (shape : Shape) (args : List Sort) (sort : Sort) → HasShape shape args sort → Fits shape args
 fits (Constant given) args sort h = subst (Fits (Constant given)) (sym h.0) (refl, refl)
 fits (Uniform arity of given) args sort h = none_but arity of args h.0
@@ -155,6 +160,12 @@ fits Joined args sort h =
       ap (nat_le 2) (length-map h.0 Bits) ∙ (nat_le-Decides 2 (length h.0)).1 h.2,
       ap (option_map (argument AnyBits)) (none_other is_bits (map Bits h.0) (all_bits h.0)),
     )
+fits Selected args sort h = subst (Fits Selected) (sym h.1) (refl, not_other 1 h.0)
+fits Stored args sort h =
+    subst (Fits Stored) (sym h.2) (refl, ap (λ r. option_or r (other_at 2 h.1 h.1)) (not_other 1 h.0) ∙ not_other 2 h.1)
+fits (Filled given) args sort h =
+    subst (λ (g : Sort). Fits (Filled g) args) (sym h.2)
+    (subst (Fits (Filled (Array h.0 h.1))) (sym h.3) (refl, not_other 0 h.1))
 fits OutOfRange args sort h = absurd h
 
 -- ---- nothing is told exactly where there is a rank

@@ -20,7 +20,7 @@ use Rattle.smt_theory.specs.declared.op.BitsOp.TheVariants.{ZeroExtend, SignExte
 use Rattle.smt_theory.specs.declared.op.BitsOp.TheVariants.{FromInt, FromIntOlder}
 use Rattle.smt_theory.specs.declared.op.IntsOp.TheVariants.{Arithmetic, Comparison, Mod, Abs, Divisible}
 use Rattle.smt_theory.specs.declared.op.Op.{Op}
-use Rattle.smt_theory.specs.declared.op.Op.TheVariants.{Core, Ints, Reals, Bits}
+use Rattle.smt_theory.specs.declared.op.Op.TheVariants.{Core, Ints, Reals, Bits, Arrays}
 use Rattle.smt_theory.specs.declared.op.OpFault.{OpFault}
 use Rattle.smt_theory.specs.declared.op.OpFault.TheVariants.{Unknown, Index as WrongIndex}
 use Rattle.smt_theory.specs.declared.theories.Theories.{Theories}
@@ -35,6 +35,7 @@ of_theories theories (Ints Abs) h = h
 of_theories theories (Ints (Divisible n)) h = rw h.0 refl
 of_theories theories (Reals op) h = h
 of_theories theories (Bits op) h = h.0
+of_theories theories (Arrays op) h = h
 
 plain_in_range : (op : BitsOp) → bits_indexes op ≡ [] → AreInRange op
 plain_in_range (Constant number width) e = cc
@@ -63,6 +64,7 @@ plain_of theories (Ints Abs) h e = h
 plain_of theories (Ints (Divisible n)) h e = cc
 plain_of theories (Reals op) h e = h
 plain_of theories (Bits op) h e = (h, plain_in_range op e)
+plain_of theories (Arrays op) h e = h
 
 -- ---- without indexes
 
@@ -168,6 +170,7 @@ named_made theories symbol indexes name = by name.0 name.1 name.2 name.3
     by (Ints (Divisible n)) of is some = rw (is, with_ints theories n of) (divisible_by indexes, refl)
     by (Reals op) of is some = absurd (some refl)
     by (Bits op) of is some = bits_named_made theories symbol op indexes of is some
+    by (Arrays op) of is some = absurd (some refl)
 
 -- ---- any other name is unknown
 

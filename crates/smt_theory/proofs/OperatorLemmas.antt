@@ -4,6 +4,9 @@ use Rattle.std.proofs.Common.{Some, None, Result, Ok, Err, length, map, nat_eq, 
 use Rattle.std.proofs.Common.{rules}
 use Rattle.std.specs.Prelude.{IsTrue, bytes_eq, codes, option_map, ok_or}
 use Rattle.std.specs.Option.{option_or}
+use Rattle.smt_theory.specs.Arrays.{IsArraysName, arrays_name, arrays_named, arrays_plain}
+use Rattle.smt_theory.specs.declared.op.ArraysOp.{ArraysOp}
+use Rattle.smt_theory.specs.declared.op.ArraysOp.TheVariants.{Select, Store, Const}
 use Rattle.smt_theory.specs.declared.op.RealsOp.{RealsOp}
 use Rattle.smt_theory.specs.declared.op.RealsOp.TheVariants.{Divide, ToReal, ToInt, IsInt}
 use Rattle.std.proofs.lemmas.Slice.Eq.{bytes_eq-Decides}
@@ -32,7 +35,7 @@ use Rattle.smt_theory.specs.declared.op.CoreOp.TheVariants.{Distinct, Ite}
 use Rattle.smt_theory.specs.declared.op.IntsOp.{IntsOp}
 use Rattle.smt_theory.specs.declared.op.IntsOp.TheVariants.{Arithmetic, Comparison, Mod, Abs, Divisible}
 use Rattle.smt_theory.specs.declared.op.Op.{Op}
-use Rattle.smt_theory.specs.declared.op.Op.TheVariants.{Core, Ints, Reals, Bits}
+use Rattle.smt_theory.specs.declared.op.Op.TheVariants.{Core, Ints, Reals, Bits, Arrays}
 use Rattle.smt_theory.specs.declared.op.OpFault.{OpFault}
 use Rattle.smt_theory.specs.declared.op.OpFault.TheVariants.{Unknown, Index as WrongIndex}
 use Rattle.smt_theory.specs.declared.theories.Theories.{Theories}
@@ -81,6 +84,18 @@ reals_own theories symbol op h =
     let passed = passes-some (has_reals_op theories) (reals_named symbol) found.0 found.1 in
     let own = find_named reals_name (λ _. Unit {0}) symbol reals_plain found.0 (search rules) passed.1 in
     subst (λ op. IsFound theories symbol [] op) found.2 (passed.0, own.0, refl)
+
+-- an operator on arrays that a symbol names is named so
+abbrev IsPlainArrays : ArraysOp → Type 0
+IsPlainArrays op = (symbol : List ℕ) → symbol ≡ arrays_name op → IsArraysName op symbol
+
+arrays_own : (theories : Theories) (symbol : List ℕ) (op : Op) → theories.arrays ≡ true
+    → option_map Arrays (arrays_named symbol) ≡ Some op → IsFound theories symbol [] op
+arrays_own theories symbol op there h =
+    let found = map-some Arrays (arrays_named symbol) op h in
+    let own = find_named arrays_name IsPlainArrays symbol arrays_plain found.0
+    ((λ s e. e), ((λ s e. e), tt)) found.1 in
+    subst (λ op. IsFound theories symbol [] op) found.2 (there, own.1 symbol own.0, refl)
 
 -- a plain operator on bit vectors is in range without indexes, and is there where this is so of the theories
 abbrev IsPlainBits : (Theories → Bool) → BitsOp → Type 0
@@ -147,7 +162,11 @@ plain_own theories symbol op h =
               in bits_own theories symbol op own.0 own.1)
           | inr e ↦ elim (option_or-some (option_map Reals (if_passes (has_reals_op theories) (reals_named symbol))) _ op e) [
             | inl e ↦ reals_own theories symbol op e
-            | inr e ↦ added_own theories symbol op e
+            | inr e ↦ elim (option_or-some (cond theories.arrays (option_map Arrays (arrays_named symbol)) None) _ op e) [
+              | inl e ↦ (let own = when-some theories.arrays (option_map Arrays (arrays_named symbol)) op e
+                  in arrays_own theories symbol op own.0 own.1)
+              | inr e ↦ added_own theories symbol op e
+            ]
           ]
         ]
       ]
@@ -248,7 +267,7 @@ reals_found theories Divide h = by theories.ints theories.bits
   where
     by : (ints bits : Bool) → ok_or (option_or (option_map Ints (if_passes (λ op. ints || theories.reals && is_of_reals op) None))
         (option_or (cond bits None None) (option_or (option_map Reals (if_passes (has_reals_op theories) (Some Divide)))
-        (option_map Bits (added_op theories (codes "/")))))) Unknown ≡ Ok (Reals Divide)
+        (option_or (cond theories.arrays None None) (option_map Bits (added_op theories (codes "/"))))))) Unknown ≡ Ok (Reals Divide)
     by true true = rw h refl
     by true false = rw h refl
     by false true = rw h refl
@@ -257,23 +276,41 @@ reals_found theories ToReal h = by theories.bits
   where
     by : (bits : Bool) → ok_or (option_or (cond bits None None)
         (option_or (option_map Reals (if_passes (has_reals_op theories) (Some ToReal)))
-        (option_map Bits (added_op theories (codes "to_real"))))) Unknown ≡ Ok (Reals ToReal)
+        (option_or (cond theories.arrays None None) (option_map Bits (added_op theories (codes "to_real")))))) Unknown ≡ Ok (Reals ToReal)
     by true = rw h refl
     by false = rw h refl
 reals_found theories ToInt h = by theories.bits
   where
     by : (bits : Bool) → ok_or (option_or (cond bits None None)
         (option_or (option_map Reals (if_passes (has_reals_op theories) (Some ToInt)))
-        (option_map Bits (added_op theories (codes "to_int"))))) Unknown ≡ Ok (Reals ToInt)
+        (option_or (cond theories.arrays None None) (option_map Bits (added_op theories (codes "to_int")))))) Unknown ≡ Ok (Reals ToInt)
     by true = rw h refl
     by false = rw h refl
 reals_found theories IsInt h = by theories.bits
   where
     by : (bits : Bool) → ok_or (option_or (cond bits None None)
         (option_or (option_map Reals (if_passes (has_reals_op theories) (Some IsInt)))
-        (option_map Bits (added_op theories (codes "is_int"))))) Unknown ≡ Ok (Reals IsInt)
+        (option_or (cond theories.arrays None None) (option_map Bits (added_op theories (codes "is_int")))))) Unknown ≡ Ok (Reals IsInt)
     by true = rw h refl
     by false = rw h refl
+
+arrays_found : (theories : Theories) (op : ArraysOp) (symbol : List ℕ) → IsTrue theories.arrays → IsArraysName op symbol
+    → op_by theories symbol [] ≡ Ok (Arrays op)
+arrays_found theories Select symbol h is = rw is (by theories.bits)
+  where
+    by : (bits : Bool) → ok_or (option_or (cond bits None None)
+        (option_or (cond theories.arrays (Some (Arrays Select)) None) (option_map Bits (added_op theories (codes "select")))))
+        Unknown ≡ Ok (Arrays Select)
+    by true = rw h refl
+    by false = rw h refl
+arrays_found theories Store symbol h is = rw is (by theories.bits)
+  where
+    by : (bits : Bool) → ok_or (option_or (cond bits None None)
+        (option_or (cond theories.arrays (Some (Arrays Store)) None) (option_map Bits (added_op theories (codes "store")))))
+        Unknown ≡ Ok (Arrays Store)
+    by true = rw h refl
+    by false = rw h refl
+arrays_found theories (Const sort) symbol h is = absurd is
 
 pub op_by-name : (theories : Theories) (symbol : List ℕ) (indexes : List IndexView) (op : Op)
     → IsOperatorOf theories op × IsNameOf op symbol × (indexes ≡ indexes_of op)
@@ -281,4 +318,5 @@ pub op_by-name : (theories : Theories) (symbol : List ℕ) (indexes : List Index
 op_by-name theories symbol indexes (Core op) h = rw (h.1, h.2) (core_found theories op)
 op_by-name theories symbol indexes (Ints op) h = rw (h.1, h.2) (ints_found theories op h.0)
 op_by-name theories symbol indexes (Reals op) h = rw (h.1, h.2) (reals_found theories op h.0)
+op_by-name theories symbol indexes (Arrays op) h = rw h.2 (arrays_found theories op symbol h.0 h.1)
 op_by-name theories symbol indexes (Bits op) h = rw h.2 (bits_found theories symbol op h.0.0 h.0.1 h.1)

@@ -11,17 +11,18 @@ use Rattle.std.proofs.lemmas.List.Sums.{AllPass-from_list_all, list_all-from_All
 use Rattle.std.proofs.lemmas.Slice.Eq.{slice_eq-Decides}
 use Rattle.smt_theory.specs.Shapes.{AreNumbers, AreOf, HasShape, IsCount, IsMade, IsNumber, all_are, are_alike}
 use Rattle.smt_theory.specs.Shapes.{are_exactly, are_numbers, are_of, calculated_rank, choice_rank, counts}
-use Rattle.smt_theory.specs.Shapes.{takes_count}
+use Rattle.smt_theory.specs.Shapes.{filled_rank, selected_rank, stored_rank, takes_count}
 use Rattle.smt_theory.specs.Shapes.{common_width, joined_width, made_by, rank_by, slice_width, times_width}
 use Rattle.smt_theory.specs.Shapes.{width_behind, within_limit}
-use Rattle.smt_theory.specs.Sort.{Sort, Boolean, Int, Real, Bits, Free, is_number, is_same_sort}
+use Rattle.smt_theory.specs.Sort.{Sort, Boolean, Int, Real, Bits, Free, Array, is_number, is_same_sort}
 use Rattle.smt_theory.specs.declared.shapes.Arity.{Arity}
 use Rattle.smt_theory.specs.declared.shapes.Arity.TheVariants.{One, Two, OneOrMore, Several}
 use Rattle.smt_theory.specs.declared.shapes.Made.{Made}
 use Rattle.smt_theory.specs.declared.shapes.Made.TheVariants.{Same, Given, Slice, Times, Longer}
 use Rattle.smt_theory.specs.declared.shapes.Shape.{Shape}
 use Rattle.smt_theory.specs.declared.shapes.Shape.TheVariants.{Constant, Uniform, Calculated, Numbers, Alike}
-use Rattle.smt_theory.specs.declared.shapes.Shape.TheVariants.{Choice, Vectors, Joined, OutOfRange}
+use Rattle.smt_theory.specs.declared.shapes.Shape.TheVariants.{Choice, Vectors, Joined, Selected, Stored, Filled}
+use Rattle.smt_theory.specs.declared.shapes.Shape.TheVariants.{OutOfRange}
 
 pub is_same_sort-Decides : (a b : Sort) → Decides (is_same_sort a b) (a ≡ b)
 is_same_sort-Decides Boolean Boolean = (λ _. refl, λ _. refl)
@@ -29,26 +30,42 @@ is_same_sort-Decides Boolean Int = (λ h. cc, λ h. cc)
 is_same_sort-Decides Boolean Real = (λ h. cc, λ h. cc)
 is_same_sort-Decides Boolean (Bits n) = (λ h. cc, λ h. cc)
 is_same_sort-Decides Boolean (Free n) = (λ h. cc, λ h. cc)
+is_same_sort-Decides Boolean (Array i e) = (λ h. cc, λ h. cc)
 is_same_sort-Decides Int Boolean = (λ h. cc, λ h. cc)
 is_same_sort-Decides Int Int = (λ _. refl, λ _. refl)
 is_same_sort-Decides Int Real = (λ h. cc, λ h. cc)
 is_same_sort-Decides Int (Bits n) = (λ h. cc, λ h. cc)
 is_same_sort-Decides Int (Free n) = (λ h. cc, λ h. cc)
+is_same_sort-Decides Int (Array i e) = (λ h. cc, λ h. cc)
 is_same_sort-Decides Real Boolean = (λ h. cc, λ h. cc)
 is_same_sort-Decides Real Int = (λ h. cc, λ h. cc)
 is_same_sort-Decides Real Real = (λ _. refl, λ _. refl)
 is_same_sort-Decides Real (Bits n) = (λ h. cc, λ h. cc)
 is_same_sort-Decides Real (Free n) = (λ h. cc, λ h. cc)
+is_same_sort-Decides Real (Array i e) = (λ h. cc, λ h. cc)
 is_same_sort-Decides (Bits m) Boolean = (λ h. cc, λ h. cc)
 is_same_sort-Decides (Bits m) Int = (λ h. cc, λ h. cc)
 is_same_sort-Decides (Bits m) Real = (λ h. cc, λ h. cc)
 is_same_sort-Decides (Bits m) (Bits n) = (λ h. ap Bits ((Decides-eqb m n).0 h), λ h. (Decides-eqb m n).1 (cc))
 is_same_sort-Decides (Bits m) (Free n) = (λ h. cc, λ h. cc)
+is_same_sort-Decides (Bits m) (Array i e) = (λ h. cc, λ h. cc)
 is_same_sort-Decides (Free m) Boolean = (λ h. cc, λ h. cc)
 is_same_sort-Decides (Free m) Int = (λ h. cc, λ h. cc)
 is_same_sort-Decides (Free m) Real = (λ h. cc, λ h. cc)
 is_same_sort-Decides (Free m) (Bits n) = (λ h. cc, λ h. cc)
 is_same_sort-Decides (Free m) (Free n) = (λ h. ap Free ((Decides-eqb m n).0 h), λ h. (Decides-eqb m n).1 (cc))
+is_same_sort-Decides (Free m) (Array i e) = (λ h. cc, λ h. cc)
+is_same_sort-Decides (Array i e) Boolean = (λ h. cc, λ h. cc)
+is_same_sort-Decides (Array i e) Int = (λ h. cc, λ h. cc)
+is_same_sort-Decides (Array i e) Real = (λ h. cc, λ h. cc)
+is_same_sort-Decides (Array i e) (Bits n) = (λ h. cc, λ h. cc)
+is_same_sort-Decides (Array i e) (Free n) = (λ h. cc, λ h. cc)
+is_same_sort-Decides (Array i e) (Array j f) =
+    both_parts (is_same_sort i j) (is_same_sort e f) (is_same_sort-Decides i j) (is_same_sort-Decides e f)
+  where
+    both_parts : (p q : Bool) → Decides p (i ≡ j) → Decides q (e ≡ f) → Decides (p && q) (Array i e ≡ Array j f)
+    both_parts true q d g = (λ h. ap (λ s. Array s e) (d.0 refl) ∙ ap (Array j) (g.0 h), λ h. let p : e ≡ f = cc in g.1 p)
+    both_parts false q d g = (λ h. cc, λ h. let p : i ≡ j = cc in d.1 p)
 
 pub are_exactly-Decides : (sorts args : List Sort) → Decides (are_exactly sorts args) (args ≡ sorts)
 are_exactly-Decides sorts args =
@@ -62,7 +79,7 @@ Decides-and false q d e = (λ h. cc, λ h. d.1 h.0)
 pub nat_le-Decides : (m n : ℕ) → Decides (nat_le m n) (m ≤ n)
 nat_le-Decides m n = search rules
 
-nat_lt-Decides : (m n : ℕ) → Decides (nat_lt m n) (m < n)
+pub nat_lt-Decides : (m n : ℕ) → Decides (nat_lt m n) (m < n)
 nat_lt-Decides m n = search rules
 
 all_same-Decides : (sort : Sort) (args : List Sort) → Decides (all_are sort args) (All (λ arg. arg ≡ sort) args)
@@ -141,6 +158,7 @@ is_number-Decides Int = (λ h. inl refl, λ h. refl)
 is_number-Decides Real = (λ h. inr refl, λ h. refl)
 is_number-Decides (Bits n) = (λ h. cc, λ h. elim h [ inl e ↦ cc | inr e ↦ cc ])
 is_number-Decides (Free n) = (λ h. cc, λ h. elim h [ inl e ↦ cc | inr e ↦ cc ])
+is_number-Decides (Array i f) = (λ h. cc, λ h. elim h [ inl e ↦ cc | inr e ↦ cc ])
 
 all_numbers-Decides : (args : List Sort) → Decides (list_all is_number args) (All IsNumber args)
 all_numbers-Decides args = (
@@ -266,6 +284,7 @@ common_width-is arity (Boolean ∷ args) m = (λ h. cc, λ h. let e = first_is a
 common_width-is arity (Int ∷ args) m = (λ h. cc, λ h. let e = first_is arity (Bits m) Int args h in cc)
 common_width-is arity (Real ∷ args) m = (λ h. cc, λ h. let e = first_is arity (Bits m) Real args h in cc)
 common_width-is arity (Free f ∷ args) m = (λ h. cc, λ h. let e = first_is arity (Bits m) (Free f) args h in cc)
+common_width-is arity (Array i f ∷ args) m = (λ h. cc, λ h. let e = first_is arity (Bits m) (Array i f) args h in cc)
 common_width-is arity (Bits n ∷ args) m =
     by (are_of arity (Bits n) (Bits n ∷ args)) (are_of-Decides arity (Bits n) (Bits n ∷ args))
   where
@@ -353,6 +372,7 @@ width_behind-own (Boolean ∷ args) before width h = cc
 width_behind-own (Int ∷ args) before width h = cc
 width_behind-own (Real ∷ args) before width h = cc
 width_behind-own (Free f ∷ args) before width h = cc
+width_behind-own (Array i f ∷ args) before width h = cc
 width_behind-own (Bits m ∷ args) before width h = by (nat_le (before + m) 128)
     (nat_le-Decides (before + m) 128).0 (width_behind-own args (before + m) width) h
   where
@@ -390,11 +410,13 @@ joined-own (Boolean ∷ args) width h = cc
 joined-own (Int ∷ args) width h = cc
 joined-own (Real ∷ args) width h = cc
 joined-own (Free f ∷ args) width h = cc
+joined-own (Array i f ∷ args) width h = cc
 joined-own (Bits m ∷ []) width h = cc
 joined-own (Bits m ∷ Boolean ∷ args) width h = cc
 joined-own (Bits m ∷ Int ∷ args) width h = cc
 joined-own (Bits m ∷ Real ∷ args) width h = cc
 joined-own (Bits m ∷ Free f ∷ args) width h = cc
+joined-own (Bits m ∷ Array i f ∷ args) width h = cc
 joined-own (Bits m ∷ Bits n ∷ args) width h = by (nat_le (m + n) 128) (nat_le-Decides (m + n) 128).0 h
   where
     by : (b : Bool) → (b ≡ true → m + n ≤ 128)
@@ -436,6 +458,87 @@ joined-row args sort = (
     own None e h = cc
     own (Some width) e h = let r = joined-own args width e in (r.0, r.1, r.2, r.3, (let is = r.4 in cc))
 
+-- ---- arrays
+
+selected-own : (args : List Sort) (sort : Sort) → selected_rank args ≡ Some sort → HasShape Selected args sort
+selected-own [] sort h = cc
+selected-own (Boolean ∷ args) sort h = cc
+selected-own (Int ∷ args) sort h = cc
+selected-own (Real ∷ args) sort h = cc
+selected-own (Bits m ∷ args) sort h = cc
+selected-own (Free f ∷ args) sort h = cc
+selected-own (Array i e ∷ []) sort h = cc
+selected-own (Array i e ∷ j ∷ k ∷ args) sort h = cc
+selected-own (Array i e ∷ j ∷ []) sort h = by (is_same_sort i j) (is_same_sort-Decides i j).0 h
+  where
+    by : (b : Bool) → (b ≡ true → i ≡ j) → then_some b e ≡ Some sort → HasShape Selected (Array i e ∷ j ∷ []) sort
+    by true same h =
+        let own : e ≡ sort = cc in
+        (i, ap (λ s. Array i s ∷ j ∷ []) own ∙ ap (λ k. Array i sort ∷ k ∷ []) (sym (same refl)))
+    by false same h = cc
+
+selected-row : (args : List Sort) (sort : Sort) → (selected_rank args ≡ Some sort) ↔ HasShape Selected args sort
+selected-row args sort = (
+  selected-own args sort,
+  λ h. rw h.1 (ap (λ b. then_some b sort) ((is_same_sort-Decides h.0 h.0).1 refl)),
+)
+
+stored-own : (args : List Sort) (sort : Sort) → stored_rank args ≡ Some sort → HasShape Stored args sort
+stored-own [] sort h = cc
+stored-own (Boolean ∷ args) sort h = cc
+stored-own (Int ∷ args) sort h = cc
+stored-own (Real ∷ args) sort h = cc
+stored-own (Bits m ∷ args) sort h = cc
+stored-own (Free f ∷ args) sort h = cc
+stored-own (Array i e ∷ []) sort h = cc
+stored-own (Array i e ∷ j ∷ []) sort h = cc
+stored-own (Array i e ∷ j ∷ f ∷ k ∷ args) sort h = cc
+stored-own (Array i e ∷ j ∷ f ∷ []) sort h =
+    by (is_same_sort i j) (is_same_sort e f) (is_same_sort-Decides i j).0 (is_same_sort-Decides e f).0 h
+  where
+    by : (b c : Bool) → (b ≡ true → i ≡ j) → (c ≡ true → e ≡ f) → then_some (b && c) (Array i e) ≡ Some sort
+        → HasShape Stored (Array i e ∷ j ∷ f ∷ []) sort
+    by true true same alike h = (
+      i,
+      e,
+      ap (λ k. Array i e ∷ k ∷ f ∷ []) (sym (same refl)) ∙ ap (λ k. Array i e ∷ i ∷ k ∷ []) (sym (alike refl)),
+      (let own : Array i e ≡ sort = cc in sym own),
+    )
+    by true false same alike h = cc
+    by false c same alike h = cc
+
+stored-row : (args : List Sort) (sort : Sort) → (stored_rank args ≡ Some sort) ↔ HasShape Stored args sort
+stored-row args sort = (
+  stored-own args sort,
+  λ h. rw (h.2, h.3)
+      (ap (λ b. then_some (b && is_same_sort h.1 h.1) (Array h.0 h.1)) ((is_same_sort-Decides h.0 h.0).1 refl)
+      ∙ ap (λ b. then_some b (Array h.0 h.1)) ((is_same_sort-Decides h.1 h.1).1 refl)),
+)
+
+filled-own : (given : Sort) (args : List Sort) (sort : Sort) → filled_rank given args ≡ Some sort
+    → HasShape (Filled given) args sort
+filled-own Boolean args sort h = cc
+filled-own Int args sort h = cc
+filled-own Real args sort h = cc
+filled-own (Bits m) args sort h = cc
+filled-own (Free f) args sort h = cc
+filled-own (Array i e) [] sort h = cc
+filled-own (Array i e) (f ∷ g ∷ args) sort h = cc
+filled-own (Array i e) (f ∷ []) sort h = by (is_same_sort e f) (is_same_sort-Decides e f).0 h
+  where
+    by : (b : Bool) → (b ≡ true → e ≡ f) → then_some b (Array i e) ≡ Some sort
+        → HasShape (Filled (Array i e)) (f ∷ []) sort
+    by true same h =
+        (i, e, refl, ap (λ k. k ∷ []) (sym (same refl)), (let own : Array i e ≡ sort = cc in sym own))
+    by false same h = cc
+
+filled-row : (given : Sort) (args : List Sort) (sort : Sort) → (filled_rank given args ≡ Some sort)
+    ↔ HasShape (Filled given) args sort
+filled-row given args sort = (
+  filled-own given args sort,
+  λ h. rw (h.4, h.3, h.2) (ap (λ b. then_some b (Array h.0 h.1)) ((is_same_sort-Decides h.1 h.1).1 refl)),
+)
+
 -- ---- all shapes
 
 pub shape-row : (shape : Shape) (args : List Sort) (sort : Sort) → (rank_by shape args ≡ Some sort)
@@ -450,6 +553,9 @@ shape-row Alike args sort =
 shape-row Choice args sort = choice-row args sort
 shape-row (Vectors arity made) args sort = vectors-row arity made args sort
 shape-row Joined args sort = joined-row args sort
+shape-row Selected args sort = selected-row args sort
+shape-row Stored args sort = stored-row args sort
+shape-row (Filled given) args sort = filled-row given args sort
 shape-row OutOfRange args sort = (λ h. cc, λ h. absurd h)
 
 -- what is computed has one answer, and so has a shape

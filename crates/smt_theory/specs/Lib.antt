@@ -1,5 +1,6 @@
 pub mod Width
 pub mod Sort
+pub mod SortKinds
 pub mod Words
 pub mod Theories
 pub mod Numbers
@@ -10,6 +11,7 @@ pub mod Core
 pub mod Ints
 pub mod Reals
 pub mod Bits
+pub mod Arrays
 pub mod Operators
 pub mod Ranks
 pub mod Misfits

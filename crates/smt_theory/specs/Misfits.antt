@@ -6,16 +6,17 @@ use Rattle.std.specs.List.{list_any, position}
 use Rattle.std.specs.Option.{option_or}
 use Rattle.smt_theory.specs.Ranks.{shape_of}
 use Rattle.smt_theory.specs.Shapes.{branch_sort, counts, rank_by, takes_count}
-use Rattle.smt_theory.specs.Sort.{Sort, Boolean, Int, Real, Bits, is_number, is_same_sort}
+use Rattle.smt_theory.specs.Sort.{Sort, Boolean, Int, Real, Bits, array_of_sort, is_number, is_same_sort}
 use Rattle.smt_theory.specs.declared.misfits.RankFlaw.{RankFlaw}
 use Rattle.smt_theory.specs.declared.misfits.RankFlaw.TheVariants.{Argument, Count, Widths}
 use Rattle.smt_theory.specs.declared.misfits.Wanted.{Wanted}
-use Rattle.smt_theory.specs.declared.misfits.Wanted.TheVariants.{Only, AnyBits}
+use Rattle.smt_theory.specs.declared.misfits.Wanted.TheVariants.{Only, AnyBits, AnyArray}
 use Rattle.smt_theory.specs.declared.op.Op.{Op}
 use Rattle.smt_theory.specs.declared.shapes.Arity.TheVariants.{Several}
 use Rattle.smt_theory.specs.declared.shapes.Shape.{Shape}
 use Rattle.smt_theory.specs.declared.shapes.Shape.TheVariants.{Constant, Uniform, Calculated, Numbers, Alike}
-use Rattle.smt_theory.specs.declared.shapes.Shape.TheVariants.{Choice, Vectors, Joined, OutOfRange}
+use Rattle.smt_theory.specs.declared.shapes.Shape.TheVariants.{Choice, Vectors, Joined, Selected, Stored, Filled}
+use Rattle.smt_theory.specs.declared.shapes.Shape.TheVariants.{OutOfRange}
 
 -- ---- numbers of arguments
 
@@ -29,6 +30,9 @@ counts_of Alike = counts Several
 counts_of Choice = (3, false)
 counts_of (Vectors arity made) = counts arity
 counts_of Joined = counts Several
+counts_of Selected = (2, false)
+counts_of Stored = (3, false)
+counts_of (Filled given) = (1, false)
 counts_of OutOfRange = (0, true)
 
 -- ---- arguments
@@ -79,6 +83,27 @@ first_other_width [] = None
 first_other_width (arg ∷ args) =
     if is_bits arg then first_other arg (arg ∷ args) else Some (Argument 0 AnyBits)
 
+-- the argument at a place, if it is of another sort
+abbrev pub other_at : ℕ → (wanted sort : Sort) → Option RankFlaw
+other_at place wanted sort = if is_same_sort wanted sort then None else Some (Argument place (Only wanted))
+
+-- an index, or else an element, of another sort than the array's
+abbrev pub misfit_behind_array : Option (Sort × Sort) → List Sort → Option RankFlaw
+misfit_behind_array (Some own) (index ∷ []) = other_at 1 own.0 index
+misfit_behind_array (Some own) (index ∷ element ∷ []) =
+    option_or (other_at 1 own.0 index) (other_at 2 own.1 element)
+misfit_behind_array _ _ = Some (Argument 0 AnyArray)
+
+-- what is no array, or what does not fit it
+abbrev pub misfit_with_array : List Sort → Option RankFlaw
+misfit_with_array [] = None
+misfit_with_array (sort ∷ rest) = misfit_behind_array (array_of_sort sort) rest
+
+-- an element of another sort than the array's
+abbrev pub misfit_in_filled : Option (Sort × Sort) → List Sort → Option RankFlaw
+misfit_in_filled (Some own) (element ∷ []) = other_at 0 own.1 element
+misfit_in_filled _ _ = None
+
 -- the first argument that does not fit
 abbrev pub argument_misfit : Shape → List Sort → Option RankFlaw
 argument_misfit (Constant given) args = None
@@ -89,6 +114,9 @@ argument_misfit Alike args = first_other_than_first args
 argument_misfit Choice args = misfit_in_choice args
 argument_misfit (Vectors arity made) args = first_other_width args
 argument_misfit Joined args = first_scalar args
+argument_misfit Selected args = misfit_with_array args
+argument_misfit Stored args = misfit_with_array args
+argument_misfit (Filled given) args = misfit_in_filled (array_of_sort given) args
 argument_misfit OutOfRange args = None
 
 -- ---- what is told

@@ -1,9 +1,10 @@
--- SMT-LIB 2.6, theories Core, Reals_Ints and FixedSizeBitVectors, and logic QF_BV: the operators by name and
--- indexes.
+-- SMT-LIB 2.6, theories Core, Reals_Ints, FixedSizeBitVectors and ArraysEx, and logic QF_BV: the operators by
+-- name and indexes.
 use Rattle.std.specs.Prelude.{ℕ, true, false, ◌≡◌, ◌≢◌, ◌<◌, List, [], ◌∷◌, Bool, ◌&&◌, ◌||◌, IsTrue, Option, None}
 use Rattle.std.specs.Prelude.{Result, Ok, Err, is_some, option_map, ok_or, bytes_eq, codes}
 use Rattle.std.specs.Prelude.{if◌then◌else◌}
 use Rattle.std.specs.Option.{option_or}
+use Rattle.smt_theory.specs.Arrays.{IsArraysName, arrays_name, arrays_named}
 use Rattle.smt_theory.specs.Bits.{AreInRange, IsBitsName, added_op, bits_indexes, bits_name, bits_named}
 use Rattle.smt_theory.specs.Bits.{has_bits_op, has_conversions, indexed_bits}
 use Rattle.smt_theory.specs.Core.{core_name, core_named}
@@ -15,7 +16,7 @@ use Rattle.smt_theory.specs.declared.op.IntsOp.{IntsOp}
 use Rattle.smt_theory.specs.declared.op.IntsOp.TheVariants.{Divisible}
 use Rattle.smt_theory.specs.declared.op.CoreOp.TheVariants.{Ite}
 use Rattle.smt_theory.specs.declared.op.Op.{Op}
-use Rattle.smt_theory.specs.declared.op.Op.TheVariants.{Core, Ints, Reals, Bits}
+use Rattle.smt_theory.specs.declared.op.Op.TheVariants.{Core, Ints, Reals, Bits, Arrays}
 use Rattle.smt_theory.specs.declared.op.OpFault.{OpFault}
 use Rattle.smt_theory.specs.declared.op.OpFault.TheVariants.{Unknown, Index as WrongIndex}
 use Rattle.smt_theory.specs.declared.theories.Theories.{Theories}
@@ -26,11 +27,17 @@ name_of (Core op) = core_name op
 name_of (Ints op) = ints_name op
 name_of (Reals op) = reals_name op
 name_of (Bits op) = bits_name op
+name_of (Arrays op) = arrays_name op
 
 -- whether an operator is `ite`
 abbrev pub is_choice : Op → Bool
 is_choice (Core Ite) = true
 is_choice _ = false
+
+-- whether an operator is one on arrays
+abbrev pub is_on_arrays : Op → Bool
+is_on_arrays (Arrays op) = true
+is_on_arrays _ = false
 
 -- whether an operator of Ints is there: with reals alone those that are of Reals too
 abbrev pub has_ints_op : Theories → IntsOp → Bool
@@ -48,7 +55,8 @@ plain_op theories symbol =
     (option_or (option_map Ints (if_passes (has_ints_op theories) (ints_named symbol)))
     (option_or (if theories.bits then option_map Bits (bits_named symbol) else None)
     (option_or (option_map Reals (if_passes (has_reals_op theories) (reals_named symbol)))
-    (option_map Bits (added_op theories symbol)))))
+    (option_or (if theories.arrays then option_map Arrays (arrays_named symbol) else None)
+    (option_map Bits (added_op theories symbol))))))
 
 -- whether a name is a plain operator's, so that nothing new may have it
 abbrev pub is_plain_operator : Theories → List ℕ → Bool
@@ -75,6 +83,7 @@ IsNameOf (Core op) symbol = symbol ≡ core_name op
 IsNameOf (Ints op) symbol = symbol ≡ ints_name op
 IsNameOf (Reals op) symbol = symbol ≡ reals_name op
 IsNameOf (Bits op) symbol = IsBitsName op symbol
+IsNameOf (Arrays op) symbol = IsArraysName op symbol
 
 abbrev pub indexes_of : Op → List IndexView
 indexes_of (Ints (Divisible n)) = Number n ∷ []
@@ -88,6 +97,7 @@ IsOperatorOf theories (Ints (Divisible n)) = IsTrue theories.ints × (0 < n)
 IsOperatorOf theories (Ints op) = IsTrue (has_ints_op theories op)
 IsOperatorOf theories (Reals op) = IsTrue (has_reals_op theories op)
 IsOperatorOf theories (Bits op) = IsTrue (has_bits_op theories op) × AreInRange op
+IsOperatorOf theories (Arrays op) = IsTrue theories.arrays
 
 -- the symbol with these indexes is this operator of the theories
 abbrev pub IsOperatorBy : Theories → List ℕ → List IndexView → Op → Type 0
@@ -102,6 +112,7 @@ IsOfTheories theories (Core op) = Unit {0}
 IsOfTheories theories (Ints op) = IsTrue (has_ints_op theories op)
 IsOfTheories theories (Reals op) = IsTrue (has_reals_op theories op)
 IsOfTheories theories (Bits op) = IsTrue (has_bits_op theories op)
+IsOfTheories theories (Arrays op) = IsTrue theories.arrays
 
 -- some operator of the theories without indexes, or with some, has this name
 abbrev pub IsPlainName : Theories → List ℕ → Type 0

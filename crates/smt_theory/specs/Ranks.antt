@@ -1,6 +1,7 @@
--- SMT-LIB 2.6, theories Core, Reals_Ints and FixedSizeBitVectors, and logic QF_BV: the ranks of the operators, each by
--- its shape. The shapes have one line for each row of the standard's theory files.
+-- SMT-LIB 2.6, theories Core, Reals_Ints, FixedSizeBitVectors and ArraysEx, and logic QF_BV: the ranks of the
+-- operators, each by its shape. The shapes have one line for each row of the standard's theory files.
 use Rattle.std.specs.Prelude.{List, Option}
+use Rattle.smt_theory.specs.Arrays.{arrays_shape}
 use Rattle.smt_theory.specs.Bits.{bits_shape}
 use Rattle.smt_theory.specs.Core.{core_shape}
 use Rattle.smt_theory.specs.Ints.{ints_shape}
@@ -16,6 +17,7 @@ shape_of (ops.Core op) = core_shape op
 shape_of (ops.Ints op) = ints_shape op
 shape_of (ops.Reals op) = reals_shape op
 shape_of (ops.Bits op) = bits_shape op
+shape_of (ops.Arrays op) = arrays_shape op
 
 -- an operator, the sorts of its arguments, the sort of its result
 abbrev pub HasRank : Op → List Sort → Sort → Type 0

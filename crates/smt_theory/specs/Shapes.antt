@@ -1,6 +1,6 @@
--- SMT-LIB 2.6, theories Core, Reals_Ints and FixedSizeBitVectors, and logic QF_BV: the shapes of operators, each a way
--- to take arguments. `HasShape` says what a shape is; `rank_by` computes from it. That no bit vector is wider than 128,
--- and that integers and reals mix, is this project's own.
+-- SMT-LIB 2.6, theories Core, Reals_Ints, FixedSizeBitVectors and ArraysEx, and logic QF_BV: the shapes of operators,
+-- each a way to take arguments. `HasShape` says what a shape is; `rank_by` computes from it. That no bit vector is
+-- wider than 128, and that integers and reals mix, is this project's own.
 use Rattle.std.specs.Prelude.{ℕ, ◌≡◌, ◌≢◌, ◌⊎◌, ◌<◌, ◌≤◌, ◌+◌, ◌-◌, ◌*◌, List, [], ◌∷◌, Bool, true, false, ◌&&◌}
 use Rattle.std.specs.Prelude.{◌||◌, ◌==◌}
 use Rattle.std.specs.Prelude.{Option, Some, None, option_map, nat_le, nat_lt, length, map, All, if◌then◌else◌}
@@ -8,14 +8,15 @@ use Rattle.std.specs.List.{list_all, sum}
 use Rattle.std.specs.Bool.{then_some}
 use Rattle.std.specs.Option.{option_and_then}
 use lib.Pointwise.{pointwise}
-use Rattle.smt_theory.specs.Sort.{Sort, Boolean, Int, Real, Bits, is_number, is_same_sort}
+use Rattle.smt_theory.specs.Sort.{Sort, Boolean, Int, Real, Bits, Array, is_number, is_same_sort}
 use Rattle.smt_theory.specs.declared.shapes.Arity.{Arity}
 use Rattle.smt_theory.specs.declared.shapes.Arity.TheVariants.{One, Two, OneOrMore, Several}
 use Rattle.smt_theory.specs.declared.shapes.Made.{Made}
 use Rattle.smt_theory.specs.declared.shapes.Made.TheVariants.{Same, Given, Slice, Times, Longer}
 use Rattle.smt_theory.specs.declared.shapes.Shape.{Shape}
 use Rattle.smt_theory.specs.declared.shapes.Shape.TheVariants.{Constant, Uniform, Calculated, Numbers, Alike}
-use Rattle.smt_theory.specs.declared.shapes.Shape.TheVariants.{Choice, Vectors, Joined, OutOfRange}
+use Rattle.smt_theory.specs.declared.shapes.Shape.TheVariants.{Choice, Vectors, Joined, Selected, Stored, Filled}
+use Rattle.smt_theory.specs.declared.shapes.Shape.TheVariants.{OutOfRange}
 
 -- ---- what a shape is
 
@@ -77,6 +78,15 @@ HasShape (Vectors arity made) args result = (m : ℕ) × AreOf arity (Bits m) ar
 HasShape Joined args result =
     (widths : List ℕ) × (args ≡ map Bits widths) × (2 ≤ length widths) × (sum widths ≤ 128)
     × (result ≡ Bits (sum widths))
+-- an array and one of its indexes
+HasShape Selected args result = (index : Sort) × (args ≡ Array index result ∷ index ∷ [])
+-- an array, one of its indexes and an element
+HasShape Stored args result =
+    (index : Sort) × (element : Sort) × (args ≡ Array index element ∷ index ∷ element ∷ [])
+    × (result ≡ Array index element)
+-- an element of this sort of arrays
+HasShape (Filled given) args result =
+    (index : Sort) × (element : Sort) × (given ≡ Array index element) × (args ≡ element ∷ []) × (result ≡ given)
 -- what holds a number out of range is no operator
 HasShape OutOfRange args result = ⊥
 
@@ -158,6 +168,20 @@ made_by (Slice i j) m = option_map Bits (slice_width i j m)
 made_by (Times i) m = option_map Bits (times_width i m)
 made_by (Longer i) m = option_map Bits (within_limit (m + i))
 
+-- of an array and one of its indexes
+abbrev pub selected_rank : List Sort → Option Sort
+selected_rank (Array index element ∷ i ∷ []) = then_some (is_same_sort index i) element
+selected_rank _ = None
+
+abbrev pub stored_rank : List Sort → Option Sort
+stored_rank (Array index element ∷ i ∷ e ∷ []) =
+    then_some (is_same_sort index i && is_same_sort element e) (Array index element)
+stored_rank _ = None
+
+abbrev pub filled_rank : Sort → List Sort → Option Sort
+filled_rank (Array index element) (e ∷ []) = then_some (is_same_sort element e) (Array index element)
+filled_rank _ _ = None
+
 abbrev pub rank_by : Shape → List Sort → Option Sort
 rank_by (Constant given) args = then_some (are_exactly [] args) given
 rank_by (Uniform arity sort given) args = then_some (are_of arity sort args) given
@@ -167,4 +191,7 @@ rank_by Alike args = then_some (are_alike args || are_numbers Several args) Bool
 rank_by Choice args = choice_rank args
 rank_by (Vectors arity made) args = option_and_then (made_by made) (common_width arity args)
 rank_by Joined args = option_map Bits (joined_width args)
+rank_by Selected args = selected_rank args
+rank_by Stored args = stored_rank args
+rank_by (Filled given) args = filled_rank given args
 rank_by OutOfRange args = None

@@ -1,13 +1,12 @@
--- Sorts (SMT-LIB 2.6, theories Core, Reals_Ints and FixedSizeBitVectors, and section 4.2.3).
-use Rattle.std.specs.Prelude.{ℕ, Bool, true, false, ◌==◌, Option, Some, None}
-use Rattle.smt_theory.specs.declared.sort_kind.SortKind.{SortKind}
-use Rattle.smt_theory.specs.declared.sort_kind.SortKind.TheVariants as kinds
+-- Sorts (SMT-LIB 2.6, theories Core, Reals_Ints, FixedSizeBitVectors and ArraysEx, and section 4.2.3).
+use Rattle.std.specs.Prelude.{ℕ, Bool, true, false, ◌==◌, ◌&&◌, Option, Some, None}
 
 -- a sort of the theories; `Free k` is the one that command k declares
 pub data Sort : Type 0 where
   Boolean Int Real : Sort
   Bits : (width : ℕ) → Sort
   Free : (command : ℕ) → Sort
+  Array : (index element : Sort) → Sort
 
 -- whether two sorts are the same
 abbrev pub is_same_sort : Sort → Sort → Bool
@@ -16,15 +15,8 @@ is_same_sort Int Int = true
 is_same_sort Real Real = true
 is_same_sort (Bits m) (Bits n) = m == n
 is_same_sort (Free m) (Free n) = m == n
+is_same_sort (Array i e) (Array j f) = is_same_sort i j && is_same_sort e f
 is_same_sort _ _ = false
-
--- the sort of a kind
-abbrev pub sort_of_kind : SortKind → Sort
-sort_of_kind kinds.Bool = Boolean
-sort_of_kind kinds.Int = Int
-sort_of_kind kinds.Real = Real
-sort_of_kind (kinds.Bits width) = Bits width
-sort_of_kind (kinds.Free command) = Free command
 
 -- whether a sort is one of numbers
 abbrev pub is_number : Sort → Bool
@@ -41,3 +33,8 @@ width_of_sort _ = None
 abbrev pub command_of_sort : Sort → Option ℕ
 command_of_sort (Free command) = Some command
 command_of_sort _ = None
+
+-- the sort of the indexes of a sort of arrays, and that of the elements
+abbrev pub array_of_sort : Sort → Option (Sort × Sort)
+array_of_sort (Array index element) = Some (index, element)
+array_of_sort _ = None

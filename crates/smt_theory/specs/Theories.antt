@@ -73,7 +73,7 @@ wide_logics =
     )
     ∷ (codes "B", codes "BV" ∷ codes "UFBV" ∷ codes "UFBVDT" ∷ [])
     ∷ (codes "BI", codes "BVLIA" ∷ codes "BVNIA" ∷ codes "UFBVLIA" ∷ codes "UFBVNIA" ∷ [])
-    ∷ (codes "A", codes "AX" ∷ [])
+    ∷ (codes "A", codes "AX" ∷ codes "AUF" ∷ codes "AUFDT" ∷ [])
     ∷ (
       codes "AI",
       codes "ALIA" ∷ codes "ANIA" ∷ codes "AUFLIA" ∷ codes "AUFNIA"
@@ -91,7 +91,15 @@ wide_logics =
       codes "ABVLIA" ∷ codes "AUFBVLIA" ∷ codes "AUFBVNIA" ∷ codes "AUFBVDTLIA"
           ∷ codes "AUFBVDTNIA" ∷ [],
     )
-    ∷ (codes "ABIR", codes "ALL" ∷ codes "ALL_SUPPORTED" ∷ codes "AUFBVDTNIRA" ∷ [])
+    ∷ (
+      codes "ABR",
+      codes "ABVLRA" ∷ codes "ABVNRA" ∷ codes "AUFBVLRA" ∷ codes "AUFBVNRA" ∷ [],
+    )
+    ∷ (
+      codes "ABIR",
+      codes "ALL" ∷ codes "ALL_SUPPORTED" ∷ codes "AUFBVLIRA" ∷ codes "AUFBVNIRA"
+          ∷ codes "AUFBVDTLIRA" ∷ codes "AUFBVDTNIRA" ∷ [],
+    )
     ∷ []
 
 -- the theories of the first row that has the name

@@ -43,8 +43,8 @@ pub use numbers::{digit, number};
 pub use op::names::{op_of, plain_op_of};
 pub use op::plain::PlainOp;
 pub use op::{
-    Arithmetic, BitsBinary, BitsComparison, BitsFolded, BitsOp, BitsUnary, Comparison, CoreOp,
-    IntsOp, Op, OpFault, RealsOp,
+    Arithmetic, ArraysOp, BitsBinary, BitsComparison, BitsFolded, BitsOp, BitsUnary, Comparison,
+    CoreOp, IntsOp, Op, OpFault, RealsOp,
 };
 pub use profile::Profile;
 pub use ranks::{plain_rank, rank, shape};

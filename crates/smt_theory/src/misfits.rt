@@ -31,6 +31,8 @@ pub enum Wanted {
     Only(Sort),
     /// A bit vector of any width.
     AnyBits,
+    /// An array of any sort.
+    AnyArray,
 }
 
 /// Why the operator has no rank for arguments of these sorts; `None` where it has one.
@@ -74,6 +76,9 @@ fn counts_of(shape: &Shape) -> (usize, bool)
         | Shape::Vectors(arity, _) => counts(arity),
         Shape::Alike | Shape::Joined => counts(Arity::Several),
         Shape::Choice => (3, false),
+        Shape::Selected => (2, false),
+        Shape::Stored => (3, false),
+        Shape::Filled(_) => (1, false),
         Shape::OutOfRange => (0, true),
     }
 }
@@ -90,6 +95,56 @@ fn argument_misfit(shape: &Shape, args: &[Sort]) -> Option<RankFlaw>
         Shape::Choice => misfit_in_choice(args),
         Shape::Vectors(_, _) => first_other_width(args),
         Shape::Joined => first_scalar(args),
+        Shape::Selected | Shape::Stored => misfit_with_array(args),
+        Shape::Filled(given) => misfit_in_filled(given.array_parts(), args),
+    }
+}
+
+// What is no array, or what does not fit it.
+fn misfit_with_array(args: &[Sort]) -> Option<RankFlaw>
+    ensures { result ≡ misfits.misfit_with_array args.now }
+{
+    match args {
+        [array, rest @ ..] => misfit_behind_array(array.array_parts(), rest),
+        [] => None,
+    }
+}
+
+// An index, or else an element, of another sort than the array's.
+fn misfit_behind_array(own: Option<(Sort, Sort)>, rest: &[Sort]) -> Option<RankFlaw>
+    ensures { result ≡ misfits.misfit_behind_array own rest.now }
+{
+    match (own, rest) {
+        (Some((own, _)), [index]) => other_at(1, own, *index),
+        (Some((own, held)), [index, element]) => match other_at(1, own, *index) {
+            Some(flaw) => Some(flaw),
+            None => other_at(2, held, *element),
+        },
+        _ => Some(RankFlaw::Argument {
+            place: 0,
+            wanted: Wanted::AnyArray,
+        }),
+    }
+}
+
+// An element of another sort than the array's.
+fn misfit_in_filled(own: Option<(Sort, Sort)>, args: &[Sort]) -> Option<RankFlaw>
+    ensures { result ≡ misfits.misfit_in_filled own args.now }
+{
+    match (own, args) {
+        (Some((_, held)), [element]) => other_at(0, held, *element),
+        _ => None,
+    }
+}
+
+// The argument at a place, if it is of another sort.
+fn other_at(place: usize, wanted: Sort, sort: Sort) -> Option<RankFlaw>
+    ensures { result ≡ misfits.other_at place wanted sort }
+{
+    if wanted.is_same(sort) {
+        None
+    } else {
+        Some(of_sort(place, wanted))
     }
 }
 

@@ -1,6 +1,7 @@
 //! Operators by theory, and why an identifier is none. This file finds no operator by its name, and gives
 //! none a rank.
 
+pub(crate) mod arrays_ops;
 pub(crate) mod bits_ops;
 pub(crate) mod core_ops;
 pub(crate) mod ints_ops;
@@ -13,6 +14,7 @@ ghost use Rattle.smt_theory.specs.Operators.{is_choice};
 ghost use Rattle.smt_theory.specs.declared.op.CoreOp.TheVariants.{Ite};
 ghost use Rattle.smt_theory.specs.declared.op.Op.TheVariants.{Core};
 
+use crate::sort::Sort;
 use crate::width::Width;
 use std::error::Error;
 use std::fmt;
@@ -24,6 +26,7 @@ pub enum Op {
     Ints(IntsOp),
     Reals(RealsOp),
     Bits(BitsOp),
+    Arrays(ArraysOp),
 }
 
 impl Op {
@@ -100,6 +103,18 @@ pub enum RealsOp {
     ToInt,
     /// `is_int`
     IsInt,
+}
+
+/// An operator of the theory ArraysEx, or `const`.
+#[derive(Clone, Copy)]
+pub enum ArraysOp {
+    /// `select`
+    Select,
+    /// `store`
+    Store,
+    /// `(as const o)`: the array of the sort o that has one element everywhere; an operator where o is a sort of
+    /// arrays.
+    Const(Sort),
 }
 
 /// An operator of the theory FixedSizeBitVectors, one that the logic QF_BV adds, or one of SMT-LIB 2.7: whether a

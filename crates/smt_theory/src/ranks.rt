@@ -5,12 +5,13 @@ ghost use Rattle.smt_theory.specs.PlainOp.{op_of_plain};
 ghost use Rattle.smt_theory.specs.Ranks.{HasRank, rank_of, shape_of};
 ghost use Rattle.smt_theory.specs.Sort.{Sort as SortView};
 
+use crate::op::arrays_ops::shape_in_arrays;
 use crate::op::bits_ops::shape_in_bits;
 use crate::op::core_ops::shape_in_core;
 use crate::op::ints_ops::{shape_in_ints, shape_of_arithmetic};
 use crate::op::plain::PlainOp;
 use crate::op::reals_ops::shape_in_reals;
-use crate::op::{BitsOp, IntsOp, Op};
+use crate::op::{ArraysOp, BitsOp, IntsOp, Op};
 use crate::shapes::{Shape, rank_by};
 use crate::sort::Sort;
 
@@ -39,6 +40,7 @@ pub fn shape(op: Op) -> Shape
         Op::Ints(op) => shape_in_ints(op),
         Op::Reals(op) => shape_in_reals(op),
         Op::Bits(op) => shape_in_bits(op),
+        Op::Arrays(op) => shape_in_arrays(op),
     }
 }
 
@@ -59,5 +61,7 @@ fn plain_shape(op: PlainOp) -> Shape
         PlainOp::Binary(op) => shape_in_bits(BitsOp::Binary(op)),
         PlainOp::BitsOrder(op) => shape_in_bits(BitsOp::Comparison(op)),
         PlainOp::Comp => shape_in_bits(BitsOp::Comp),
+        PlainOp::Select => shape_in_arrays(ArraysOp::Select),
+        PlainOp::Store => shape_in_arrays(ArraysOp::Store),
     }
 }

@@ -55,6 +55,12 @@ pub enum Shape {
     Vectors(Arity, Made),
     /// Two or more bit vectors of any widths, one behind the other.
     Joined,
+    /// An array and one of its indexes; the result is the element there.
+    Selected,
+    /// An array, one of its indexes and an element; the result is an array of the same sort.
+    Stored,
+    /// An element of this sort of arrays, which is the sort of the result.
+    Filled(Sort),
     /// None: the operator holds a number that is out of range.
     OutOfRange,
 }
@@ -75,7 +81,49 @@ pub(crate) fn rank_by(shape: Shape, args: &[Sort]) -> Option<Sort>
         Shape::Choice => choice_rank(args),
         Shape::Vectors(arity, made) => made_by(made, common_width(arity, args)?),
         Shape::Joined => joined_width(args).map(Sort::bits),
+        Shape::Selected => selected_rank(args),
+        Shape::Stored => stored_rank(args),
+        Shape::Filled(given) => filled_rank(given, args),
         Shape::OutOfRange => None,
+    }
+}
+
+/// The sort of an array's element, for the array and one of its indexes.
+fn selected_rank(args: &[Sort]) -> Option<Sort>
+    ensures { result ≡ shapes.selected_rank args.now }
+{
+    match args {
+        [array, index] => {
+            let (own, element) = array.array_parts()?;
+            own.is_same(*index).then_some(element)
+        }
+        _ => None,
+    }
+}
+
+/// The sort of an array, for the array, one of its indexes and an element.
+fn stored_rank(args: &[Sort]) -> Option<Sort>
+    ensures { result ≡ shapes.stored_rank args.now }
+{
+    match args {
+        [array, index, element] => {
+            let (own, held) = array.array_parts()?;
+            (own.is_same(*index) && held.is_same(*element)).then_some(*array)
+        }
+        _ => None,
+    }
+}
+
+/// This sort of arrays, for one of its elements.
+fn filled_rank(given: Sort, args: &[Sort]) -> Option<Sort>
+    ensures { result ≡ shapes.filled_rank given args.now }
+{
+    match args {
+        [element] => {
+            let (_, held) = given.array_parts()?;
+            held.is_same(*element).then_some(given)
+        }
+        _ => None,
     }
 }
 

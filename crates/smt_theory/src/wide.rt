@@ -36,6 +36,8 @@ pub(crate) fn wide_theories_of(logic: &[u8]) -> Option<Theories>
         Some(theories_by(b"AB"))
     } else if is_of_arrays_of_bits_and_ints(name) {
         Some(theories_by(b"ABI"))
+    } else if is_of_arrays_of_bits_and_reals(name) {
+        Some(theories_by(b"ABR"))
     } else if is_of_all(name) {
         Some(theories_by(b"ABIR"))
     } else {
@@ -132,9 +134,10 @@ fn is_of_bits_and_ints(name: &[u8]) -> bool
 }
 
 fn is_of_arrays(name: &[u8]) -> bool
-    ensures { result ≡ list_any (bytes_eq name.now) (codes "AX" ∷ []) }
+    ensures { result ≡ list_any (bytes_eq name.now) (codes "AX" ∷ codes "AUF" ∷ codes "AUFDT"
+        ∷ []) }
 {
-    is_named(name, b"AX")
+    is_named(name, b"AX") || is_named(name, b"AUF") || is_named(name, b"AUFDT")
 }
 
 fn is_of_arrays_of_ints(name: &[u8]) -> bool
@@ -189,9 +192,24 @@ fn is_of_arrays_of_bits_and_ints(name: &[u8]) -> bool
         || is_named(name, b"AUFBVDTNIA")
 }
 
+fn is_of_arrays_of_bits_and_reals(name: &[u8]) -> bool
+    ensures { result ≡ list_any (bytes_eq name.now) (codes "ABVLRA" ∷ codes "ABVNRA"
+        ∷ codes "AUFBVLRA" ∷ codes "AUFBVNRA" ∷ []) }
+{
+    is_named(name, b"ABVLRA")
+        || is_named(name, b"ABVNRA")
+        || is_named(name, b"AUFBVLRA")
+        || is_named(name, b"AUFBVNRA")
+}
+
 fn is_of_all(name: &[u8]) -> bool
     ensures { result ≡ list_any (bytes_eq name.now) (codes "ALL" ∷ codes "ALL_SUPPORTED"
-        ∷ codes "AUFBVDTNIRA" ∷ []) }
+        ∷ codes "AUFBVLIRA" ∷ codes "AUFBVNIRA" ∷ codes "AUFBVDTLIRA" ∷ codes "AUFBVDTNIRA" ∷ []) }
 {
-    is_named(name, b"ALL") || is_named(name, b"ALL_SUPPORTED") || is_named(name, b"AUFBVDTNIRA")
+    is_named(name, b"ALL")
+        || is_named(name, b"ALL_SUPPORTED")
+        || is_named(name, b"AUFBVLIRA")
+        || is_named(name, b"AUFBVNIRA")
+        || is_named(name, b"AUFBVDTLIRA")
+        || is_named(name, b"AUFBVDTNIRA")
 }

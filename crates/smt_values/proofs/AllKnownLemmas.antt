@@ -6,6 +6,7 @@ use Rattle.std.specs.List.{list_all, list_any, sum}
 use Rattle.std.specs.Prelude.{All, ◌==◌, ◌&&◌, ◌^◌, IsSome, map, option_and_then, option_map}
 use Rattle.smt_bits.specs.BitVector.{BitVector, vector}
 use Rattle.smt_bits.specs.Parts.{concatenation}
+use Rattle.smt_theory.specs.Operators.{is_on_arrays}
 use Rattle.smt_theory.specs.Ranks.{HasRank}
 use Rattle.smt_theory.specs.Shapes.{AreNumbers, AreOf, HasShape, IsNumber}
 use Rattle.smt_theory.specs.declared.shapes.Arity.{Arity}
@@ -29,7 +30,7 @@ use Rattle.smt_theory.specs.declared.op.IntsOp.{IntsOp}
 use Rattle.smt_theory.specs.declared.op.IntsOp.TheVariants.{Arithmetic as Left, Comparison as Chain, Mod, Abs}
 use Rattle.smt_theory.specs.declared.op.IntsOp.TheVariants.{Divisible}
 use Rattle.smt_theory.specs.declared.op.Op.{Op}
-use Rattle.smt_theory.specs.declared.op.Op.TheVariants.{Core, Ints, Reals, Bits}
+use Rattle.smt_theory.specs.declared.op.Op.TheVariants.{Core, Ints, Reals, Bits, Arrays}
 use Rattle.smt_theory.specs.declared.op.Comparison.{Comparison as Relation}
 use Rattle.smt_theory.specs.declared.op.RealsOp.{RealsOp}
 use Rattle.smt_theory.specs.declared.op.RealsOp.TheVariants.{Divide, ToReal, ToInt, IsInt}
@@ -474,23 +475,25 @@ bits_known (FromIntOlder n) sorts sort es r h new older = from_int_known n sorts
 
 -- ---- all
 
-pub result_known : (op : Op) (sorts : List Sort) (sort : Sort) (es : List Element) → HasRank op sorts sort
-    → AreOfSorts sorts es → is_number sort ≡ false → IsSome (known_step op (map Some es))
-result_known (Core op) sorts sort es r h other = core_known op sorts sort es r h
-result_known (Ints op) sorts sort es r h other = ints_known op sorts sort es r h other
-result_known (Reals op) sorts sort es r h other = reals_known op sorts sort es r h other
-result_known (Bits op) sorts sort es r h other =
+pub result_known : (op : Op) (sorts : List Sort) (sort : Sort) (es : List Element) → is_on_arrays op ≡ false
+    → HasRank op sorts sort → AreOfSorts sorts es → is_number sort ≡ false → IsSome (known_step op (map Some es))
+result_known (Arrays op) sorts sort es plain r h other = cc
+result_known (Core op) sorts sort es plain r h other = core_known op sorts sort es r h
+result_known (Ints op) sorts sort es plain r h other = ints_known op sorts sort es r h other
+result_known (Reals op) sorts sort es plain r h other = reals_known op sorts sort es r h other
+result_known (Bits op) sorts sort es plain r h other =
     bits_known op sorts sort es r h (λ e. integer (subst (λ o. HasRank (Bits o) sorts sort) e r).2)
     (λ e. integer (subst (λ o. HasRank (Bits o) sorts sort) e r).2)
   where
     integer : sort ≡ Int → ⊥
     integer e = let is : true ≡ false = sym (ap is_number e) ∙ other in cc
 
-pub without_numbers : (op : Op) (sorts : List Sort) (sort : Sort) (es : List Element) → HasRank op sorts sort
-    → AreOfSorts sorts es → All (λ s. is_number s ≡ false) sorts
+pub without_numbers : (op : Op) (sorts : List Sort) (sort : Sort) (es : List Element) → is_on_arrays op ≡ false
+    → HasRank op sorts sort → AreOfSorts sorts es → All (λ s. is_number s ≡ false) sorts
     → op ≢ Bits (Unary ToInt) → op ≢ Bits (Unary ToIntOlder) → IsSome (known_step op (map Some es))
-without_numbers (Core op) sorts sort es r h none new older = core_known op sorts sort es r h
-without_numbers (Ints op) sorts sort es r h none new older = absurd (ints_need op sorts sort r none)
-without_numbers (Reals op) sorts sort es r h none new older = absurd (reals_need op sorts sort r none)
-without_numbers (Bits op) sorts sort es r h none new older =
+without_numbers (Arrays op) sorts sort es plain r h none new older = cc
+without_numbers (Core op) sorts sort es plain r h none new older = core_known op sorts sort es r h
+without_numbers (Ints op) sorts sort es plain r h none new older = absurd (ints_need op sorts sort r none)
+without_numbers (Reals op) sorts sort es plain r h none new older = absurd (reals_need op sorts sort r none)
+without_numbers (Bits op) sorts sort es plain r h none new older =
     bits_known op sorts sort es r h (λ e. new (ap Bits e)) (λ e. older (ap Bits e))

@@ -15,7 +15,7 @@ use Rattle.smt_theory.specs.declared.op.IntsOp.{IntsOp}
 use Rattle.smt_theory.specs.declared.op.IntsOp.TheVariants.{Arithmetic as Left, Comparison as Chain, Mod, Abs}
 use Rattle.smt_theory.specs.declared.op.IntsOp.TheVariants.{Divisible}
 use Rattle.smt_theory.specs.declared.op.Op.{Op}
-use Rattle.smt_theory.specs.declared.op.Op.TheVariants.{Core, Ints, Reals, Bits}
+use Rattle.smt_theory.specs.declared.op.Op.TheVariants.{Core, Ints, Reals, Bits, Arrays}
 use Rattle.smt_values.specs.BitOperations.{bits_of_int, operate_bits, width_from_int}
 use Rattle.smt_values.specs.KnownBitOperations.{known_bits, known_bits_of_int}
 use Rattle.smt_values.specs.KnownOperations.{known_on_bits}
@@ -420,6 +420,7 @@ known_step_true results t (Reals op) ks es h =
     strict_true (known_numbers ks) (known_reals op) (operate_reals t.ratios op (map number_of es))
     (λ rs e. subst (λ ys. Agrees (known_reals op rs) (operate_reals t.ratios op ys))
     (sym (numbers_true ks es rs h e)) (reals_true results t.ratios op rs))
+known_step_true results t (Arrays op) ks es h = tt
 known_step_true results t (Bits op) ks es h = by (width_from_int op)
   where
     by : (o : Option ℕ) → Agrees (known_on_bits o op ks) (operate_on_bits o op es)

@@ -8,11 +8,12 @@ use Rattle.std.proofs.lemmas.Option.{slice_get-get_or}
 use Rattle.std.specs.List.{list_all, list_any, position_or_len}
 use Rattle.std.specs.Option.{option_or}
 use Rattle.std.specs.Prelude.{IsSome, is_none, option_map, position, unwrap_or}
+use Rattle.smt_theory.specs.Operators.{is_on_arrays}
 use Rattle.smt_theory.specs.Ranks.{HasRank}
 use Rattle.smt_theory.specs.declared.op.CoreOp.{CoreOp}
 use Rattle.smt_theory.specs.declared.op.CoreOp.TheVariants.{True, False, Not, Implies, And, Or, Xor, Equal, Distinct, Ite}
 use Rattle.smt_theory.specs.declared.op.Op.{Op}
-use Rattle.smt_theory.specs.declared.op.Op.TheVariants.{Core, Ints, Reals, Bits}
+use Rattle.smt_theory.specs.declared.op.Op.TheVariants.{Core, Ints, Reals, Bits, Arrays}
 use Rattle.smt_theory.specs.Sort.{Sort, is_number}
 use Rattle.smt_values.proofs.AllKnownLemmas.{result_known}
 use Rattle.smt_values.specs.Element.{AreOfSorts, Element, Truth, element_of, known_element, known_elements}
@@ -194,6 +195,7 @@ deciding_alike (Core op) args others i is counted same = core_alike op args othe
 deciding_alike (Ints op) args others i is counted same = cc
 deciding_alike (Reals op) args others i is counted same = cc
 deciding_alike (Bits op) args others i is counted same = cc
+deciding_alike (Arrays op) args others i is counted same = cc
 
 -- ---- branches
 
@@ -229,6 +231,7 @@ branch_at (Core op) args i is = core_branch op args i is
 branch_at (Ints op) args i is = cc
 branch_at (Reals op) args i is = cc
 branch_at (Bits op) args i is = cc
+branch_at (Arrays op) args i is = cc
 
 -- ---- what the code looks at
 
@@ -367,11 +370,11 @@ none_known : (o : Option Element) → o ≡ None → IsSome o → ⊥
 none_known None e h = cc
 none_known (Some x) e h = cc
 
-pub reason_range : (op : Op) (sorts : List Sort) (s : Sort) (args : List Element) → HasRank op sorts s
-    → AreOfSorts sorts args → reason op (map Some args) ≡ Open Range → is_number s ≡ true
-reason_range op sorts s args ranked are is = by (is_number s) refl
+pub reason_range : (op : Op) (sorts : List Sort) (s : Sort) (args : List Element) → is_on_arrays op ≡ false
+    → HasRank op sorts s → AreOfSorts sorts args → reason op (map Some args) ≡ Open Range → is_number s ≡ true
+reason_range op sorts s args plain ranked are is = by (is_number s) refl
   where
     by : (b : Bool) → is_number s ≡ b → b ≡ true
     by true other = refl
     by false other = absurd (none_known _ (reason_open op (map Some args) Range is)
-        (result_known op sorts s args ranked are other))
+        (result_known op sorts s args plain ranked are other))

@@ -3,6 +3,7 @@ use Rattle.std.proofs.Common.{◌≡◌, inl, inr, ℕ, zero, suc, ◌≤◌, �
 use Rattle.std.proofs.Common.{refl, sym, subst, arith}
 use Rattle.std.specs.List.{list_any}
 use Rattle.std.specs.Prelude.{All, map, nat_lt}
+use Rattle.smt_theory.specs.Operators.{is_on_arrays}
 use Rattle.smt_theory.specs.Ranks.{HasRank}
 use Rattle.smt_theory.specs.Shapes.{AreOf, HasShape, IsCount, IsNumber}
 use Rattle.smt_theory.specs.declared.shapes.Arity.{Arity}
@@ -17,7 +18,7 @@ use Rattle.smt_theory.specs.declared.op.IntsOp.{IntsOp}
 use Rattle.smt_theory.specs.declared.op.IntsOp.TheVariants.{Arithmetic as Left, Comparison as Chain, Mod, Abs}
 use Rattle.smt_theory.specs.declared.op.IntsOp.TheVariants.{Divisible}
 use Rattle.smt_theory.specs.declared.op.Op.{Op}
-use Rattle.smt_theory.specs.declared.op.Op.TheVariants.{Core, Ints, Reals, Bits}
+use Rattle.smt_theory.specs.declared.op.Op.TheVariants.{Core, Ints, Reals, Bits, Arrays}
 use Rattle.smt_theory.specs.Sort.{Sort}
 use Rattle.smt_theory.specs.Sort.{Boolean, Int, Real}
 use Rattle.smt_values.proofs.BitSortLemmas.{ResultsFit, bits}
@@ -178,8 +179,10 @@ module _ (fit : NumbersFit) (t : DivisionByZero) where
       by false r = absurd r
 
 pub result_of_sort : (fits : ResultsFit) (fit : NumbersFit) (t : DivisionByZero) (op : Op) (sorts : List Sort)
-    (sort : Sort) (es : List Element) → HasRank op sorts sort → AreOfSorts sorts es → IsOfSort sort (operate t op es)
-result_of_sort fits fit t (Core op) sorts sort es r h = core op sorts sort es r h
-result_of_sort fits fit t (Ints op) sorts sort es r h = ints fit t op sorts sort es r h
-result_of_sort fits fit t (Reals op) sorts sort es r h = reals_fit fit t.ratios op sorts sort es r h
-result_of_sort fits fit t (Bits op) sorts sort es r h = bits fits op sorts sort es r h
+    (sort : Sort) (es : List Element) → is_on_arrays op ≡ false → HasRank op sorts sort → AreOfSorts sorts es
+    → IsOfSort sort (operate t op es)
+result_of_sort fits fit t (Core op) sorts sort es other r h = core op sorts sort es r h
+result_of_sort fits fit t (Ints op) sorts sort es other r h = ints fit t op sorts sort es r h
+result_of_sort fits fit t (Reals op) sorts sort es other r h = reals_fit fit t.ratios op sorts sort es r h
+result_of_sort fits fit t (Bits op) sorts sort es other r h = bits fits op sorts sort es r h
+result_of_sort fits fit t (Arrays op) sorts sort es other r h = cc

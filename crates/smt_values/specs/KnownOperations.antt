@@ -17,7 +17,7 @@ use Rattle.smt_theory.specs.declared.op.IntsOp.{IntsOp}
 use Rattle.smt_theory.specs.declared.op.IntsOp.TheVariants.{Arithmetic as Left, Comparison as Chain, Mod, Abs}
 use Rattle.smt_theory.specs.declared.op.IntsOp.TheVariants.{Divisible}
 use Rattle.smt_theory.specs.declared.op.Op.{Op}
-use Rattle.smt_theory.specs.declared.op.Op.TheVariants.{Core, Ints, Reals, Bits}
+use Rattle.smt_theory.specs.declared.op.Op.TheVariants.{Core, Ints, Reals, Bits, Arrays}
 use Rattle.smt_values.specs.Element.{Element, Truth, Integer, Vector}
 use Rattle.smt_theory.specs.declared.op.BitsOp.{BitsOp}
 use Rattle.smt_values.specs.BitOperations.{width_from_int}
@@ -159,3 +159,4 @@ known_step (Ints op) args =
     else option_and_then (known_ints op) (known_integers args)
 known_step (Reals op) args = option_and_then (known_reals op) (known_numbers args)
 known_step (Bits op) args = known_on_bits (width_from_int op) op args
+known_step (Arrays op) args = None

@@ -20,7 +20,7 @@ use Rattle.smt_theory.specs.declared.op.IntsOp.{IntsOp}
 use Rattle.smt_theory.specs.declared.op.IntsOp.TheVariants.{Arithmetic as Left, Comparison as Chain, Mod, Abs}
 use Rattle.smt_theory.specs.declared.op.IntsOp.TheVariants.{Divisible}
 use Rattle.smt_theory.specs.declared.op.Op.{Op}
-use Rattle.smt_theory.specs.declared.op.Op.TheVariants.{Core, Ints, Reals, Bits}
+use Rattle.smt_theory.specs.declared.op.Op.TheVariants.{Core, Ints, Reals, Bits, Arrays}
 use Rattle.smt_theory.specs.declared.op.BitsOp.{BitsOp}
 use Rattle.smt_values.specs.BitOperations.{bits_of_int, operate_bits, width_from_int}
 use Rattle.smt_values.specs.Element.{Element, Truth, Integer, Fraction, Vector, Abstract}
@@ -148,3 +148,5 @@ operate z (Ints op) args =
     else operate_ints z op (map integer_of args)
 operate z (Reals op) args = operate_reals z.ratios op (map number_of args)
 operate z (Bits op) args = operate_on_bits (width_from_int op) op args
+-- (no element here is an array)
+operate z (Arrays op) args = Truth false

@@ -12,7 +12,7 @@ use Rattle.smt_theory.specs.declared.op.CoreOp.TheVariants.{And, Implies, Ite, N
 use Rattle.smt_theory.specs.declared.op.IntsOp.{IntsOp}
 use Rattle.smt_theory.specs.declared.op.IntsOp.TheVariants.{Arithmetic as Left, Mod}
 use Rattle.smt_theory.specs.declared.op.Op.{Op}
-use Rattle.smt_theory.specs.declared.op.Op.TheVariants.{Core, Ints, Reals, Bits}
+use Rattle.smt_theory.specs.declared.op.Op.TheVariants.{Core, Ints, Reals, Bits, Arrays}
 use Rattle.smt_theory.specs.declared.op.RealsOp.{RealsOp}
 use Rattle.smt_theory.specs.declared.op.RealsOp.TheVariants.{Divide}
 use Rattle.smt_values.specs.Element.{Element}
@@ -47,6 +47,7 @@ deciding (Core op) args = deciding_core op args
 deciding (Ints op) args = None
 deciding (Reals op) args = None
 deciding (Bits op) args = None
+deciding (Arrays op) args = None
 
 abbrev pub taken_core : CoreOp → List (Option Element) → Option ℕ
 taken_core Ite (condition ∷ a ∷ b ∷ []) = option_map (λ c. if c then 1 else 2) (known_truth condition)
@@ -58,6 +59,7 @@ taken (Core op) args = taken_core op args
 taken (Ints op) args = None
 taken (Reals op) args = None
 taken (Bits op) args = None
+taken (Arrays op) args = None
 
 -- ---- open results
 
@@ -83,6 +85,7 @@ divides_by_zero (Core op) args = false
 divides_by_zero (Ints op) args = is_divided_by_zero op args
 divides_by_zero (Reals op) args = is_ratio_by_zero op args
 divides_by_zero (Bits op) args = false
+divides_by_zero (Arrays op) args = false
 
 abbrev pub open_by : Option ℕ → Bool → OpenReason
 open_by (Some i) by_zero = Argument i
@@ -121,3 +124,4 @@ is_connective (Core op) = is_core_connective op
 is_connective (Ints op) = false
 is_connective (Reals op) = false
 is_connective (Bits op) = false
+is_connective (Arrays op) = false

@@ -21,6 +21,7 @@ ghost use Rattle.smt_ratios.specs.Rational as rational;
 ghost use Rattle.smt_ratios.specs.Rational.{IsRational, Rational};
 ghost use Rattle.smt_theory.specs.Ranks.{HasRank};
 ghost use Rattle.smt_theory.specs.declared.op.CoreOp.{CoreOp};
+ghost use Rattle.smt_theory.specs.Operators.{is_on_arrays};
 ghost use Rattle.smt_theory.specs.declared.op.Op.{Op};
 ghost use Rattle.smt_theory.specs.declared.op.Op.TheVariants.{Bits, Core};
 ghost use Rattle.smt_theory.specs.declared.op.BitsOp.TheVariants.{Binary, Comparison, Folded, FromInt, FromIntOlder};
@@ -59,13 +60,15 @@ pub fn known_results_are_true()
 
 /// Over known arguments, of sorts that the operator has a rank for, only a number may stay open, and only for an
 /// operator of the theories Ints and Reals, or for `ubv_to_int` and `bv2nat`. A result is known where its sort is
-/// another, for other operators where no argument is a number, and for each operator of the theory Core.
+/// another, for other operators where no argument is a number, and for each operator of the theory Core. Of operators
+/// on arrays this says nothing.
 pub fn known_arguments_give_known_results()
     ensures other_sorts { (op : Op) (sorts : List Sort) (sort : Sort) (args : List Element)
-        → HasRank op sorts sort → AreOfSorts sorts args → is_number sort ≡ false
+        → is_on_arrays op ≡ false → HasRank op sorts sort → AreOfSorts sorts args → is_number sort ≡ false
         → IsSome (known_step op (map Some args)) }
     ensures without_numbers { (op : Op) (sorts : List Sort) (sort : Sort) (args : List Element)
-        → HasRank op sorts sort → AreOfSorts sorts args → All (λ s. is_number s ≡ false) sorts
+        → is_on_arrays op ≡ false → HasRank op sorts sort → AreOfSorts sorts args
+        → All (λ s. is_number s ≡ false) sorts
         → op ≢ Bits (Unary ToInt) → op ≢ Bits (Unary ToIntOlder)
         → IsSome (known_step op (map Some args)) }
     ensures core { (op : CoreOp) (sorts : List Sort) (sort : Sort) (args : List Element)
@@ -73,10 +76,11 @@ pub fn known_arguments_give_known_results()
         → IsSome (known_step (Core op) (map Some args)) }
 {}
 
-/// An operator gives an element of its rank's sort for arguments of the rank's sorts.
+/// An operator, if it is none on arrays, gives an element of its rank's sort for arguments of the rank's sorts.
 pub fn results_are_of_their_sorts()
     ensures { (z : DivisionByZero) (op : Op) (sorts : List Sort) (sort : Sort) (args : List Element)
-        → HasRank op sorts sort → AreOfSorts sorts args → IsOfSort sort (operate z op args) }
+        → is_on_arrays op ≡ false → HasRank op sorts sort → AreOfSorts sorts args
+        → IsOfSort sort (operate z op args) }
 {
     arithmetic::arithmetic_fits();
     arithmetic::shifts_fit();

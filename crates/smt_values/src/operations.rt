@@ -23,6 +23,7 @@ use smt_theory::{CoreOp, Op};
 /// - a fraction whose numerator is outside that, or whose denominator is over 2^120 - 1, or where a product or a sum on
 ///   the way to it is outside that;
 /// - `div`, `mod` and `/` at divisor 0;
+/// - those of operators on arrays, of which this crate knows nothing;
 /// - every result with an open argument, except for `and`, `or`, `=>` and `ite` where the known arguments
 ///   decide (this project's own rule).
 pub fn apply(op: Op, args: &[Option<Value>]) -> Option<Value>
@@ -33,6 +34,7 @@ pub fn apply(op: Op, args: &[Option<Value>]) -> Option<Value>
         Op::Ints(op) => numbers::apply_number_op(op, args),
         Op::Reals(op) => numbers::apply_reals(op, args),
         Op::Bits(op) => bits::apply_bits(op, args),
+        Op::Arrays(_) => None,
     }
 }
 

@@ -74,6 +74,7 @@ pub fn is_connective(op: Op) -> bool
         Op::Ints(_) => false,
         Op::Reals(_) => false,
         Op::Bits(_) => false,
+        Op::Arrays(_) => false,
     }
 }
 
@@ -121,6 +122,7 @@ fn deciding(op: &Op, args: &[Option<Value>]) -> Option<usize>
         Op::Ints(_) => None,
         Op::Reals(_) => None,
         Op::Bits(_) => None,
+        Op::Arrays(_) => None,
     }
 }
 
@@ -176,6 +178,7 @@ fn taken(op: &Op, args: &[Option<Value>]) -> Option<usize>
         Op::Ints(_) => None,
         Op::Reals(_) => None,
         Op::Bits(_) => None,
+        Op::Arrays(_) => None,
     }
 }
 
@@ -256,6 +259,7 @@ fn divides_by_zero(op: &Op, args: &[Option<Value>]) -> bool
         Op::Ints(op) => is_divided_by_zero(op, args),
         Op::Reals(op) => is_ratio_by_zero(op, args),
         Op::Bits(_) => false,
+        Op::Arrays(_) => false,
     }
 }
 

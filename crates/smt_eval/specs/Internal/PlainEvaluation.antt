@@ -2,28 +2,29 @@
 use Rattle.std.specs.Prelude.{◌≡◌, ℕ, ◌+◌, List, [], ◌∷◌, Option, Result, IfOk, map}
 use Rattle.smt_trees.specs.Sexp.{weight}
 use Rattle.smt_trees.specs.View.{sexp_of}
-use Rattle.smt_values.specs.Element.{Element, known_element}
+use Rattle.smt_arrays.specs.Element.{Element}
 use Rattle.smt_values.specs.ElementNumbers.{numbered_in}
 use Rattle.smt_values.specs.declared.value.Value.{Value}
 use Rattle.smt_faults.specs.declared.memory.Memory.{Memory}
 use Rattle.smt_forms.specs.declared.variable.Variable.{Variable}
 use Rattle.smt_eval.specs.Known.{KnownMeaning, known_after, known_operators}
-use Rattle.smt_eval.specs.PlainTerm.{entries_of}
+use Rattle.smt_eval.specs.PlainTerm.{entries_of, known_single, without_arrays}
 use Rattle.smt_eval.specs.declared.plain.Definition.{Definition}
 use Rattle.smt_eval.specs.declared.plain.names.Definitions.{Definitions}
 
--- what identifiers are known to mean over definitions, and elements by their numbers among the names
+-- what identifiers are known to mean over definitions, where arrays are open, and elements by their numbers among the
+-- names
 abbrev pub meaning_of : Definitions → KnownMeaning
-meaning_of over =
-    known_after (known_operators (numbered_in over.names.now) over.theories) (entries_of over.seen.now)
+meaning_of over = known_after (without_arrays (known_operators (numbered_in over.names.now) over.theories))
+    (entries_of over.seen.now)
 
 -- what is known of variables
 abbrev pub known_scope : List (Variable (Option Value)) → List (List ℕ × Option Element)
-known_scope variables = map (λ v. (v.name.now, known_element v.value)) variables
+known_scope variables = map (λ v. (v.name.now, known_single v.value)) variables
 
 -- this is answered, unless memory was refused
 abbrev pub Gives : Option Element → Result (Option Value) Memory → Type 0
-Gives known result = IfOk result (λ v. known_element v ≡ known)
+Gives known result = IfOk result (λ v. known_single v ≡ known)
 
 -- how much the bodies of definitions weigh
 abbrev pub bodies_weight : List Definition → ℕ

@@ -4,7 +4,7 @@ ghost use Rattle.std.specs.List.{zip};
 ghost use Rattle.std.specs.Prelude.{◌≡◌, ◌≢◌, ℕ, List, [], ◌∷◌, All};
 ghost use Rattle.smt_trees.specs.Sexp.{Atom, Cons, Items, Sexp, Sexps, Symbol};
 ghost use Rattle.smt_theory.specs.Words.{look_up};
-ghost use Rattle.smt_values.specs.Element.{Element};
+ghost use Rattle.smt_arrays.specs.Element.{Element};
 ghost use Rattle.smt_values.specs.Operations.{DivisionByZero};
 ghost use Rattle.smt_forms.specs.Identifier.{Plain};
 ghost use Rattle.smt_forms.specs.Parts.{trees_of};

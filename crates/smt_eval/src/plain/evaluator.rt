@@ -1,11 +1,12 @@
 //! Evaluation of trees. This file names no operator, and looks into no definition.
 
-ghost use Rattle.std.specs.Prelude.{◌≡◌, [], IfOk, option_and_then};
+ghost use Rattle.std.specs.Prelude.{◌≡◌, [], IfOk, option_and_then, option_map};
 ghost use Rattle.smt_trees.specs.Sexp.{Atom, Cons, Items, Reserved, Symbol};
 ghost use Rattle.smt_trees.specs.View.{sexp_of, sexps_of};
 ghost use Rattle.smt_trees.specs.declared.reserved.Word.TheVariants.{Let};
-ghost use Rattle.smt_values.specs.Element.{known_element, known_elements};
+ghost use Rattle.smt_eval.specs.PlainTerm.{known_single, known_singles};
 ghost use Rattle.smt_values.specs.ElementNumbers.{numbered_in};
+ghost use Rattle.smt_arrays.specs.Element.{Plain as NoArray};
 ghost use Rattle.smt_forms.specs.ElementNames.{qualified_symbol};
 ghost use Rattle.smt_forms.specs.Identifier.{applied, indexed};
 ghost use Rattle.smt_eval.specs.Internal.PlainEvaluation.{Gives, known_scope, meaning_of};
@@ -103,8 +104,8 @@ fn known_reserved<'a>(
 
 // What is known of the element `(as symbol sort)`, by the parts after the `as`.
 fn known_qualified(names: &Names, parts: Trees<'_>) -> Option<Value>
-    ensures { known_element result
-        ≡ option_and_then (numbered_in names.now) (qualified_symbol (sexps_of parts.entry)) }
+    ensures { known_single result
+        ≡ option_map NoArray (option_and_then (numbered_in names.now) (qualified_symbol (sexps_of parts.entry))) }
 {
     match parts.split_first() {
         Some((Tree::Symbol(name), _)) => named_element(names, name),
@@ -190,7 +191,7 @@ fn known_all<'a>(
     scope: &[Variable<'a, Option<Value>>],
     terms: Trees<'a>,
 ) -> Result<Vec<Option<Value>>, Memory>
-    ensures { IfOk result (λ known. known_elements known.items
+    ensures { IfOk result (λ known. known_singles known.items
         ≡ knowns_of (meaning_of over.entry) (known_scope scope.now) (sexps_of terms.entry)) }
 {
     let mut known = Vec::with_capacity(over.alloc, terms.len())?;

@@ -1,18 +1,18 @@
 //! What names mean: operators, and definitions, whose bodies see their parameters and the definitions before
 //! them. This file looks into no term.
 
-ghost use Rattle.std.specs.Prelude.{◌≡◌, ◌≤◌, ◌+◌, [], MatchOption, IfSome, List, Option, ℕ};
+ghost use Rattle.std.specs.Prelude.{◌≡◌, ◌≤◌, ◌+◌, [], MatchOption, IfSome, List, Option, option_map, ℕ};
 ghost use Rattle.smt_trees.specs.Sexp.{weight};
 ghost use Rattle.smt_trees.specs.View.{sexp_of};
 ghost use Rattle.smt_theory.specs.Index.{IndexView};
-ghost use Rattle.smt_values.specs.Element.{Element, known_element, known_elements};
+ghost use Rattle.smt_arrays.specs.Element.{Element, Plain as NoArray};
 ghost use Rattle.smt_values.specs.ElementNumbers.{numbered_in};
 ghost use Rattle.smt_values.specs.Element.{Naming};
 ghost use Rattle.smt_forms.specs.Identifier.{Indexed, Plain};
 ghost use Rattle.smt_forms.specs.IdentifierView.{identifier_view};
 ghost use Rattle.smt_eval.specs.Internal.PlainEvaluation.{Gives, bodies_weight, meaning_of};
 ghost use Rattle.smt_eval.specs.Known.{KnownMeaning, known_after, known_defined, known_of_op, other_known};
-ghost use Rattle.smt_eval.specs.PlainTerm.{entries_of, origin_of};
+ghost use Rattle.smt_eval.specs.PlainTerm.{entries_of, known_single, known_singles, origin_of, unless_array};
 
 use crate::plain::Definition;
 use crate::plain::evaluator::known_value;
@@ -41,7 +41,7 @@ pub(crate) fn known_applied(
     identifier: &Identifier<'_>,
     args: &[Option<Value>],
 ) -> Result<Option<Value>, Memory>
-    ensures { Gives ((meaning_of over.entry).gives (identifier_view identifier.now) (known_elements args.now)) result }
+    ensures { Gives ((meaning_of over.entry).gives (identifier_view identifier.now) (known_singles args.now)) result }
 {
     match identifier {
         Identifier::Plain(name) => known_named(over, *name, args),
@@ -49,6 +49,7 @@ pub(crate) fn known_applied(
             op_of(over.theories, *name, indexes.as_slice()),
             args,
         )),
+        Identifier::Qualified(_) => Ok(None),
     }
 }
 
@@ -60,7 +61,7 @@ pub(crate) fn known_named(
     name: &[u8],
     args: &[Option<Value>],
 ) -> Result<Option<Value>, Memory>
-    ensures { Gives ((meaning_of over.entry).gives (Plain name.now) (known_elements args.now)) result }
+    ensures { Gives ((meaning_of over.entry).gives (Plain name.now) (known_singles args.now)) result }
 {
     match last_named(over.seen, name) {
         Some((definition, seen)) => {
@@ -84,7 +85,7 @@ fn known_body(
     args: &[Option<Value>],
 ) -> Result<Option<Value>, Memory>
     ensures { Gives (known_defined (meaning_of earlier.entry) (origin_of definition.now)
-        (known_elements args.now)) result }
+        (known_singles args.now)) result }
 {
     let variables = bind(earlier.alloc, definition.params, args)?;
     known_value(earlier, variables.as_slice(), definition.body)
@@ -116,7 +117,7 @@ pub(crate) fn last_named<'a>(
 /// What an operator gives for arguments; `None` where the identifier, which has indexes, is no operator's.
 pub(crate) fn known_of_indexed(op: Result<Op, OpFault>, args: &[Option<Value>]) -> Option<Value>
     ensures { (element : Naming) (name : List ℕ) (indexes : List IndexView)
-        → known_element result ≡ known_of_op element op (Indexed name indexes) (known_elements args.now) }
+        → known_single result ≡ unless_array (known_of_op element op (Indexed name indexes) (known_singles args.now)) }
 {
     match op {
         Ok(op) => apply(op, args),
@@ -132,8 +133,8 @@ fn known_of_plain(
     name: &[u8],
     args: &[Option<Value>],
 ) -> Option<Value>
-    ensures { known_element result
-        ≡ known_of_op (numbered_in names.now) op (Plain name.now) (known_elements args.now) }
+    ensures { known_single result
+        ≡ unless_array (known_of_op (numbered_in names.now) op (Plain name.now) (known_singles args.now)) }
 {
     match op {
         Ok(op) => apply(op, args),
@@ -144,7 +145,7 @@ fn known_of_plain(
 
 /// The element of a name, by its number among the names; `None` where it is none of them.
 pub(crate) fn named_element(names: &Names, name: &[u8]) -> Option<Value>
-    ensures { known_element result ≡ numbered_in names.now name.now }
+    ensures { known_single result ≡ option_map NoArray (numbered_in names.now name.now) }
 {
     match names.find(name) {
         Some(number) => Some(element(number)),
@@ -154,7 +155,7 @@ pub(crate) fn named_element(names: &Names, name: &[u8]) -> Option<Value>
 
 // The element of a symbol, if it has the form of one.
 fn known_element_of(names: &Names, symbol: &[u8]) -> Option<Value>
-    ensures { known_element result ≡ other_known (numbered_in names.now) (Plain symbol.now) [] }
+    ensures { known_single result ≡ other_known (numbered_in names.now) (Plain symbol.now) [] }
 {
     match sort_of_element(symbol) {
         Some(_) => named_element(names, symbol),

@@ -3,7 +3,7 @@
 
 ghost use Rattle.std.specs.Prelude.{◌≡◌, [], ◌∷◌, ◌++◌, map, IfOk, OnOk};
 ghost use Rattle.std.specs.List.{zip};
-ghost use Rattle.smt_values.specs.Element.{known_element, known_elements};
+ghost use Rattle.smt_eval.specs.PlainTerm.{known_single, known_singles};
 ghost use Rattle.smt_eval.specs.Internal.PlainEvaluation.{known_scope};
 
 use smt_faults::Memory;
@@ -19,7 +19,7 @@ pub(crate) fn push_variable<'a>(
     value: Option<Value>,
 ) -> Result<(), Memory>
     ensures { OnOk result (known_scope variables.new.items
-        ≡ known_scope variables.old.items ++ (name.now, known_element value) ∷ []) }
+        ≡ known_scope variables.old.items ++ (name.now, known_single value) ∷ []) }
 {
     match variables.push(Variable { name, value }) {
         Ok(()) => Ok(()),
@@ -34,7 +34,7 @@ pub(crate) fn bind<'a>(
     args: &[Option<Value>],
 ) -> Result<Vec<Variable<'a, Option<Value>>>, Memory>
     ensures { IfOk result (λ variables. known_scope variables.items
-        ≡ zip (map (λ p. p.0.items) params.now) (known_elements args.now)) }
+        ≡ zip (map (λ p. p.0.items) params.now) (known_singles args.now)) }
 {
     let mut variables = Vec::new(alloc);
     for place in 0..params.len().min(args.len()) {

@@ -1,6 +1,8 @@
 -- The machine's stacks of values as a contract sees them, and what is done to them.
 use Rattle.std.specs.Prelude.{ℕ, ◌-◌, List, [], ◌∷◌, ◌++◌, Option, None, length, take, drop, min}
-use Rattle.smt_values.specs.Element.{Element, known_elements}
+use Rattle.smt_arrays.specs.Element.{Element}
+use Rattle.smt_arrays.specs.Tables.{all_known_in}
+use Rattle.smt_machine.specs.Memory.{arrays_in}
 use Rattle.smt_machine.specs.Nodes.{Frame}
 use Rattle.smt_machine.specs.declared.machine.Machine.{Machine}
 
@@ -12,8 +14,8 @@ pub record State : Type 0 where
 
 abbrev pub state_of : Machine → State
 state_of m = record {
-  values = known_elements m.values.items;
-  frames = known_elements m.frames.items;
+  values = all_known_in (arrays_in m) m.values.items;
+  frames = all_known_in (arrays_in m) m.frames.items;
   base = m.base;
 }
 
@@ -39,7 +41,7 @@ abbrev pub without_last : ℕ → State → State
 without_last k s = record { values = before_last k s.values; frames = s.frames; base = s.base }
 
 -- the first of values, which is open where there is none
-abbrev pub first_of : List (Option Element) → Option Element
+abbrev pub first_of : {A : Type 0} → List (Option A) → Option A
 first_of [] = None
 first_of (v ∷ vs) = v
 

@@ -4,15 +4,16 @@ use Rattle.std.specs.Prelude.{nat_lt, slice_get, ◌==◌, ◌⊎◌, if◌then�
 use Rattle.smt_theory.specs.declared.op.CoreOp.TheVariants.{Ite}
 use Rattle.smt_theory.specs.declared.op.Op.{Op}
 use Rattle.smt_theory.specs.declared.op.Op.TheVariants.{Core}
-use Rattle.smt_values.specs.Element.{Element}
-use Rattle.smt_values.specs.KnownOperations.{known_choice, known_step}
+use Rattle.smt_arrays.specs.Element.{Element}
+use Rattle.smt_arrays.specs.Known.{known_choice, known_step}
+use Rattle.smt_arrays.specs.Tables.{Grows}
 use Rattle.smt_machine.specs.Given.{given}
 use Rattle.smt_machine.specs.Costs.{around_at, cost, last_cost, part_cost}
 use Rattle.smt_machine.specs.Least.{least, part_least}
 use Rattle.smt_machine.specs.Internal.KeptView.{kept_at}
 use Rattle.smt_machine.specs.Internal.States.{State, first_of, frame_of, last_of, state_of, with_frames}
 use Rattle.smt_machine.specs.Internal.States.{with_last, with_value}
-use Rattle.smt_machine.specs.Memory.{Remembers}
+use Rattle.smt_machine.specs.Memory.{Remembers, arrays_in}
 use Rattle.smt_machine.specs.Nodes.{Frame, Node, Known, Slot, Apply, Call, Let, part}
 use Rattle.smt_machine.specs.declared.machine.Machine.{Machine}
 use Rattle.smt_machine.specs.declared.task.Task.{Task}
@@ -152,11 +153,12 @@ IsBased s = s.base ≤ length s.frames
 abbrev pub beginning : Frame → State
 beginning frame = record { values = []; frames = frame; base = 0 }
 
--- a machine has one task, over these variables, what another keeps, and nothing else
+-- a machine has one task, over these variables, the arrays of another and what it keeps, and nothing else
 pub record IsBegun (task : Task) (frame : Frame) (before after : Machine) : Type 0 where
   pub tasks : after.tasks.items ≡ task ∷ []
   pub state : state_of after ≡ beginning frame
   pub kept : after.kept ≡ before.kept
+  pub arrays : after.arrays ≡ before.arrays
 
 -- a machine has nothing to do but one node, and nothing is evaluated yet
 pub record IsBefore (root : ℕ) (m : Machine) : Type 0 where
@@ -164,27 +166,30 @@ pub record IsBefore (root : ℕ) (m : Machine) : Type 0 where
   pub values : (state_of m).values ≡ []
   pub based : IsBased (state_of m)
 
--- a machine has the tasks of another, what it keeps, and this state
+-- a machine has the tasks of another, its arrays and maybe more, what it keeps, and this state
 pub record IsAt (s : State) (before after : Machine) : Type 0 where
   pub tasks : after.tasks.items ≡ before.tasks.items
   pub state : state_of after ≡ s
   pub kept : after.kept ≡ before.kept
+  pub grown : Grows (arrays_in before) (arrays_in after)
 
--- a machine has more tasks than another, what it keeps, and this state
+-- a machine has more tasks than another, its arrays and maybe more, what it keeps, and this state
 pub record IsPlanned (more : List Task) (s : State) (before after : Machine) : Type 0 where
   pub tasks : after.tasks.items ≡ before.tasks.items ++ more
   pub state : state_of after ≡ s
   pub kept : after.kept ≡ before.kept
+  pub grown : Grows (arrays_in before) (arrays_in after)
 
 -- a machine keeps the last value for a number, and is as another besides
 pub record IsKeeping (number : ℕ) (before after : Machine) : Type 0 where
   pub tasks : after.tasks.items ≡ before.tasks.items
   pub state : state_of after ≡ state_of before
   pub kept : (other : ℕ) → kept_at after.kept other ≡ (if other == number
-      then Some (first_of (last_of 1 (state_of before).values)) else kept_at before.kept other)
+      then Some (first_of (last_of 1 before.values.items)) else kept_at before.kept other)
+  pub arrays : after.arrays ≡ before.arrays
 
 -- a machine has done a task that was taken off already: what is left to do leads to the same, is less, and
--- with what was counted costs no more, and takes no less
+-- with what was counted costs no more, and takes no less; arrays that are there stay
 pub record IsDone (nodes : List Node) (task : Task) (before after : Machine) : Type 0 where
   pub answer : run_all nodes after.tasks.items (state_of after)
       ≡ run_all nodes before.tasks.items (run nodes task (state_of before))
@@ -196,6 +201,7 @@ pub record IsDone (nodes : List Node) (task : Task) (before after : Machine) : T
       → tasks_least nodes (least nodes arounds) before.tasks.items + task_least nodes (least nodes arounds) task
       ≤ tasks_least nodes (least nodes arounds) after.tasks.items + charge arounds task
   pub remembers : Remembers after nodes
+  pub grown : Grows (arrays_in before) (arrays_in after)
   pub due : AreDue nodes before.tasks.items (run nodes task (state_of before))
       → AreDue nodes after.tasks.items (state_of after)
 

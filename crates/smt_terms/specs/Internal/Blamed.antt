@@ -5,7 +5,7 @@ use Rattle.smt_faults.specs.declared.memory.Memory.{Memory}
 use Rattle.smt_faults.specs.declared.term_fault.TermFault.{TermFault}
 use Rattle.smt_faults.specs.declared.term_flaw.TermFlaw.{TermFlaw}
 use Rattle.smt_terms.specs.declared.library.draft.CheckedTerm.{CheckedTerm}
-use Rattle.std.specs.Prelude.{◌≡◌, ◌⊎◌, ℕ, List, Bool, not, Option, Some, None, Result, Ok, IfSome, false, option_map}
+use Rattle.std.specs.Prelude.{◌≡◌, ◌⊎◌, ℕ, List, Bool, not, Option, Some, None, Result, Ok, IfSome, option_map}
 use Rattle.std.specs.Prelude.{if◌then◌else◌}
 use Rattle.smt_trees.specs.declared.view.Tree.{Tree}
 use Rattle.smt_theory.specs.declared.theories.Theories.{Theories}
@@ -14,8 +14,6 @@ use Rattle.smt_terms.specs.declared.blame.Blame.TheVariants as blames
 use Rattle.smt_terms.specs.declared.blame.Blame.TheVariants.{Lacks}
 use Rattle.smt_terms.specs.declared.blame.Theory.TheVariants.{Integers, Reals, BitVectors}
 use Rattle.smt_trees.specs.Sexp.{Sexps, Nil, Cons}
-use Rattle.smt_theory.specs.Sort.{is_same_sort}
-use Rattle.smt_theory.specs.Words.{look_up}
 use Rattle.smt_theory.specs.declared.misfits.RankFlaw.TheVariants as flaws
 use Rattle.smt_theory.specs.declared.misfits.Wanted.{Wanted}
 use Rattle.smt_theory.specs.Sort.{Sort}

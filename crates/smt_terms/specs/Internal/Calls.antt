@@ -7,7 +7,7 @@ use Rattle.smt_theory.specs.Sort.{Sort}
 use Rattle.smt_faults.specs.Outcome.{IsOutcome, Tells, TellsSome}
 use Rattle.smt_faults.specs.declared.term_fault.TermFault.{TermFault}
 use Rattle.smt_faults.specs.declared.term_flaw.TermFlaw.{TermFlaw}
-use Rattle.smt_forms.specs.Identifier.{Identifier, Plain, Indexed}
+use Rattle.smt_forms.specs.Identifier.{Identifier, Plain, Indexed, Qualified}
 use Rattle.smt_forms.specs.Labels.{labels_in}
 use Rattle.smt_forms.specs.Variables.{uses_variable}
 use Rattle.smt_terms.specs.Checking.{flaw_of_label, flaw_of_labels, sort_in}
@@ -58,6 +58,7 @@ HasSorts old new found result =
 abbrev pub names_variable : List (List ℕ × Sort) → Identifier → Bool
 names_variable scope (Plain f) = is_some (look_up scope f)
 names_variable scope (Indexed f indexes) = false
+names_variable scope (Qualified sort) = false
 
 -- ---- labels
 

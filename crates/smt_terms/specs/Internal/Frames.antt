@@ -12,7 +12,7 @@ use Rattle.smt_trees.specs.declared.view.Trees.{Trees}
 use Rattle.smt_theory.specs.Words.{look_up}
 use Rattle.smt_theory.specs.Sort.{Sort}
 use Rattle.smt_forms.specs.Bindings.{are_attributes, are_bindings, are_named_trees}
-use Rattle.smt_forms.specs.Identifier.{Identifier, applied}
+use Rattle.smt_forms.specs.Identifier.{Identifier, applied_in}
 use Rattle.smt_forms.specs.Labels.{labels_among, labels_in, labels_in_all, labels_in_bindings}
 use Rattle.smt_forms.specs.Variables.{is_among}
 use Rattle.smt_faults.specs.Outcome.{Tells}
@@ -83,13 +83,14 @@ pub record Lie (whole : Trees) (from to : ℕ) (trees : Sexps) : Type 0 where
 -- ---- applications
 
 -- a part is this application of arguments
-pub record IsApplication (whole : Trees) (a : Application) (outer : Begun) (args : Sexps) : Type 0 where
+pub record IsApplication (library : Library) (whole : Trees) (a : Application) (outer : Begun) (args : Sexps)
+    : Type 0 where
   pub head : Sexp
   pub identifier : Identifier
   pub lie : Lie whole a.parts a.end (Cons head args)
   pub is : outer.term ≡ Items (Cons head args)
   pub plain : IsPlainHead head
-  pub named : applied head args ≡ Ok identifier
+  pub named : applied_in library.sorts.theories.wide head args ≡ Ok identifier
   pub around : outer.around ≡ a.around
   pub start : a.start ≡ waiting outer.draft
 
@@ -108,7 +109,7 @@ pub record ArgumentsSoFar (library : Library) (old new : Draft) (args left : Sex
 pub record IsCalled (library : Library) (whole : Trees) (a : Application) (left : Trees) (open_so_far : Bool)
     (outer : Begun) (draft : Draft) : Type 0 where
   pub args : Sexps
-  pub application : IsApplication whole a outer args
+  pub application : IsApplication library whole a outer args
   pub lies : LiesIn whole left a.end
   pub so_far : ArgumentsSoFar library outer.draft draft args (sexps_of left) open_so_far
 
@@ -117,7 +118,7 @@ pub record ArgumentWaits (library : Library) (whole : Trees) (a : Application) (
     (outer inner : Begun) : Type 0 where
   pub args : Sexps
   pub rest : Sexps
-  pub application : IsApplication whole a outer args
+  pub application : IsApplication library whole a outer args
   pub lie : Lie whole left a.end rest
   pub none_around : inner.around ≡ 0
   pub so_far : ArgumentsSoFar library outer.draft inner.draft args (Cons inner.term rest) open_so_far

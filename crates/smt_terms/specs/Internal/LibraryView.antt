@@ -63,3 +63,7 @@ names_of_library library =
 -- the same where a term may have these labels
 abbrev pub names_for : Library → Labels → Names
 names_for library labels = record (names_of_library library) { labels = labels }
+
+-- what names the sorts of constant arrays
+abbrev pub constant_sorts_of : Library → trees.SortNames
+constant_sorts_of library = elements.constant_sorts library.sorts.theories (elements_of_library library)

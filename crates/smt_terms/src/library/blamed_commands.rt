@@ -93,7 +93,7 @@ impl Library<'_> {
     fn first_unsorted<'t>(&self, trees: Trees<'t>, last: Tree<'t>) -> Tree<'t> {
         let mut left = trees;
         while let Some((tree, rest)) = left.split_first() {
-            if self.sorts.sort_of(tree).is_err() {
+            if self.sorts.sort_of(self.alloc, tree).is_err() {
                 return tree;
             }
             left = rest;
@@ -144,10 +144,11 @@ impl Library<'_> {
     ) -> Result<Option<Blame<'t>>, Memory>
         ensures { IfOk result (IsTold self.now) }
     {
-        match self.sorts.sort_of(sort) {
+        match self.sorts.sort_of(self.alloc, sort) {
             Ok(wanted) => {
                 self.blame_of_term(variables, Labels::refused(self.alloc), body, wanted)
             }
+            Err(TermFault::Memory) => Err(Memory),
             Err(_) => Ok(self.blame_of_sort(sort)),
         }
     }
@@ -190,7 +191,7 @@ impl Library<'_> {
     fn first_unfit<'t>(&self, params: &[Param<'t>]) -> Result<Option<Param<'t>>, Memory> {
         let mut names = NameSet::new(self.alloc);
         for param in params {
-            if self.sorts.sort_of(param.sort).is_err() || names.contains(param.name) {
+            if self.sorts.sort_of(self.alloc, param.sort).is_err() || names.contains(param.name) {
                 return Ok(Some(*param));
             }
             names.insert(param.name)?;
@@ -202,7 +203,7 @@ impl Library<'_> {
     fn blame_of_param<'t>(&self, param: Param<'t>) -> Option<Blame<'t>>
         ensures { IsTold self.now result }
     {
-        match self.sorts.sort_of(param.sort) {
+        match self.sorts.sort_of(self.alloc, param.sort) {
             Ok(_) => Some(Blame::Twice { name: param.name }),
             Err(_) => self.blame_of_sort(param.sort),
         }

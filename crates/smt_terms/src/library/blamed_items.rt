@@ -110,8 +110,9 @@ impl Library<'_> {
     ) -> Result<Option<Blame<'t>>, Memory>
         ensures { IfOk result (IsTold self.now) }
     {
-        match self.sorts.sort_of(form.sort) {
+        match self.sorts.sort_of(self.alloc, form.sort) {
             Ok(sort) => self.blame_of_rank(form.name, variables, &sort, true),
+            Err(TermFault::Memory) => Err(Memory),
             Err(_) => Ok(self.blame_of_sort(form.sort)),
         }
     }
@@ -141,8 +142,9 @@ impl Library<'_> {
     ) -> Result<Option<Blame<'t>>, Memory>
         ensures { IfOk result (internal.IsToldOf script.now self.now) }
     {
-        match script.sorts.sort_of(form.sort) {
+        match script.sorts.sort_of(self.alloc, form.sort) {
             Ok(sort) => self.blame_of_ranked_item(script, form, variables, sort),
+            Err(TermFault::Memory) => Err(Memory),
             Err(_) => Ok(script.blame_of_sort(form.sort)),
         }
     }
@@ -230,7 +232,7 @@ impl Library<'_> {
     fn blame_unless_sort<'t>(&self, tree: Tree<'t>, wanted: &Sort) -> Option<Blame<'t>>
         ensures { IsTold self.now result }
     {
-        match self.sorts.sort_of(tree) {
+        match self.sorts.sort_of(self.alloc, tree) {
             Ok(sort) => other_sort(&sort, wanted),
             Err(_) => self.blame_of_sort(tree),
         }

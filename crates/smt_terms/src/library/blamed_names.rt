@@ -14,7 +14,7 @@ ghost use Rattle.smt_trees.specs.declared.reserved.Word.TheVariants.{Underscore}
 
 use crate::blame::{Blame, Theory};
 use crate::library::Library;
-use crate::sorts::SortNames;
+use crate::sorts::{Begun, SortNames};
 use smt_faults::TermFlaw;
 use smt_forms::Identifier;
 use smt_theory::{Op, OpFault, Sort, Theories};
@@ -59,7 +59,20 @@ impl Library<'_> {
     pub(super) fn blame_of_sort<'t>(&self, tree: Tree<'t>) -> Option<Blame<'t>>
         ensures { IsTold self.now result }
     {
-        unknown_part(tree, sort_word(tree), unknown_sort(&self.sorts, tree))
+        match self.sorts.refused_part(self.alloc, tree) {
+            Some(part) => self.blame_of_sort_part(part),
+            None => None,
+        }
+    }
+
+    // The same of a part that is no sort of arrays.
+    fn blame_of_sort_part<'t>(&self, part: Tree<'t>) -> Option<Blame<'t>>
+        ensures { IsTold self.now result }
+    {
+        match unknown_sort(&self.sorts, part) {
+            Some(unknown) => unknown_part(part, sort_word(part), unknown),
+            None => None,
+        }
     }
 
     // What is to blame for a new name of a function, if it is taken.
@@ -76,13 +89,14 @@ impl Library<'_> {
         !self.is_in_force(identifier) && is_unknown_operator(identifier.operator(theories))
     }
 
-    // Whether an identifier is a name in force.
+    // Whether an identifier is a name in force, or `const` with its sort.
     fn is_in_force(&self, identifier: &Identifier<'_>) -> bool
         ensures { result ≡ blame.is_named (names_of_library self.now) (identifier_view identifier.now) }
     {
         match identifier {
             Identifier::Plain(name) => self.has_entry(*name),
             Identifier::Indexed { .. } => false,
+            Identifier::Qualified(_) => true,
         }
     }
 }
@@ -142,6 +156,7 @@ fn name_of<'t>(identifier: &Identifier<'t>) -> &'t [u8]
     match identifier {
         Identifier::Plain(name) => *name,
         Identifier::Indexed { name, .. } => *name,
+        Identifier::Qualified(_) => b"const",
     }
 }
 
@@ -180,25 +195,28 @@ fn unknown_literal(theories: Theories, part: Tree<'_>) -> Unknown
     }
 }
 
-// Under which theories a tree names no sort.
-fn unknown_sort(sorts: &SortNames, tree: Tree<'_>) -> Unknown
-    ensures { result ≡ unknown_by (λ t. blame.names_no_sort (sort_names sorts.now) t (sexp_of tree.entry))
-        sorts.now.theories }
+// Under which theories a tree names no sort; `None` of a sort of arrays, whose parts are asked.
+fn unknown_sort(sorts: &SortNames, tree: Tree<'_>) -> Option<Unknown>
+    ensures { IfSome result (λ unknown. unknown
+        ≡ unknown_by (λ t. blame.names_no_sort (sort_names sorts.now) t (sexp_of tree.entry)) sorts.now.theories) }
 {
     let theories = sorts.theories;
-    Unknown {
-        here: names_no_sort(sorts, theories, tree),
-        with_integers: names_no_sort(sorts, with_theory(Theory::Integers, theories), tree),
-        with_reals: names_no_sort(sorts, with_theory(Theory::Reals, theories), tree),
-        with_vectors: names_no_sort(sorts, with_theory(Theory::BitVectors, theories), tree),
-    }
+    Some(Unknown {
+        here: names_no_sort(sorts, theories, tree)?,
+        with_integers: names_no_sort(sorts, with_theory(Theory::Integers, theories), tree)?,
+        with_reals: names_no_sort(sorts, with_theory(Theory::Reals, theories), tree)?,
+        with_vectors: names_no_sort(sorts, with_theory(Theory::BitVectors, theories), tree)?,
+    })
 }
 
-// Whether a tree names no sort of these theories.
-fn names_no_sort(sorts: &SortNames, theories: Theories, tree: Tree<'_>) -> bool
-    ensures { result ≡ blame.names_no_sort (sort_names sorts.now) theories (sexp_of tree.entry) }
+// Whether a tree names no sort of these theories; `None` of a sort of arrays.
+fn names_no_sort(sorts: &SortNames, theories: Theories, tree: Tree<'_>) -> Option<bool>
+    ensures { IfSome result (λ no. no ≡ blame.names_no_sort (sort_names sorts.now) theories (sexp_of tree.entry)) }
 {
-    is_unknown_sort(sorts.sort_under(theories, tree))
+    match sorts.begin(theories, tree) {
+        Begun::Found(sort) => Some(is_unknown_sort(sort)),
+        Begun::Parts(_, _) => None,
+    }
 }
 
 fn is_unknown_sort(sort: Result<Sort, TermFlaw>) -> bool

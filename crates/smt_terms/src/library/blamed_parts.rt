@@ -5,6 +5,7 @@ ghost use Rattle.smt_theory.specs.declared.misfits.RankFlaw.TheVariants.{Widths}
 ghost use Rattle.smt_trees.specs.Sexp.{Cons, Reserved, Sexp, Sexps};
 ghost use Rattle.smt_trees.specs.declared.reserved.Word.TheVariants.{Underscore};
 ghost use Rattle.smt_trees.specs.View.{sexp_of, sexps_of};
+ghost use Rattle.smt_forms.specs.Identifier.{Plain};
 ghost use Rattle.smt_forms.specs.IdentifierView.{identifier_view};
 ghost use Rattle.smt_terms.specs.Blame as blame;
 ghost use Rattle.smt_terms.specs.Blame.{IsAlone, IsIdentifier};
@@ -69,7 +70,7 @@ impl Library<'_> {
         ensures { IfOk result (IsTold self.now) }
     {
         match part {
-            Tree::Symbol(name) => Ok(self.blame_of_alone(part, &Identifier::Plain(name))),
+            Tree::Symbol(name) => self.blame_of_alone(part, &Identifier::Plain(name)),
             Tree::List(parts) => self.blame_of_indexed(parts),
             _ => Ok(self.blame_of_literal(part)),
         }
@@ -95,20 +96,24 @@ impl Library<'_> {
         ensures { IfOk result (IsTold self.now) }
     {
         match indexed_identifier(self.alloc, args) {
-            Ok(identifier) => Ok(self.blame_of_alone(Tree::List(parts), &identifier)),
+            Ok(identifier) => self.blame_of_alone(Tree::List(parts), &identifier),
             Err(TermFault::Memory) => Err(Memory),
             Err(_) => Ok(None),
         }
     }
 
     // The same of an identifier that is alone and no variable: it is unknown, or takes arguments.
-    fn blame_of_alone<'t>(&self, part: Tree<'t>, identifier: &Identifier<'t>) -> Option<Blame<'t>>
+    fn blame_of_alone<'t>(
+        &self,
+        part: Tree<'t>,
+        identifier: &Identifier<'t>,
+    ) -> Result<Option<Blame<'t>>, Memory>
         requires { IsAlone (sexp_of part) (identifier_view identifier.now) }
-        ensures { IsTold self.now result }
+        ensures { IfOk result (IsTold self.now) }
     {
-        match self.call_flaw(identifier, &[]) {
-            Some(RankFlaw::Count { wanted }) => other_count(part, 0, wanted),
-            _ => self.blame_of_identifier(part, identifier),
+        match self.call_flaw(identifier, &[])? {
+            Some(RankFlaw::Count { wanted }) => Ok(other_count(part, 0, wanted)),
+            _ => Ok(self.blame_of_identifier(part, identifier)),
         }
     }
 
@@ -171,9 +176,21 @@ impl Library<'_> {
             }));
         }
         let sorts = sorts_waiting(&draft.arguments, start);
-        match self.call_flaw(identifier, sorts) {
+        match self.call_flaw(identifier, sorts)? {
             Some(flaw) => self.blame_of_flaw(parts, identifier, sorts, flaw),
-            None => Ok(self.blame_of_identifier(head, identifier)),
+            None => Ok(self.blame_of_head(head, identifier)),
+        }
+    }
+
+    // The same of the head of an application that accepts its arguments, if it is known: it is unknown, or is `const`
+    // with an unknown sort.
+    fn blame_of_head<'t>(&self, head: Tree<'t>, identifier: &Identifier<'t>) -> Option<Blame<'t>>
+        requires { IsIdentifier (sexp_of head) (identifier_view identifier.now) }
+        ensures { IsTold self.now result }
+    {
+        match identifier {
+            Identifier::Qualified(sort) => self.blame_of_sort(*sort),
+            _ => self.blame_of_identifier(head, identifier),
         }
     }
 
@@ -217,18 +234,35 @@ impl Library<'_> {
     }
 
     // Why an identifier that is no variable does not take arguments of these sorts.
-    fn call_flaw(&self, identifier: &Identifier<'_>, sorts: &[Sort]) -> Option<RankFlaw>
-        ensures { result ≡ blame.call_flaw (names_of_library self.now) (identifier_view identifier.now) sorts.now }
+    fn call_flaw(
+        &self,
+        identifier: &Identifier<'_>,
+        sorts: &[Sort],
+    ) -> Result<Option<RankFlaw>, Memory>
+        ensures { IfOk result (λ flaw. flaw
+            ≡ blame.call_flaw (names_of_library self.now) (identifier_view identifier.now) sorts.now) }
     {
         match identifier {
-            Identifier::Plain(name) => match self.get(*name) {
-                Some(entry) => parameter_flaw(entry.parameters.as_slice(), sorts),
-                None => operator_flaw(op_of(self.sorts.theories, *name, &[]), sorts),
+            Identifier::Plain(name) => Ok(self.plain_flaw(*name, sorts)),
+            Identifier::Indexed { name, indexes } => {
+                let op = op_of(self.sorts.theories, *name, indexes.as_slice());
+                Ok(operator_flaw(op, sorts))
+            }
+            Identifier::Qualified(sort) => match self.constant_op(*sort) {
+                Ok(op) => Ok(misfit(op, sorts)),
+                Err(TermFault::Memory) => Err(Memory),
+                Err(_) => Ok(None),
             },
-            Identifier::Indexed { name, indexes } => operator_flaw(
-                op_of(self.sorts.theories, *name, indexes.as_slice()),
-                sorts,
-            ),
+        }
+    }
+
+    // The same of a symbol.
+    fn plain_flaw(&self, name: &[u8], sorts: &[Sort]) -> Option<RankFlaw>
+        ensures { result ≡ blame.call_flaw (names_of_library self.now) (Plain name.now) sorts.now }
+    {
+        match self.get(name) {
+            Some(entry) => parameter_flaw(entry.parameters.as_slice(), sorts),
+            None => operator_flaw(op_of(self.sorts.theories, name, &[]), sorts),
         }
     }
 
@@ -314,7 +348,7 @@ impl Library<'_> {
         let Some((tree, _)) = trees.split_first() else {
             return None;
         };
-        if sorts.sort_of(tree).is_ok() {
+        if sorts.sort_of(self.alloc, tree).is_ok() {
             None
         } else {
             self.blame_of_sort(tree)

@@ -360,6 +360,9 @@ impl Library<'_> {
                 let op = op_of(self.sorts.theories, *name, indexes.as_slice());
                 self.sort_of_indexed(draft, op, start, is_open, around)
             }
+            Identifier::Qualified(sort) => {
+                self.sort_of_constant(draft, *sort, start, is_open, around)
+            }
         }
     }
 
@@ -432,7 +435,7 @@ impl Library<'_> {
 
     // The sort and the node of the operator that an identifier with indexes is, applied to the arguments from this
     // one on; or the fault of the identifier.
-    fn sort_of_indexed(
+    pub(super) fn sort_of_indexed(
         &self,
         draft: &mut Draft<'_>,
         op: Result<Op, OpFault>,
@@ -491,7 +494,7 @@ pub(super) fn is_variable(scope: &Scope<'_, Bound>, identifier: &Identifier<'_>)
 {
     match identifier {
         Identifier::Plain(name) => scope.find(*name).is_some(),
-        Identifier::Indexed { .. } => false,
+        Identifier::Indexed { .. } | Identifier::Qualified(_) => false,
     }
 }
 

@@ -67,7 +67,7 @@ impl Library<'_> {
             return Err(TermFault::NotFresh);
         }
         let parameters = sorted_params(self.alloc, &self.sorts, params)?;
-        let sort = self.sorts.sort_of(sort)?;
+        let sort = self.sorts.sort_of(self.alloc, sort)?;
         self.add_definition(name, parameters.as_slice(), sort, body)
     }
 

@@ -27,7 +27,7 @@ use crate::library::Library;
 use crate::library::draft::{CheckedTerm, Draft};
 use crate::library::element_names::ElementNames;
 use crate::library::freshness::is_operator;
-use smt_faults::{Memory, TermFault, TermFlaw};
+use smt_faults::{Memory, TermFault};
 use smt_nodes::Node;
 use smt_theory::Sort;
 use smt_trees::{Tree, Trees};
@@ -176,13 +176,14 @@ impl Library<'_> {
     }
 
     // The sort of `(as symbol sort)`, from the parts after the `as`, or its fault.
-    fn sort_qualified(&self, parts: Trees<'_>) -> Result<Sort, TermFlaw>
-        ensures { result ≡ qualified_sort (names_of_library self.now).elements (names_of_library self.now).ranks
-            (sexps_of parts.entry) }
+    fn sort_qualified(&self, parts: Trees<'_>) -> Result<Sort, TermFault>
+        ensures { IsOutcome (λ sort. sort)
+            (qualified_sort (names_of_library self.now).elements (names_of_library self.now).ranks
+            (sexps_of parts.entry)) result }
     {
         match &self.elements {
             Some(elements) => self.sort_qualified_by(elements, parts),
-            None => Err(TermFlaw::Unsupported),
+            None => Err(TermFault::Unsupported),
         }
     }
 
@@ -193,23 +194,23 @@ impl Library<'_> {
         &self,
         elements: &ElementNames<'_>,
         parts: Trees<'_>,
-    ) -> Result<Sort, TermFlaw>
-        ensures { result ≡ qualified_in (element_names elements.now) (names_of_library self.now).ranks
-            (sexps_of parts.entry) }
+    ) -> Result<Sort, TermFault>
+        ensures { IsOutcome (λ sort. sort) (qualified_in (element_names elements.now)
+            (names_of_library self.now).ranks (sexps_of parts.entry)) result }
     {
         let Some((Tree::Symbol(symbol), rest)) = parts.split_first() else {
-            return Err(TermFlaw::Unsupported);
+            return Err(TermFault::Unsupported);
         };
         let Some((tree, rest)) = rest.split_first() else {
-            return Err(TermFlaw::Unsupported);
+            return Err(TermFault::Unsupported);
         };
         if rest.split_first().is_some() || !begins_at(symbol) {
-            return Err(TermFlaw::Unsupported);
+            return Err(TermFault::Unsupported);
         }
         if elements.is_taken(symbol) || self.has_entry(symbol) {
-            return Err(TermFlaw::NotFresh);
+            return Err(TermFault::NotFresh);
         }
-        elements.sorts.declared_sort(tree)
+        elements.sorts.declared_sort(self.alloc, tree)
     }
 
     // Adds the node of an element of this sort.

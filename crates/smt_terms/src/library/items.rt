@@ -85,7 +85,7 @@ impl Library<'_> {
         ensures reads { ReadsModelsOf self.new script.now }
     {
         match script.told(item) {
-            Some(told) => Ok(told?),
+            Some(told) => told,
             None => self.define_other(script, item),
         }
     }
@@ -132,7 +132,7 @@ impl Library<'_> {
     {
         self.check_name(script, form.name)?;
         let parameters = sorted_params_of(self.alloc, &script.sorts, form.parameters)?;
-        let sort = script.sorts.sort_of(form.sort)?;
+        let sort = script.sorts.sort_of(self.alloc, form.sort)?;
         if !self.has_declared_rank(script, form.name, parameters.as_slice(), sort)? {
             return Err(TermFault::IllSorted);
         }

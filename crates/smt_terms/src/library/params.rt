@@ -45,7 +45,7 @@ fn push_sorted<'a>(
 {
     let mut names = NameSet::new(alloc);
     for param in params {
-        let value = sorts.sort_of(param.sort)?;
+        let value = sorts.sort_of(alloc, param.sort)?;
         if names.contains(param.name) {
             return Err(TermFault::BoundTwice);
         }

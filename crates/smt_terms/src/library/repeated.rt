@@ -46,7 +46,7 @@ impl Library<'_> {
             → Tells (repeated_in s (item_view form.entry)) fault) }
     {
         let parameters = sorted_params_of(self.alloc, &self.sorts, form.parameters)?;
-        let sort = self.sorts.sort_of(form.sort)?;
+        let sort = self.sorts.sort_of(self.alloc, form.sort)?;
         if !self.repeats_rank(form.name, parameters.as_slice(), sort)? {
             return Err(TermFault::IllSorted);
         }

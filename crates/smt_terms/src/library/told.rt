@@ -1,8 +1,10 @@
 //! Items of models that tell which elements declared sorts have. This file adds no name, and knows no bodies.
 
-ghost use Rattle.std.specs.Prelude.{◌≡◌, Ok, Err, Some, None, MatchOption, MatchResult, true};
+ghost use Rattle.std.specs.Prelude.{◌≡◌, Err, Option, Some, None, MatchOption, Result, true};
 ghost use Rattle.smt_trees.specs.Sexp.{Cons, Items};
 ghost use Rattle.smt_trees.specs.View.{sexp_of, sexps_of};
+ghost use Rattle.smt_faults.specs.Outcome.{IsOutcome};
+ghost use Rattle.smt_faults.specs.declared.term_flaw.TermFlaw.{TermFlaw};
 ghost use Rattle.smt_faults.specs.declared.term_flaw.TermFlaw.TheVariants.{Form};
 ghost use Rattle.smt_terms.specs.Elements.{element_sort};
 ghost use Rattle.smt_theory.specs.Words.{result_and_then};
@@ -10,21 +12,21 @@ ghost use Rattle.smt_terms.specs.Internal.LibraryView.{sort_names};
 ghost use Rattle.smt_terms.specs.Items.{declared_item, element_told, told_in, told_item, told_sort};
 ghost use Rattle.smt_terms.specs.SortTrees.{sort_named};
 ghost use Rattle.smt_terms.specs.Library.{StandsFor};
-ghost use Rattle.smt_terms.specs.Signature.{Signature, sort_names_of};
+ghost use Rattle.smt_terms.specs.Signature.{Entry, Signature, sort_names_of};
 
 use crate::library::Library;
 use crate::sorts::are_equal;
-use smt_faults::TermFlaw;
+use smt_faults::TermFault;
 use smt_theory::Sort;
 use smt_trees::{Tree, Trees, Word};
 
 impl Library<'_> {
     // In the wide profile, what comes of an item that tells which elements a declared sort has; `None` of other items.
-    pub(super) fn told(&self, item: Tree<'_>) -> Option<Result<(), TermFlaw>>
+    pub(super) fn told(&self, item: Tree<'_>) -> Option<Result<(), TermFault>>
         ensures { (s : Signature) → StandsFor self.now s
             → MatchOption result (told_item s (sexp_of item.entry) ≡ None)
-            (λ told. MatchResult told (λ _. told_item s (sexp_of item.entry) ≡ Some (Ok None))
-            (λ flaw. told_item s (sexp_of item.entry) ≡ Some (Err flaw))) }
+            (λ told. (r : Result (Option Entry) TermFlaw) × (told_item s (sexp_of item.entry) ≡ Some r)
+            × IsOutcome (λ _. None) r told) }
     {
         if self.is_wide() {
             self.told_in(item)
@@ -34,11 +36,11 @@ impl Library<'_> {
     }
 
     // The same, whatever the profile is.
-    fn told_in(&self, item: Tree<'_>) -> Option<Result<(), TermFlaw>>
+    fn told_in(&self, item: Tree<'_>) -> Option<Result<(), TermFault>>
         ensures { (s : Signature) → StandsFor self.now s → s.theories.wide ≡ true
             → MatchOption result (told_in s (sexp_of item.entry) ≡ None)
-            (λ told. MatchResult told (λ _. told_in s (sexp_of item.entry) ≡ Some (Ok None))
-            (λ flaw. told_in s (sexp_of item.entry) ≡ Some (Err flaw))) }
+            (λ told. (r : Result (Option Entry) TermFlaw) × (told_in s (sexp_of item.entry) ≡ Some r)
+            × IsOutcome (λ _. None) r told) }
     {
         let Tree::List(parts) = item else {
             return None;
@@ -55,34 +57,30 @@ impl Library<'_> {
 
     // Checks `(declare-fun x () sort)`, from the parts after its first word: x has to have the form of the names of
     // the sort's elements, and be none that this library has.
-    fn check_declared(&self, parts: Trees<'_>) -> Result<(), TermFlaw>
+    fn check_declared(&self, parts: Trees<'_>) -> Result<(), TermFault>
         ensures { (s : Signature) → StandsFor self.now s → s.theories.wide ≡ true
-            → MatchResult result (λ _. declared_item s (sexps_of parts.entry) ≡ Ok None)
-            (λ flaw. declared_item s (sexps_of parts.entry) ≡ Err flaw) }
+            → IsOutcome (λ _. None) (declared_item s (sexps_of parts.entry)) result }
     {
         let Some((name, tree)) = constant_parts(parts) else {
-            return Err(TermFlaw::Form);
+            return Err(TermFault::Form);
         };
         let Some(element) = self.sorts.element_sort(name) else {
-            return Err(TermFlaw::Form);
+            return Err(TermFault::Form);
         };
         if self.has_entry(name) {
-            return Err(TermFlaw::NotFresh);
+            return Err(TermFault::NotFresh);
         }
         self.check_element_sort(element, tree)
     }
 
     // Checks that the sort of a tree is that of an element.
-    fn check_element_sort(&self, element: Sort, tree: Tree<'_>) -> Result<(), TermFlaw>
-        ensures { MatchResult result
-            (λ _. result_and_then (sort_named (sort_names self.now.sorts) (sexp_of tree.entry)) (told_sort element)
-            ≡ Ok None)
-            (λ flaw. result_and_then (sort_named (sort_names self.now.sorts) (sexp_of tree.entry)) (told_sort element)
-            ≡ Err flaw) }
+    fn check_element_sort(&self, element: Sort, tree: Tree<'_>) -> Result<(), TermFault>
+        ensures { IsOutcome (λ _. None) (result_and_then (sort_named (sort_names self.now.sorts) (sexp_of tree.entry))
+            (told_sort element)) result }
     {
-        let sort = self.sorts.sort_of(tree)?;
+        let sort = self.sorts.sort_of(self.alloc, tree)?;
         if !are_equal(element, sort) {
-            return Err(TermFlaw::IllSorted);
+            return Err(TermFault::IllSorted);
         }
         Ok(())
     }

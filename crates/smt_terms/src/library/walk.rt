@@ -181,7 +181,7 @@ impl Library<'_> {
             → IfOk result (IsLessStep (reverse frames.new.items) (work (reverse frames.old.items) (Enter part))) }
         ensures longer { GrowsTo draft.old draft.new }
     {
-        if let Some(flaw) = applied_flaw(head, args) {
+        if let Some(flaw) = applied_flaw(self.sorts.theories.wide, head, args) {
             return Err(TermFault::from(flaw));
         }
         let start = narrow(draft.arguments.len())?;

@@ -228,7 +228,7 @@ pub fn wide_logics_are_those_of_their_theories()
 pub fn wide_logics_of_arrays_are_those_of_their_theories()
     ensures arrays { AreWideLogicsOf
         (record { ints = false; bits = false; reals = false; arrays = true; wide = true })
-        (codes "AX" ∷ []) }
+        (codes "AX" ∷ codes "AUF" ∷ codes "AUFDT" ∷ []) }
     ensures ints { AreWideLogicsOf
         (record { ints = true; bits = false; reals = false; arrays = true; wide = true })
         (codes "ALIA" ∷ codes "ANIA" ∷ codes "AUFLIA" ∷ codes "AUFNIA" ∷ codes "AUFDTLIA"
@@ -247,9 +247,13 @@ pub fn wide_logics_of_arrays_are_those_of_their_theories()
         (record { ints = true; bits = true; reals = false; arrays = true; wide = true })
         (codes "ABVLIA" ∷ codes "AUFBVLIA" ∷ codes "AUFBVNIA" ∷ codes "AUFBVDTLIA"
         ∷ codes "AUFBVDTNIA" ∷ []) }
+    ensures bits_and_reals { AreWideLogicsOf
+        (record { ints = false; bits = true; reals = true; arrays = true; wide = true })
+        (codes "ABVLRA" ∷ codes "ABVNRA" ∷ codes "AUFBVLRA" ∷ codes "AUFBVNRA" ∷ []) }
     ensures all { AreWideLogicsOf
         (record { ints = true; bits = true; reals = true; arrays = true; wide = true })
-        (codes "ALL" ∷ codes "ALL_SUPPORTED" ∷ codes "AUFBVDTNIRA" ∷ []) }
+        (codes "ALL" ∷ codes "ALL_SUPPORTED" ∷ codes "AUFBVLIRA" ∷ codes "AUFBVNIRA"
+        ∷ codes "AUFBVDTLIRA" ∷ codes "AUFBVDTNIRA" ∷ []) }
 {}
 
 /// The profile Base has neither reals nor arrays and is never wide; the profile Wide always is.

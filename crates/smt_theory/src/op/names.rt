@@ -7,6 +7,7 @@ ghost use Rattle.smt_theory.specs.PlainOp.{op_of_plain};
 ghost use Rattle.smt_theory.specs.Words.{if_named};
 
 use crate::index::Index;
+use crate::op::arrays_ops::arrays_op;
 use crate::op::bits_ops::{
     added_op, binary_name, bits_op, comparison_name, folded_name, has_conversions, indexed_bits_op,
     unary_name,
@@ -57,6 +58,9 @@ pub fn plain_op_of(theories: Theories, symbol: &[u8]) -> Option<PlainOp>
     if let Some(op) = reals_op(theories, symbol) {
         return Some(op);
     }
+    if let Some(op) = arrays_op(theories, symbol) {
+        return Some(op);
+    }
     added_op(theories, symbol)
 }
 
@@ -66,7 +70,10 @@ fn indexed(theories: Theories, symbol: &[u8], indexes: &[Index]) -> Result<Op, O
     if theories.ints && is_named(symbol, b"divisible") {
         divisible(indexes).ok_or(OpFault::Index)
     } else if theories.bits {
-        indexed_bits_op(has_conversions(theories), symbol, indexes).map(Op::Bits)
+        match indexed_bits_op(has_conversions(theories), symbol, indexes) {
+            Ok(op) => Ok(Op::Bits(op)),
+            Err(fault) => Err(fault),
+        }
     } else {
         Err(OpFault::Unknown)
     }
@@ -99,5 +106,7 @@ fn plain_name(op: PlainOp) -> &'static [u8]
         PlainOp::Binary(op) => binary_name(op),
         PlainOp::BitsOrder(op) => comparison_name(op),
         PlainOp::Comp => b"bvcomp",
+        PlainOp::Select => b"select",
+        PlainOp::Store => b"store",
     }
 }

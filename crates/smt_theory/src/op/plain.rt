@@ -1,16 +1,18 @@
-//! Operators that hold no number, in two bytes. This file finds no operator by its name, and gives none a rank.
+//! Operators that hold no number and no sort, in two bytes. This file finds no operator by its name, and gives none a
+//! rank.
 
 ghost use Rattle.std.specs.Prelude.{◌≡◌, IfSome, IfNone, IsTrue};
 ghost use Rattle.smt_theory.specs.PlainOp.{has_number, op_of_plain};
 
+use crate::op::arrays_ops::plain_arrays;
 use crate::op::bits_ops::plain_bits;
 use crate::op::ints_ops::plain_ints;
 use crate::op::{
-    Arithmetic, BitsBinary, BitsComparison, BitsFolded, BitsOp, BitsUnary, Comparison, CoreOp,
-    IntsOp, Op, RealsOp,
+    Arithmetic, ArraysOp, BitsBinary, BitsComparison, BitsFolded, BitsOp, BitsUnary, Comparison,
+    CoreOp, IntsOp, Op, RealsOp,
 };
 
-/// An operator that holds no number. It has two bytes, where an `Op` has 64.
+/// An operator that holds no number and no sort. It has two bytes, where an `Op` has 64.
 #[derive(Clone, Copy)]
 pub enum PlainOp {
     Core(CoreOp),
@@ -25,6 +27,8 @@ pub enum PlainOp {
     Binary(BitsBinary),
     BitsOrder(BitsComparison),
     Comp,
+    Select,
+    Store,
 }
 
 impl PlainOp {
@@ -45,6 +49,8 @@ impl PlainOp {
             PlainOp::Binary(op) => Op::Bits(BitsOp::Binary(op)),
             PlainOp::BitsOrder(op) => Op::Bits(BitsOp::Comparison(op)),
             PlainOp::Comp => Op::Bits(BitsOp::Comp),
+            PlainOp::Select => Op::Arrays(ArraysOp::Select),
+            PlainOp::Store => Op::Arrays(ArraysOp::Store),
         }
     }
 
@@ -59,6 +65,7 @@ impl PlainOp {
             Op::Ints(op) => plain_ints(op),
             Op::Reals(op) => Some(PlainOp::Reals(op)),
             Op::Bits(op) => plain_bits(op),
+            Op::Arrays(op) => plain_arrays(op),
         }
     }
 }

@@ -1,6 +1,7 @@
 //! Laws of why an operator's result is known or open. Nothing here does anything.
 
-ghost use Rattle.std.specs.Prelude.{◌≡◌, ℕ, List, Option, Some, None, IsTrue, length, map, slice_get, true};
+ghost use Rattle.std.specs.Prelude.{◌≡◌, ℕ, List, Option, Some, None, IsTrue, length, map, slice_get, true, false};
+ghost use Rattle.smt_theory.specs.Operators.{is_on_arrays};
 ghost use Rattle.smt_theory.specs.Ranks.{HasRank};
 ghost use Rattle.smt_theory.specs.declared.op.Op.{Op};
 ghost use Rattle.smt_theory.specs.Sort.{Sort, is_number};
@@ -36,6 +37,6 @@ pub fn open_reasons_hold()
     ensures zero { (op : Op) (args : List (Option Element)) → reason op args ≡ Open DivisionByZero
         → IsTrue (divides_by_zero op args) }
     ensures range { (op : Op) (sorts : List Sort) (sort : Sort) (args : List Element)
-        → HasRank op sorts sort → AreOfSorts sorts args → reason op (map Some args) ≡ Open Range
-        → is_number sort ≡ true }
+        → is_on_arrays op ≡ false → HasRank op sorts sort → AreOfSorts sorts args
+        → reason op (map Some args) ≡ Open Range → is_number sort ≡ true }
 {}

@@ -1,10 +1,10 @@
-use Rattle.std.proofs.Common.{[], ◌+◌, ap, length, ◌∙◌}
+use Rattle.std.proofs.Common.{ℕ, [], ◌+◌, ap, length, Ok, ◌∙◌}
+use Rattle.smt_arrays.specs.Element.{known_plain}
 use Rattle.smt_machine.specs.Given.{given}
 use Rattle.smt_machine.specs.Tables.{nodes_of}
 use Rattle.smt_terms.specs.Library.{element_names_of, held_terms_of, terms_of}
 use Rattle.smt_eval.specs.Known.{by_name}
 use Rattle.smt_eval.specs.Numbering.{in_numbers}
-use Rattle.smt_eval.proofs.EvaluatorLemmas.{if_known}
 use Rattle.smt_eval.proofs.TermCostLemmas.{AreTablesOf, cost_is, cost_within, counted_is, paid_is}
 use Rattle.smt_eval.proofs.closed.eval_by.Goals as goal
 
@@ -27,7 +27,7 @@ returns-clause-paid c = λ script definitions t names holds term.
       count = c.tables_of.ensures.count;
       named = c.tables_of.ensures.named;
     } in
-    paid_is c.eval.result _ _ _ _ c.eval.ensures.paid
+    paid_is {F = ℕ} (Ok c.in_ok-value.value) _ _ _ _ c.in_ok-value.ensures.paid
     (cost_is c.nodes_have_the_costs_of_their_terms.ensures c.tables_of.result c.args.library.now
     c.args.interpretation.now c.args.term script definitions t are names holds term)
 
@@ -39,9 +39,9 @@ returns-clause-counted c = λ script definitions t names holds term.
       count = c.tables_of.ensures.count;
       named = c.tables_of.ensures.named;
     } in
-    counted_is c.eval.result _ _ c.nodes_take_the_least_of_their_terms.ensures c.tables_of.result
+    counted_is {F = ℕ} (Ok c.in_ok-value.value) _ _ c.nodes_take_the_least_of_their_terms.ensures c.tables_of.result
     c.args.library.now c.args.interpretation.now c.args.term script definitions t are names holds term
-    c.eval.ensures.counted
+    c.in_ok-value.ensures.counted
 
 pub returns-clause-known : goal.returns-clause-known
 returns-clause-known c = λ script definitions t names holds term.
@@ -50,8 +50,8 @@ returns-clause-known c = λ script definitions t names holds term.
     let script_terms = terms_of c.args.library.now in
     let declared = c.args.interpretation.now.declared.items in
     let id = c.args.term in
-    if_known c.eval.result _ _ c.eval.ensures.value
-    (ap (λ n. given (nodes_of c.tables_of.result) (n + id) []) c.tables_of.ensures.count
+    c.plain.ensures ∙ ap known_plain (c.in_ok-value.ensures.value
+    ∙ ap (λ n. given (nodes_of c.tables_of.result) (n + id) []) c.tables_of.ensures.count
     ∙ ap (λ nodes. given nodes (length model.rows + id) []) c.tables_of.ensures.nodes
     ∙ c.numbers_stand_for_names.ensures model script_terms declared (element_names_of library) (length model.rows + id) []
     (c.elements_have_numbers.ensures library.nodes)

@@ -4,18 +4,19 @@ use Rattle.smt_trees.specs.View.{sexp_of, sexps_of}
 use Rattle.smt_trees.specs.declared.reserved.Word.TheVariants.{Bang}
 use Rattle.smt_theory.specs.Index.{index_view}
 use Rattle.smt_theory.specs.Operators.{op_by}
-use Rattle.smt_values.specs.Element.{known_elements}
 use Rattle.smt_values.specs.ElementNumbers.{numbered_in}
-use Rattle.std.specs.Prelude.{option_and_then}
+use Rattle.std.specs.Prelude.{option_and_then, option_map}
 use Rattle.smt_forms.specs.ElementNames.{qualified_symbol}
 use Rattle.smt_values.specs.Element.{Naming}
 use Rattle.smt_forms.specs.Identifier.{Indexed}
 use Rattle.smt_forms.specs.IdentifierView.{identifier_view}
 use Rattle.smt_eval.specs.Internal.PlainEvaluation.{known_scope, meaning_of}
 use Rattle.smt_eval.specs.Known.{known_of, known_of_op, known_operators}
-use Rattle.smt_eval.specs.PlainTerm.{entries_of}
+use Rattle.smt_arrays.specs.Element.{Plain as NoArray}
+use Rattle.smt_eval.specs.PlainTerm.{entries_of, known_singles, unless_array, without_arrays}
 use Rattle.smt_eval.proofs.EvaluatorLemmas.{element_kept, if_known, known_with_indexes, let_known, list_called}
 use Rattle.smt_eval.proofs.EvaluatorLemmas.{no_variable, not_reserved, variable_found}
+use Rattle.smt_eval.proofs.PlainLemmas.{constant_open}
 use Rattle.smt_eval.proofs.plain.+known_plain.Goals as goal
 
 pub evaluator::known_symbol-returns-in-Some : goal.evaluator::known_symbol-returns-in-Some
@@ -67,19 +68,28 @@ names::known_applied-returns-in-Indexed t c =
     let name = c.in-Indexed.name.now in
     let indexes = map index_view c.in-Indexed.indexes.items in
     c.known_of_indexed.ensures (numbered_in c.args.over.names.now) name indexes
-    ∙ ap (λ o. known_of_op (numbered_in c.args.over.names.now) o (Indexed name indexes) (known_elements c.args.args.now))
+    ∙ ap (λ o. unless_array (known_of_op (numbered_in c.args.over.names.now) o (Indexed name indexes)
+    (known_singles c.args.args.now)))
     (c.op_of.ensures ∙ ap (λ is. op_by c.args.over.theories name (map index_view is)) c.as_slice.ensures.value)
-    ∙ sym (known_with_indexes (known_operators (numbered_in c.args.over.names.now) c.args.over.theories) (entries_of c.args.over.seen.now) name
-    indexes (known_elements c.args.args.now))
-    ∙ ap (λ i. (meaning_of c.args.over).gives (identifier_view i) (known_elements c.args.args.now))
+    ∙ sym (known_with_indexes (without_arrays (known_operators (numbered_in c.args.over.names.now) c.args.over.theories))
+    (entries_of c.args.over.seen.now) name indexes (known_singles c.args.args.now))
+    ∙ ap (λ i. (meaning_of c.args.over).gives (identifier_view i) (known_singles c.args.args.now))
     (sym c.in-Indexed.is)
+
+pub names::known_applied-returns-in-Qualified : goal.names::known_applied-returns-in-Qualified
+names::known_applied-returns-in-Qualified t c =
+    constant_open (numbered_in c.args.over.names.now) c.args.over.theories (entries_of c.args.over.seen.now)
+    (sexp_of c.in-Qualified.field-0) (known_singles c.args.args.now)
+    ∙ ap (λ i. (meaning_of c.args.over).gives (identifier_view i) (known_singles c.args.args.now))
+    (sym c.in-Qualified.is)
 
 pub evaluator::known_reserved-returns-in-As : goal.evaluator::known_reserved-returns-in-As
 evaluator::known_reserved-returns-in-As t c =
     let over = c.args.over in
     let trees = sexps_of c.args.args in
     c.known_qualified.ensures
-    ∙ sym (ap (λ (f : Naming). option_and_then f (qualified_symbol trees))
-    (element_kept (known_operators (numbered_in over.names.now) over.theories) (entries_of over.seen.now)))
+    ∙ sym (ap (λ (f : Naming). option_map NoArray (option_and_then f (qualified_symbol trees)))
+    (element_kept (without_arrays (known_operators (numbered_in over.names.now) over.theories))
+    (entries_of over.seen.now)))
     ∙ sym (ap (λ w. known_of (meaning_of over) (known_scope c.args.scope.now) (Items (Cons (Reserved w) trees)))
     c.in-As.is)

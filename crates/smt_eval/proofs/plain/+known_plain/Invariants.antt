@@ -1,7 +1,7 @@
 use Rattle.std.proofs.Common.{◌≡◌, ◌+◌, ◌*◌, ◌≤◌, ◌++◌}
 use Rattle.smt_trees.specs.Sexp.{weight, weight_all}
 use Rattle.smt_trees.specs.View.{sexp_of, sexps_of}
-use Rattle.smt_values.specs.Element.{known_elements}
+use Rattle.smt_eval.specs.PlainTerm.{known_singles}
 use Rattle.smt_eval.specs.Internal.PlainEvaluation.{known_scope, meaning_of, seen_weight}
 use Rattle.smt_eval.specs.Known.{knowns_bound, knowns_of}
 use Rattle.smt_eval.proofs.plain.+known_plain.Given as goal
@@ -46,7 +46,7 @@ abbrev pub invariant-evaluator::known_all-loop-term :
     goal.invariant-evaluator::known_all-loop-term
 invariant-evaluator::known_all-loop-term l = record {
   answer : knowns_of (meaning_of l.over) (known_scope l.scope) (sexps_of l.terms)
-      ≡ known_elements l.known.items
+      ≡ known_singles l.known.items
       ++ knowns_of (meaning_of l.over) (known_scope l.scope) (sexps_of l.left);
   lighter : weight_all (sexps_of l.left) ≤ weight_all (sexps_of l.terms);
 }

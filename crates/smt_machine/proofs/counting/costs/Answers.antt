@@ -38,7 +38,8 @@ loop-number-2-preserved c =
     let arounds = arounds_of c.args.tables in
     let kept = c.loop-number-2.costs.items in
     let seen = c.as_slice-in-loop-number-2.ensures.value in
-    let all : c.push-in-loop-number-2.new.self.items ≡ kept ++ c.cost_at-next.result ∷ [] = c.in_ok-push-2.ensures.items in
+    let all : c.push-in-loop-number-2.new.self.items ≡ kept ++ c.cost_at-next.result ∷ [] =
+    c.in_ok-push-2.ensures.items in
     let is : c.cost_at-next.result ≡ capped (node_cost (length kept) (cost nodes arounds)
     (found_around c.script_place.result) (found c.script_place.result)) =
     c.cost_at-next.ensures (cost nodes arounds)

@@ -42,7 +42,8 @@ returns-in-None-clause-taken c =
     let arounds = arounds_of c.args.tables.now in
     let node = node_parts nodes arounds c.args.number (found_around c.place-place.result)
     (found c.place-place.result) c.place-place.ensures.around c.place-place.ensures.node in
-    let none = ap (λ n. first_cost c.args.number (cost nodes arounds) n + last_cost c.args.number (cost nodes arounds) n)
+    let none =
+    ap (λ n. first_cost c.args.number (cost nodes arounds) n + last_cost c.args.number (cost nodes arounds) n)
     (sym c.node.ensures.meaning ∙ ap (option_map (meaning c.place-place.result)) c.in-None.is) in
     let one = c.in-Some.ensures in
     let rest = c.in-Some-checked_sub.ensures in

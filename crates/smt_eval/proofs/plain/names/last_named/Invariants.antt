@@ -1,6 +1,6 @@
 -- the definitions behind those that are left have another name
 use Rattle.std.proofs.Common.{◌≡◌, ◌≤◌, List, Option, length, take}
-use Rattle.smt_values.specs.Element.{Element}
+use Rattle.smt_arrays.specs.Element.{Element}
 use Rattle.smt_forms.specs.Identifier.{Plain}
 use Rattle.smt_eval.specs.Internal.PlainEvaluation.{bodies_weight}
 use Rattle.smt_eval.specs.Known.{KnownMeaning, known_after}

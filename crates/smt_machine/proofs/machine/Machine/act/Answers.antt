@@ -1,15 +1,35 @@
-use Rattle.std.proofs.Common.{IfOk, subst, sym}
+use Rattle.std.proofs.Common.{◌≡◌, List, subst, sym}
 use Rattle.smt_machine.specs.Internal.Tasks.{IsStep}
+use Rattle.smt_machine.specs.Nodes.{Node}
 use Rattle.smt_machine.specs.Tables.{nodes_of}
+use Rattle.smt_machine.specs.declared.machine.Machine.{Machine}
 use Rattle.smt_machine.specs.declared.task.Task.{Task}
-use Rattle.smt_machine.proofs.StepLemmas.{if_done, keeping_step}
+use Rattle.smt_machine.proofs.StepLemmas.{if_done, keeping_step, open_done, returned, unbound}
 use Rattle.smt_machine.proofs.machine.Machine.act.Goals as goal
 
+-- the step of the task that this is
+step_of : (nodes : List Node) (task other : Task) (before after : Machine) → task ≡ other
+    → IsStep nodes other before after → IsStep nodes task before after
+step_of nodes task other before after is step =
+    let P : Task → Type 0 = λ t. IsStep nodes t before after in subst P (sym is) step
+
+pub returns-in-Open-clause-step : goal.returns-in-Open-clause-step
+returns-in-Open-clause-step c = if_done c.leave.result c.leave.ensures
+    (λ is. step_of (nodes_of c.args.tables.now) c.args.task _ c.args.self.now c.leave.new.self c.in-Open.is
+    (open_done (nodes_of c.args.tables.now) c.args.self.now c.leave.new.self is c.requires.based))
+
+pub returns-in-Return-clause-step : goal.returns-in-Return-clause-step
+returns-in-Return-clause-step c =
+    step_of (nodes_of c.args.tables.now) c.args.task _ c.args.self.now c.leave_frame.new.self c.in-Return.is
+    (returned (nodes_of c.args.tables.now) c.in-Return.base c.args.self.now c.leave_frame.new.self
+    c.leave_frame.ensures)
+
+pub returns-in-Unbind-clause-step : goal.returns-in-Unbind-clause-step
+returns-in-Unbind-clause-step c =
+    step_of (nodes_of c.args.tables.now) c.args.task _ c.args.self.now c.unbind.new.self c.in-Unbind.is
+    (unbound (nodes_of c.args.tables.now) c.in-Unbind.len c.args.self.now c.unbind.new.self c.unbind.ensures)
+
 pub returns-in-Keep-clause-step : goal.returns-in-Keep-clause-step
-returns-in-Keep-clause-step c =
-    subst (λ (task : Task). IfOk c.keep.result
-    (λ x. IsStep (nodes_of c.args.tables.now) task c.args.self.now c.keep.new.self))
-    (sym c.in-Keep.is)
-    (if_done c.keep.result c.keep.ensures
-    (λ is. keeping_step (nodes_of c.args.tables.now) c.in-Keep.number c.args.self.now c.keep.new.self is
-    c.requires.based))
+returns-in-Keep-clause-step c = if_done c.keep.result c.keep.ensures
+    (λ is. step_of (nodes_of c.args.tables.now) c.args.task _ c.args.self.now c.keep.new.self c.in-Keep.is
+    (keeping_step (nodes_of c.args.tables.now) c.in-Keep.number c.args.self.now c.keep.new.self is c.requires.based))

@@ -9,4 +9,5 @@ loop-last-preserved c = record {
       c.in-Some.ensures.cases.0 c.task_of.ensures c.loop-last.invariant.tasks c.in_ok-push-2.ensures.items;
   state = c.loop-last.invariant.state;
   kept = c.loop-last.invariant.kept;
+  arrays = c.loop-last.invariant.arrays;
 }

@@ -10,6 +10,7 @@ invariant-loop-last l = record {
       ≡ l.self.tasks.items ++ visits l.number (map (λ id. l.parts.shift + id) l.left);
   state : state_of l.self ≡ state_of l.fn.self;
   kept : l.self.kept ≡ l.fn.self.kept;
+  arrays : l.self.arrays ≡ l.fn.self.arrays;
 }
 
 abbrev pub decreases-loop-last : goal.decreases-loop-last

@@ -31,5 +31,5 @@ returns-in-Some-2 c = if_done c.plan.result c.plan.ensures
 pub returns-in-None : goal.returns-in-None
 returns-in-None c = if_done c.leave.result c.leave.ensures
     (λ is nodes at. visited nodes c.args.number (Some (Known None)) None c.args.self.now c.leave.new.self
-    (sym (ap (λ b. Some (call (option_map number_of b) (numbers_of c.args.args))) c.in-None.is) ∙ at) (λ k. refl) refl is
-    c.requires)
+    (sym (ap (λ b. Some (call (option_map number_of b) (numbers_of c.args.args))) c.in-None.is) ∙ at) (λ k. refl)
+    refl is c.requires)

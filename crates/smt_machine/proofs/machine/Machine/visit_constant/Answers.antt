@@ -1,14 +1,12 @@
-use Rattle.std.proofs.Common.{◌∙◌, ap, sym}
-use Rattle.smt_values.specs.Element.{known_element}
-use Rattle.std.specs.Prelude.{option_map}
+use Rattle.std.proofs.Common.{◌∙◌, sym}
 use Rattle.smt_machine.proofs.StepLemmas.{closed_step, if_done, kept_step, open_step}
 use Rattle.smt_machine.proofs.machine.Machine.visit_constant.Goals as goal
 
 pub returns-in-Some-kept : goal.returns-in-Some-kept
 returns-in-Some-kept c = if_done c.leave.result c.leave.ensures
-    (λ is nodes number part at below. kept_step nodes number part c.in-Some.body (known_element c.in-Some-kept.value)
+    (λ is nodes number part at below. kept_step nodes number part c.in-Some.body c.in-Some-kept.value
     c.args.self.now c.leave.new.self at (sym c.in-Some.is ∙ below)
-    (sym (ap (option_map known_element) c.in-Some-kept.is) ∙ c.kept.ensures) is c.requires)
+    (sym c.in-Some-kept.is ∙ c.kept.ensures.kept) is c.requires)
 
 pub returns-in-None-kept : goal.returns-in-None-kept
 returns-in-None-kept c = if_done c.enter_closed.result c.enter_closed.ensures

@@ -21,7 +21,8 @@ returns-else-own-count-clause-node c =
     (λ i. option_map (λ (row : Row). resolved (cond (e.named i) (numbered_in (names_of (e.nodes i))) unnamed) (shift i)
     (e.bodies i) (e.declared i) row.node)
     (slice_get (rows_of (e.nodes i)) at.number))
-    ∙ sym (at_transient model (λ (row : Row). resolved (elements_of tables) 0 tables.model_bodies.now [] row.node) script
+    ∙ sym (at_transient model
+    (λ (row : Row). resolved (elements_of tables) 0 tables.model_bodies.now [] row.node) script
     (rows_of tables.transient.now)
     (λ (row : Row). resolved unnamed (length model) tables.script_bodies.now tables.declared.now row.node) c.args.number
     at.number (omega (arith, here, behind)) (omega (arith, here, behind, past, count))

@@ -1,6 +1,6 @@
 use Rattle.std.proofs.Common.{inl, Some}
 use Rattle.smt_forms.specs.IdentifierView.{identifier_view}
-use Rattle.smt_terms.specs.Blame.{is_unknown, name_of}
+use Rattle.smt_terms.specs.Blame.{is_unknown}
 use Rattle.smt_terms.specs.Internal.LibraryView.{names_of_library, sort_names}
 use Rattle.smt_terms.proofs.BlameLemmas.{named_so, told_unknown}
 use Rattle.smt_terms.proofs.library.Library.blame_of_identifier.Goals as goal

@@ -11,6 +11,7 @@ use Rattle.smt_terms.specs.declared.library.frames.Next.{Next}
 use Rattle.smt_terms.specs.declared.library.frames.Next.TheVariants.{Checked, Enter}
 use Rattle.smt_terms.proofs.ApplicationLemmas.{argument_link, call_done, call_fault, called_next, waits_first}
 use Rattle.smt_terms.proofs.ArgumentLemmas.{sees_with}
+use Rattle.smt_terms.proofs.CheckerLemmas.{in_profile}
 use Rattle.smt_terms.proofs.DraftLemmas.{kept_on, placed_kept}
 use Rattle.smt_terms.proofs.FrameLemmas.{begun_next, fault_through, link_fault, push_less, pushed}
 use Rattle.smt_terms.proofs.TableLemmas.{grows_on}
@@ -144,7 +145,8 @@ returns-in_err-checked-2-clause-next c first outer placed called chain =
     (fault_through library whole (reverse c.args.frames.now.items) first outer _ chain
     (call_fault library whole a c.loop-term.left c.loop-term.is_open outer c.loop-term.draft _ now
     c.in_default.ensures.trees
-    ((c.in_err-checked-2.ensures.call app.head now.args app.identifier app.lie app.named).0)))
+    ((c.in_err-checked-2.ensures.call app.head now.args app.identifier app.lie
+    (in_profile library.sorts.theories.wide app.head now.args app.identifier app.named)).0)))
 
 pub returns-in_err-checked-2-clause-longer : goal.returns-in_err-checked-2-clause-longer
 returns-in_err-checked-2-clause-longer c =
@@ -164,7 +166,8 @@ returns-clause-next c first outer placed called chain =
     let now = c.loop-term.invariant.called outer called in
     let app = now.application in
     let added = c.in_ok-checked-2.ensures in
-    let call = added.call app.head now.args app.identifier app.lie app.named in
+    let call = added.call app.head now.args app.identifier app.lie
+    (in_profile library.sorts.theories.wide app.head now.args app.identifier app.named) in
     record {
       inner = outer;
       placed = placed;

@@ -1,12 +1,9 @@
-use Rattle.std.proofs.Common.{◌≡◌, ℕ, Bool, true, false, cond, List, [], Some, Ok, Err, inl, inr, map, ap, subst}
+use Rattle.std.proofs.Common.{◌≡◌, ℕ, Bool, true, false, cond, List, [], Ok, Err, inl, inr, map, ap, subst}
 use Rattle.std.proofs.Common.{sym, ◌∙◌}
-use Rattle.std.specs.Prelude.{unwrap_or}
 use Rattle.std.proofs.lemmas.Result.{IfErr-weaker, err_from_is_err_and, on_err_weaker, on_ok_weaker}
-use Rattle.smt_faults.specs.Faults.{flaw_of_term_fault}
 use Rattle.smt_faults.specs.Outcome.{Tells}
 use Rattle.smt_faults.specs.declared.term_fault.TermFault.{TermFault}
-use Rattle.smt_faults.specs.declared.term_flaw.TermFlaw.{TermFlaw}
-use Rattle.smt_faults.specs.declared.term_flaw.TermFlaw.TheVariants.{Form, NotFresh}
+use Rattle.smt_faults.specs.declared.term_flaw.TermFlaw.TheVariants.{NotFresh}
 use Rattle.smt_trees.specs.Sexp.{Sexp}
 use Rattle.smt_trees.specs.View.{sexp_of}
 use Rattle.smt_terms.specs.Definitions.{defined_in, definition_in, parameters_named}
@@ -50,7 +47,7 @@ returns-clause-defined c =
       define_step c.args.self.now s c.args.name.now params tree body
           (scope_view c.in_ok-parameters.parameters.items) rs c.in_ok-sort.sort stands
           (sym c.if-is_taken.ensures) c.in_ok-parameters.ensures
-          c.in_ok-sort.ensures (ap scope_view c.as_slice.ensures.value) ∙ more.1,
+          (sym c.in_ok-sort.ensures) (ap scope_view c.as_slice.ensures.value) ∙ more.1,
       more.2 (not_operator c.args.self.now s c.args.name.now stands (sym c.if-is_taken.ensures)),
     ))
     c.add_definition.ensures.added
@@ -68,7 +65,7 @@ returns-clause-refused c =
     (define_step c.args.self.now s c.args.name.now params tree body
     (scope_view c.in_ok-parameters.parameters.items) rs c.in_ok-sort.sort stands
     (sym c.if-is_taken.ensures) c.in_ok-parameters.ensures
-    c.in_ok-sort.ensures (ap scope_view c.as_slice.ensures.value)) (refused s stands))
+    (sym c.in_ok-sort.ensures) (ap scope_view c.as_slice.ensures.value)) (refused s stands))
     c.add_definition.ensures.refused
 
 -- whether a name is taken is as the library says
@@ -100,16 +97,16 @@ define_unbound library s x params tree body fault stands is (inr e) =
 
 -- the fault of its sort
 define_unsorted : (library : Library) (s : Signature) (x : List ℕ) (params : List (List ℕ × Sexp)) (tree body : Sexp)
-    (ps : Params) (flaw : TermFlaw) (fault : TermFault) → StandsFor library s
+    (ps : Params) (fault : TermFault) → StandsFor library s
     → false ≡ is_taken (names_of_library library) x → parameters_named (sort_names library.sorts) [] params ≡ Ok ps
-    → Err flaw ≡ sort_named (sort_names library.sorts) tree → flaw_of_term_fault fault ≡ Some flaw
+    → Tells (sort_named (sort_names library.sorts) tree) fault
     → Tells (defined_in s x params tree body) fault
-define_unsorted library s x params tree body ps flaw fault stands is bound sorted told =
+define_unsorted library s x params tree body ps fault stands is bound (inl m) = inl m
+define_unsorted library s x params tree body ps fault stands is bound (inr sorted) =
     inr (defined-bound s x params tree body ps (taken_as library s x false stands is)
     (ap (λ sorts. parameters_named sorts [] params) (sym (sorts_as library s stands)) ∙ bound)
     ∙ ap (λ r. result_and_then r (λ sort. definition_in (names_of s) x ps sort body))
-    (ap (λ sorts. sort_named sorts tree) (sym (sorts_as library s stands)) ∙ sym sorted)
-    ∙ ap (λ o. Err (unwrap_or o Form)) (sym told))
+    (ap (λ sorts. sort_named sorts tree) (sym (sorts_as library s stands)) ∙ sorted))
 
 pub returns-then-is_taken-clause-refused : goal.returns-then-is_taken-clause-refused
 returns-then-is_taken-clause-refused c = λ s stands. inr (define_taken c.args.self.now s c.args.name.now
@@ -125,10 +122,10 @@ returns-in_err-parameters-clause-refused c =
 pub returns-in_err-sort-clause-refused : goal.returns-in_err-sort-clause-refused
 returns-in_err-sort-clause-refused c =
     let p = err_from_is_err_and c.from_residual-in_err-sort.result c.from_residual-in_err-sort.ensures.1 in
-    rw p.1
+    rw (p.1, p.2)
     (λ s stands. define_unsorted c.args.self.now s c.args.name.now (map param_view c.args.params.now)
-    (sexp_of c.args.sort) (sexp_of c.args.body) (scope_view c.in_ok-parameters.parameters.items) _ _ stands
-    c.if-is_taken.ensures c.in_ok-parameters.ensures c.in_err-sort.ensures p.2)
+    (sexp_of c.args.sort) (sexp_of c.args.body) (scope_view c.in_ok-parameters.parameters.items) _ stands
+    c.if-is_taken.ensures c.in_ok-parameters.ensures c.in_err-sort.ensures)
 
 pub returns-clause-unchanged : goal.returns-clause-unchanged
 returns-clause-unchanged c =

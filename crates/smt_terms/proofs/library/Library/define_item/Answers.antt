@@ -5,8 +5,16 @@ use Rattle.smt_theory.specs.Words.{result_and_then}
 use Rattle.smt_forms.specs.ItemForm.{item_form}
 use Rattle.smt_terms.specs.Items.{item_by, item_in}
 use Rattle.smt_terms.proofs.DefinitionLemmas.{same_fault}
-use Rattle.smt_terms.proofs.RepeatedLemmas.{item_untold}
+use Rattle.smt_terms.proofs.RepeatedLemmas.{item_untold, told_ok, told_refused}
 use Rattle.smt_terms.proofs.library.Library.define_item.Goals as goal
+
+pub returns-in-Some-clause-defined : goal.returns-in-Some-clause-defined
+returns-in-Some-clause-defined c =
+    told_ok c.args.script.now c.args.self.now (sexp_of c.args.item) c.in-Some.told c.in-Some.ensures
+
+pub returns-in-Some-clause-refused : goal.returns-in-Some-clause-refused
+returns-in-Some-clause-refused c =
+    told_refused c.args.script.now c.args.self.now (sexp_of c.args.item) c.in-Some.told c.in-Some.ensures
 
 pub returns-in-None-clause-defined : goal.returns-in-None-clause-defined
 returns-in-None-clause-defined c =

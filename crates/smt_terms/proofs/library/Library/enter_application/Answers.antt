@@ -2,7 +2,7 @@ use Rattle.std.proofs.Common.{ap, refl, reverse, ◌+◌, ◌∙◌}
 use Rattle.smt_trees.specs.Sexp.{Cons, Items}
 use Rattle.smt_trees.specs.View.{sexp_of, sexps_of}
 use Rattle.smt_faults.specs.Faults.{flaw_of_term_fault}
-use Rattle.smt_forms.specs.Identifier.{applied}
+use Rattle.smt_forms.specs.Identifier.{applied_in}
 use Rattle.std.proofs.Common.{◌≡◌, Some, rules}
 use Rattle.smt_terms.specs.Internal.DraftView.{sorts_seen}
 use Rattle.smt_terms.specs.Internal.Frames.{IsApplication, IsCalled, begun}
@@ -23,7 +23,8 @@ returns-in-Some-clause-next c first plain lie lies chain =
     fault_through c.args.self.now c.args.whole (reverse c.args.frames.now.items) first _ c.from.result chain
     (fault_of_form (names_for c.args.self.now (labels_view c.args.draft.now.labels)) (sorts_seen c.args.draft.now) head
     args (Cons head args) c.from.result refl plain
-    (told (applied head args) c.in-Some.flaw c.from.result c.in-Some.ensures made))
+    (told (applied_in c.args.self.now.sorts.theories.wide head args) c.in-Some.flaw c.from.result
+    c.in-Some.ensures made))
 
 pub returns-clause-next : goal.returns-clause-next
 returns-clause-next c first plain lie lies chain =
@@ -38,7 +39,7 @@ returns-clause-next c first plain lie lies chain =
       start = c.in_ok-start.start;
       around = c.args.part.around;
     } in
-    let application : IsApplication c.args.whole a outer args = record {
+    let application : IsApplication library c.args.whole a outer args = record {
       head = head;
       identifier = c.in_default.ensures.0;
       lie = lie;

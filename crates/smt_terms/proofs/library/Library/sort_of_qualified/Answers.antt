@@ -17,7 +17,7 @@ returns-in_default-clause-sort c =
     (sexps_of c.args.parts) c.in_default.ensures)
 
 pub returns-clause-sort : goal.returns-clause-sort
-returns-clause-sort c = sym c.in_ok-sort.ensures ∙ ap (λ s. Ok s) (sym c.in_ok-push_element.ensures.sort)
+returns-clause-sort c = c.in_ok-sort.ensures ∙ ap (λ s. Ok s) (sym c.in_ok-push_element.ensures.sort)
 
 pub returns-clause-node : goal.returns-clause-node
 returns-clause-node c =
@@ -26,7 +26,7 @@ returns-clause-node c =
     let new = c.push_element.new.draft in
     let names = names_of_library library in
     let found = qualified_found names.elements names.ranks (sexps_of c.args.parts) c.in_ok-sort.sort
-    c.in-Some.symbol.now (sym c.in_ok-sort.ensures) c.in-Some.ensures in
+    c.in-Some.symbol.now c.in_ok-sort.ensures c.in-Some.ensures in
     made_stands library old old new c.args.around (Items (Cons (Reserved As) (sexps_of c.args.parts)))
     (node.Element c.in-Some.symbol.now) c.in_ok-push_element.field-0 (grows_itself old) (keeps_itself library old)
     c.push_element.ensures.longer c.in_ok-push_element.ensures.added

@@ -1,4 +1,3 @@
-use Rattle.std.proofs.Common.{◌≡◌}
 use Rattle.smt_trees.specs.Sexp.{weight_all}
 use Rattle.smt_trees.specs.View.{sexps_of}
 use Rattle.smt_terms.proofs.library.stops.argument_before.Given as goal

@@ -1,4 +1,3 @@
-use Rattle.std.proofs.Common.{◌≡◌}
 use Rattle.smt_trees.specs.Places.{size_of}
 use Rattle.smt_terms.proofs.library.stops.stripped.Given as goal
 

@@ -18,6 +18,6 @@ returns-clause-abbreviated c =
       record { sort = c.in_ok-sort.sort; is_declared = false },
       ap (λ b. cond b (Err NotFresh)
           (result_and_then (sort_named (sort_names old) (sexp_of c.args.tree)) abbreviation))
-          (sym c.if-is_taken.ensures) ∙ ap (λ r. result_and_then r abbreviation) (sym c.in_ok-sort.ensures),
+          (sym c.if-is_taken.ensures) ∙ ap (λ r. result_and_then r abbreviation) c.in_ok-sort.ensures,
       c.in_ok-insert.ensures.inserted,
     )

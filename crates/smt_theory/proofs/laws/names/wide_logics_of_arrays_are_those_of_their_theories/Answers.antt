@@ -20,5 +20,8 @@ returns-clause-bits c = logics_of _ _ _ refl (search rules)
 pub returns-clause-bits_and_ints : goal.returns-clause-bits_and_ints
 returns-clause-bits_and_ints c = logics_of _ _ _ refl (search rules)
 
+pub returns-clause-bits_and_reals : goal.returns-clause-bits_and_reals
+returns-clause-bits_and_reals c = logics_of _ _ _ refl (search rules)
+
 pub returns-clause-all : goal.returns-clause-all
 returns-clause-all c = logics_of _ _ _ refl (search rules)

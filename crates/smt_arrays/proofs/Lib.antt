@@ -1,0 +1,16 @@
+pub mod AlikeLemmas
+pub mod CellLemmas
+pub mod ChainLemmas
+pub mod CompareLemmas
+pub mod ExtensionLemmas
+pub mod KeyLemmas
+pub mod LiftLemmas
+pub mod LookupLemmas
+pub mod MeaningLemmas
+pub mod OperateLemmas
+pub mod PlainLemmas
+pub mod PlainSameLemmas
+pub mod SamenessLemmas
+pub mod SortLemmas
+pub mod StoreLemmas
+pub mod UniverseLemmas

@@ -1,0 +1,10 @@
+pub mod Element
+pub mod Reading
+pub mod Operations
+pub mod Known
+pub mod Tables
+pub mod Cells
+pub mod Internal
+pub mod Elements
+pub mod KeyLaws
+pub mod Lookup
