@@ -1,4 +1,5 @@
 """What dialogues with arrays are made of: small arrays in all shapes, large ones, sorts and terms with faults, names that are operators or free."""
+from arrays import LARGEST
 from dialogues import is_right_form
 from flaws import templates
 from sorts import ARRAYS, BITS, BOOL, INTS, LOGICS, REALS, WIDE, Array, Free
@@ -258,7 +259,7 @@ class ArrayAims:
         for index in range(writes):
             tree = listed("store", tree, index, rng.randrange(3))
         unit = 2 + writes
-        places = (4096 + (writes == 15)) // unit - 2 + rng.choice((-1, 0, 0, 1))
+        places = LARGEST // unit - 2 + rng.choice((-1, 0, 0, 1))
         both = ["r1", "r2"]
         made = []
         first = rng.randint(0, places)
@@ -269,7 +270,7 @@ class ArrayAims:
             made.append(array)
         body = listed(rng.choice(("=", "distinct")), *both)
         if rng.random() < 0.3:
-            body = listed(body[0].text, listed("select", "r1", 0), *["r0"] * (4096 // (unit - 1) - rng.choice((0, 1, 1, 2))))
+            body = listed(body[0].text, listed("select", "r1", 0), *["r0"] * (LARGEST // (unit - 1) - rng.choice((0, 1, 1, 2))))
         tree = [word("let"), [[symbol("r0"), tree]], [word("let"), [[symbol(name), array] for name, array in zip(both, made)], body]]
         self.assert_tree(tree, rng.random() < 0.7)
         self.check_numbers()

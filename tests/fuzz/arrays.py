@@ -6,7 +6,7 @@ from sorts import BOOL, Array, Free, is_bits
 from values import OPEN
 
 # How large the arrays may be together that an operator compares place by place.
-LARGEST = 4096
+LARGEST = 256
 
 
 class Table:

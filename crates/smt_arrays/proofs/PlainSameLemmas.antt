@@ -48,7 +48,7 @@ none_slow (e ∷ es) = none_slow es
 
 not_too_much : (es : List plain.Element) (o : Option Element) → cond (is_too_much (map Plain es)) None o ≡ o
 not_too_much es o =
-    ap (λ b. cond (b && nat_lt 4096 (sum (map size (map Plain es)))) None o) (none_slow es)
+    ap (λ b. cond (b && nat_lt 256 (sum (map size (map Plain es)))) None o) (none_slow es)
 
 plain_neighbours : (es : List plain.Element)
     → are_all_so (neighbours_same (map Plain es)) ≡ Some (are_chained is_same es)

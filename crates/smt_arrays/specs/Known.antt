@@ -70,7 +70,7 @@ is_slow a = is_array a && (is_array (default_of a) || are_named (indexes a))
 
 -- too much is written in arrays that are compared place by place
 abbrev pub is_too_much : List Element → Bool
-is_too_much es = list_any is_slow es && nat_lt 4096 (sum (map size es))
+is_too_much es = list_any is_slow es && nat_lt 256 (sum (map size es))
 
 -- ---- operators
 

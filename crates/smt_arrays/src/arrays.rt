@@ -29,7 +29,7 @@ use std::alloc::Global;
 use std::marker::Model;
 
 // How much may be written in arrays that are compared place by place.
-const MOST_WRITTEN: u32 = 4096;
+const MOST_WRITTEN: u32 = 256;
 
 /// What an array is made of: the element that it has at each index; or another array, at an earlier place, and what it
 /// has at one index instead.

@@ -111,7 +111,7 @@ module _ (g : Renaming) (injective : IsInjective g) where
   any_slow_stays (e ∷ es) = ap₂ (λ x y. x || y) (slow_stays e) (any_slow_stays es)
 
   too_much_stays : (es : List Element) → is_too_much (others es) ≡ is_too_much es
-  too_much_stays es = ap₂ (λ x ns. x && nat_lt 4096 (sum ns)) (any_slow_stays es) (sizes_stay es)
+  too_much_stays es = ap₂ (λ x ns. x && nat_lt 256 (sum ns)) (any_slow_stays es) (sizes_stay es)
 
   -- ---- operators
 
