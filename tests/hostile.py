@@ -21,8 +21,8 @@ FALSE = "((define-fun p () Bool false))"
 ASK = "(check-sat)(get-model)"
 
 # A shape: what makes its texts from a size, that size, the most seconds where some are promised, and the most bytes of memory for each byte
-# beside those that any program has: none where nothing stays in force. Then the statuses of its reports, and whether they are explained.
-Shape = namedtuple("Shape", "make size seconds memory statuses explained", defaults=((0, 1, 2), False))
+# beside those that any program has: none where nothing stays in force. Then the statuses of its reports, whether they are explained, and options.
+Shape = namedtuple("Shape", "make size seconds memory statuses explained options", defaults=((0, 1, 2), False, ()))
 
 
 def models_over_an_unused_body(n):
@@ -203,6 +203,68 @@ def many_refuted_checks(n):
     return DECLARED + "(assert (or p (not p)))" * 1000 + "(assert p)" + ASK * n, ("sat" + FALSE) * n
 
 
+def stored(sort, default, writes):
+    """An array that is written at some indexes."""
+    tree = "((as const %s) %s)" % (sort, default)
+    return "(store " * len(writes) + tree + "".join(" %s %s)" % write for write in writes)
+
+
+def compared(sort, default, writes, n, before=""):
+    """Equalities of two arrays that are written alike, in opposite orders."""
+    script = before + "(declare-const a %s)(declare-const b %s)" % (sort, sort)
+    script += "(define-fun f ((x %s) (y %s)) Bool (and%s))" % (sort, sort, " (= x y)" * 100)
+    model = "".join("(define-fun %s () %s %s)" % (name, sort, stored(sort, default, order)) for name, order in (("a", writes), ("b", writes[::-1])))
+    return script + "(assert (and%s))" % (" (f a b)" * (n // 100 + 2)) + ASK, "sat (%s)" % model
+
+
+def equal_arrays(n):
+    """Equalities of arrays by integers."""
+    return compared("(Array Int Int)", "0", [(i, i + 1) for i in range(1000)], n)
+
+
+def equal_arrays_of_arrays(n):
+    """The same of arrays of arrays, as large as may be compared."""
+    inner = "(Array Int Int)"
+    writes = [(i, "((as const %s) %d)" % (inner, i + 1)) for i in range(63)]
+    return compared("(Array Int %s)" % inner, "((as const %s) 0)" % inner, writes, n)
+
+
+def equal_arrays_by_names(n):
+    """The same of arrays by a declared sort."""
+    return compared("(Array U Int)", "0", [("U!val!%d" % i, i + 1) for i in range(127)], n, "(declare-sort U 0)")
+
+
+def stores(n):
+    """Arrays by vectors of 128 bits, each with sixty stores of its own."""
+    sort = "(Array (_ BitVec 128) Int)"
+    script = "(declare-const a %s)(define-fun f ((k Int)) %s %s)" % (
+        sort, sort, "(store " * 60 + "a" + "".join(" #x%032x k)" % (i << 121) for i in range(60)))
+    reads = "".join(" (= (select (f %d) #x%032x) %d)" % (i, i % 60 << 121, i) for i in range(n // 60 + 2))
+    return script + "(assert (and%s))" % reads + ASK, "sat ((define-fun a () %s ((as const %s) 0)))" % (sort, sort)
+
+
+def read_memory(n, shift):
+    """A memory over vectors of 32 bits that a model writes at a tenth as many places as the assertions read."""
+    sort = "(Array (_ BitVec 32) (_ BitVec 8))"
+    places = ["#x%08x" % (i << shift) for i in range(n // 10 + 2)]
+    values = ["#x%02x" % (i % 251) for i in range(len(places))]
+    model = stored(sort, "#xff", list(zip(places, values)))
+    chosen = [i * 7919 % len(places) for i in range(n)]
+    reads = "".join("(assert (= (select m %s) %s))" % (places[i], values[i]) for i in chosen)
+    return "(declare-const m %s)" % sort + reads + ASK, "sat ((define-fun m () %s %s))" % (sort, model)
+
+
+def memory(n):
+    """The same, at the lowest places."""
+    return read_memory(n, 0)
+
+
+def high_memory(n):
+    """The same, at places that differ in their high bits alone."""
+    return read_memory(n, 18)
+
+
+WIDE = ("--profile", "wide")
 SHAPES = {
     "unused body": Shape(models_over_an_unused_body, 250_000, 1, 200),
     "assumptions, models": Shape(assumptions_with_models, 16_000, 1, 0),
@@ -232,6 +294,12 @@ SHAPES = {
     "deep choices": Shape(deep_choices, 300_000, 3, 200, (1,), True),
     "many assertions": Shape(many_assertions, 1_000_000, 6, 200, (1,), True),
     "many refuted checks": Shape(many_refuted_checks, 3_000, 6, 200, (1,), True),
+    "equal arrays": Shape(equal_arrays, 3_000_000, 3, 200, (0,), False, WIDE),
+    "arrays of arrays": Shape(equal_arrays_of_arrays, 3_000_000, 200, 200, (0,), False, WIDE),
+    "arrays by names": Shape(equal_arrays_by_names, 3_000_000, 200, 200, (0,), False, WIDE),
+    "stores": Shape(stores, 1_800_000, 90, 400, (0,), False, WIDE),
+    "memory": Shape(memory, 100_000, 1, 200, (0,), False, WIDE),
+    "high memory": Shape(high_memory, 100_000, 3, 200, (0,), False, WIDE),
 }
 # What any program has: bytes of memory that no text accounts for.
 OWN = 10_000_000
@@ -275,7 +343,7 @@ def main():
             shape = SHAPES[name]
             cells = []
             for part in (1,) if chosen.bound else (4, 2, 1):
-                explained = ["--profile", "wide", "--explain"] if shape.explained else []
+                explained = [*WIDE, "--explain"] if shape.explained else list(shape.options)
                 size, took = measured(words + explained, shape, shape.size // part // chosen.part, work, chosen.patience)
                 cells.append("%6.2f s" % took.seconds)
                 if took.status not in shape.statuses:
@@ -284,7 +352,7 @@ def main():
             print("%-21s %5.1f MB: %s, %6.1f MB of memory, %5.1f bytes a byte: %s" % (
                 name, size / 1e6, " ".join(cells), took.memory / 1e6, took.memory / size, took.last), flush=True)
             if chosen.bound and shape.explained:
-                _, plain = measured(words + ["--profile", "wide"], shape, shape.size // chosen.part, work, chosen.patience)
+                _, plain = measured(words + [*WIDE], shape, shape.size // chosen.part, work, chosen.patience)
                 seconds = took.seconds
                 # (what else runs may take the processor's caches: the least of three is the run's own)
                 for _ in range(2):

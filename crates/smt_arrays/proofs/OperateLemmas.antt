@@ -255,8 +255,8 @@ one_size_more cells c sizes size e k =
     ∙ sym (ap sizes_of (one_array_more [] cells c)
     ∙ map-append size_up_to_limit (followed [] cells) (made (followed [] cells) c ∷ []))
 
-pub total_more : (total n rest s : ℕ) → min s 4097 ≡ n → min (min (total + n) 4097 + rest) 4097 ≡ min
-    (total + (s + rest)) 4097
+pub total_more : (total n rest s : ℕ) → min s 257 ≡ n → min (min (total + n) 257 + rest) 257 ≡ min
+    (total + (s + rest)) 257
 total_more total n rest s e = omega (arith, e)
 
 pub sizes_more : (arrays : List Element) (xs rest : List (Option Value)) (x : Option Value) → xs ≡ x ∷ rest

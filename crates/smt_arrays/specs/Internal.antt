@@ -62,7 +62,7 @@ first_of (e ∷ es) = Some e
 
 -- the size of an array, as far as it counts
 abbrev pub size_up_to_limit : Element → ℕ
-size_up_to_limit e = min (size e) 4097
+size_up_to_limit e = min (size e) 257
 
 -- how much of each array counts
 abbrev pub sizes_of : List Element → List ℕ

@@ -321,7 +321,7 @@ impl Arrays {
 
     // The sizes of the arguments, which are known, added up as far as they count.
     fn total_size(&self, args: &[Option<Value>]) -> u32
-        ensures { result ≡ min (sum (map size (elements_in (arrays_of self.now) args.now))) 4097 }
+        ensures { result ≡ min (sum (map size (elements_in (arrays_of self.now) args.now))) 257 }
     {
         let mut total = 0;
         let mut left = args;
@@ -456,13 +456,13 @@ fn size_at(sizes: &[u32], place: u32) -> u32
 
 // One more than two sizes, as far as it counts.
 fn one_more(first: u32, second: u32) -> u32
-    ensures { result ≡ min (suc (first + second)) 4097 }
+    ensures { result ≡ min (suc (first + second)) 257 }
 {
     sum_up_to_limit(1, first.saturating_add(second))
 }
 
 fn sum_up_to_limit(first: u32, second: u32) -> u32
-    ensures { result ≡ min (first + second) 4097 }
+    ensures { result ≡ min (first + second) 257 }
 {
     first.saturating_add(second).min(MOST_WRITTEN + 1)
 }

@@ -11,8 +11,8 @@ pub returns : goal.returns
 returns c =
     let e = none_left (arrays_of c.args.self.now) c.loop-first.left.now c.in_default.ensures.cases in
     let below = c.loop-first.invariant.below in
-    let whole : min (c.loop-first.total + 0) 4097 ≡ c.loop-first.total = omega arith in
-    sym (c.loop-first.invariant.same ∙ ap (λ n. min (c.loop-first.total + n) 4097) e ∙ whole)
+    let whole : min (c.loop-first.total + 0) 257 ≡ c.loop-first.total = omega arith in
+    sym (c.loop-first.invariant.same ∙ ap (λ n. min (c.loop-first.total + n) 257) e ∙ whole)
 
 pub loop-first-preserved : goal.loop-first-preserved
 loop-first-preserved c =
@@ -24,8 +24,8 @@ loop-first-preserved c =
     record {
       below = omega (arith, c.sum_up_to_limit-total.ensures);
       same = c.loop-first.invariant.same
-          ∙ ap (λ n. min (total + n) 4097)
+          ∙ ap (λ n. min (total + n) 257)
           (sizes_more arrays c.loop-first.left.now c.in-Some.rest.now c.in-Some.first.now c.in-Some.ensures.cases.0)
           ∙ sym (total_more total c.size_of.result rest s (sym here))
-          ∙ ap (λ n. min (n + rest) 4097) (sym c.sum_up_to_limit-total.ensures);
+          ∙ ap (λ n. min (n + rest) 257) (sym c.sum_up_to_limit-total.ensures);
     }

@@ -8,9 +8,9 @@ use Rattle.smt_arrays.proofs.arrays.Arrays.total_size.Given as goal
 
 abbrev pub invariant-loop-first : goal.invariant-loop-first
 invariant-loop-first l = record {
-  below : l.total ≤ 4097;
-  same : min (sum (map size (elements_in (arrays_of l.self) l.args))) 4097
-      ≡ min (l.total + sum (map size (elements_in (arrays_of l.self) l.left))) 4097;
+  below : l.total ≤ 257;
+  same : min (sum (map size (elements_in (arrays_of l.self) l.args))) 257
+      ≡ min (l.total + sum (map size (elements_in (arrays_of l.self) l.left))) 257;
 }
 
 abbrev pub decreases-loop-first : goal.decreases-loop-first
