@@ -222,11 +222,16 @@ def equal_arrays(n):
     return compared("(Array Int Int)", "0", [(i, i + 1) for i in range(1000)], n)
 
 
-def equal_arrays_of_arrays(n):
+def equal_arrays_of_arrays(n, written=63):
     """The same of arrays of arrays, as large as may be compared."""
     inner = "(Array Int Int)"
-    writes = [(i, "((as const %s) %d)" % (inner, i + 1)) for i in range(63)]
+    writes = [(i, "((as const %s) %d)" % (inner, i + 1)) for i in range(written)]
     return compared("(Array Int %s)" % inner, "((as const %s) 0)" % inner, writes, n)
+
+
+def larger_arrays_of_arrays(n):
+    """The same of larger ones, whose equality is open."""
+    return equal_arrays_of_arrays(n, 1000)
 
 
 def equal_arrays_by_names(n):
@@ -265,6 +270,8 @@ def high_memory(n):
 
 
 WIDE = ("--profile", "wide")
+# (a constant's body counts at each use, though it is evaluated once)
+ANY_STEPS = (*WIDE, "--steps", "1000000000000")
 SHAPES = {
     "unused body": Shape(models_over_an_unused_body, 250_000, 1, 200),
     "assumptions, models": Shape(assumptions_with_models, 16_000, 1, 0),
@@ -294,12 +301,13 @@ SHAPES = {
     "deep choices": Shape(deep_choices, 300_000, 3, 200, (1,), True),
     "many assertions": Shape(many_assertions, 1_000_000, 6, 200, (1,), True),
     "many refuted checks": Shape(many_refuted_checks, 3_000, 6, 200, (1,), True),
-    "equal arrays": Shape(equal_arrays, 3_000_000, 3, 200, (0,), False, WIDE),
-    "arrays of arrays": Shape(equal_arrays_of_arrays, 3_000_000, 200, 200, (0,), False, WIDE),
-    "arrays by names": Shape(equal_arrays_by_names, 3_000_000, 200, 200, (0,), False, WIDE),
-    "stores": Shape(stores, 1_800_000, 90, 400, (0,), False, WIDE),
-    "memory": Shape(memory, 100_000, 1, 200, (0,), False, WIDE),
-    "high memory": Shape(high_memory, 100_000, 3, 200, (0,), False, WIDE),
+    "equal arrays": Shape(equal_arrays, 3_000_000, 3, 200, (0,), False, ANY_STEPS),
+    "arrays of arrays": Shape(equal_arrays_of_arrays, 30_000, 15, 500, (0,), False, ANY_STEPS),
+    "arrays by names": Shape(equal_arrays_by_names, 30_000, 10, 500, (0,), False, ANY_STEPS),
+    "larger arrays": Shape(larger_arrays_of_arrays, 30_000, 1, 500, (2,), False, ANY_STEPS),
+    "stores": Shape(stores, 90_000, 20, 5_000, (0,), False, ANY_STEPS),
+    "memory": Shape(memory, 100_000, 1, 200, (0,), False, ANY_STEPS),
+    "high memory": Shape(high_memory, 100_000, 3, 200, (0,), False, ANY_STEPS),
 }
 # What any program has: bytes of memory that no text accounts for.
 OWN = 10_000_000

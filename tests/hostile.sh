@@ -22,3 +22,5 @@ for stack in 8192 256; do
 done
 PYTHONDONTWRITEBYTECODE=1 python3 tests/hostile.py --part 4 --bound --patience 20 'many assertions' 'many refuted checks' >"$work/table" ||
     { cat "$work/table"; exit 1; }
+PYTHONDONTWRITEBYTECODE=1 python3 tests/hostile.py --bound --patience 60 'equal arrays' 'arrays of arrays' 'arrays by names' 'larger arrays' \
+    stores memory 'high memory' >"$work/table" || { cat "$work/table"; exit 1; }
