@@ -19,7 +19,7 @@ from typing import Callable, Dict, List, Sequence, Tuple
 BITS = (1, 4, 8, 32)
 MORE_BITS = (*BITS, 64, 128)
 DECLARED = ("U", "V")  # sorts that a script declares
-WIDE = ("conversions", "declared", "overflow", "reals")  # how kinds begin that are in the profile `wide` alone
+WIDE = ("arrays", "conversions", "declared", "overflow", "reals")  # how kinds begin that are in the profile `wide` alone
 
 # Conversions of vectors to integers, and back: the older names, and those of SMT-LIB 2.7.
 OLDER = (("bv2nat",), "int2bv")
@@ -39,8 +39,10 @@ class Terms:
         functions: bool = False,
         converts: Tuple[Sequence[str], str] = ((), ""),
         overflows: bool = False,
+        arrays: Sequence[Tuple[str, str]] = (),
     ) -> None:
-        self.random, self.sorts, self.products, self.divides = random.Random(seed), list(sorts), products, divides
+        self.arrays = {f"(Array {index} {element})": (index, element) for index, element in arrays}
+        self.random, self.sorts, self.products, self.divides = random.Random(seed), [*sorts, *self.arrays], products, divides
         self.names: Dict[str, List[str]] = {sort: [f"{letter}{index}" for index in range(3)] for letter, sort in zip("pqrs", ["Bool", *self.sorts])}
         self.functions, self.converts, self.overflows = functions, converts, overflows
 
@@ -60,6 +62,13 @@ class Terms:
             return f"(f{list(self.names).index(sort)} {self.of(sort, depth - 1)} {self.of('Bool', 0)})"
         if self.random.random() < 0.1:
             return f"(ite {self.of('Bool', depth - 1)} {self.of(sort, depth - 1)} {self.of(sort, depth - 1)})"
+        holding = [array for array, (_, element) in self.arrays.items() if element == sort]
+        if holding and self.random.random() < 0.4:
+            array = self.random.choice(holding)
+            return f"(select {self.of(array, depth - 1)} {self.of(self.arrays[array][0], depth - 1)})"
+        if sort in self.arrays:
+            index, element = self.arrays[sort]
+            return f"(store {self.of(sort, depth - 1)} {self.of(index, depth - 1)} {self.of(element, depth - 1)})"
         if sort in DECLARED:
             return self.leaf(sort)
         if sort == "Real":
@@ -68,7 +77,7 @@ class Terms:
 
     def leaf(self, sort: str) -> str:
         """A name, or a value."""
-        if self.random.random() < 0.7 or sort in ("Bool", *DECLARED):
+        if self.random.random() < 0.7 or sort in ("Bool", *DECLARED, *self.arrays):
             return self.random.choice(self.names[sort])
         if sort == "Int":
             return str(self.random.randrange(12))
@@ -87,7 +96,7 @@ class Terms:
                 sign = self.random.choice(OVERFLOWS)
                 claim = f"({sign} {' '.join(self.of(sort, depth - 1) for _ in range(1 if sign == 'bvnego' else 2))})"
                 return f"(= {self.leaf('Bool')} {claim})" if self.random.random() < 0.7 else claim
-            signs = ("<=", "<", "=", "distinct") if sort in ("Int", "Real") else ("=", "distinct") if sort in DECLARED else ("bvult", "bvsle", "=", "distinct")
+            signs = ("<=", "<", "=", "distinct") if sort in ("Int", "Real") else ("=", "distinct") if sort in (*DECLARED, *self.arrays) else ("bvult", "bvsle", "=", "distinct")
             return f"({self.random.choice(signs)} {self.of(sort, depth - 1)} {self.of(sort, depth - 1)})"
         if self.random.random() < 0.2:
             return f"(not {self.of('Bool', depth - 1)})"
@@ -212,6 +221,11 @@ KINDS: Tuple[Tuple[str, str, Callable[[int], List[str]]], ...] = (
     ("conversions", "ALL", lambda seed: converted(seed, NEWER)),
     ("conversions and functions", "ALL", lambda seed: converted(seed, NEWER, functions=True)),
     ("overflow predicates", "QF_BV", lambda seed: plain(Terms(seed, vectors(seed, MORE_BITS), overflows=True))),
+    ("arrays by declared sorts", "QF_AX", lambda seed: plain(Terms(seed, DECLARED, arrays=[DECLARED]))),
+    ("arrays of integers", "QF_ALIA", lambda seed: plain(Terms(seed, ["Int"], arrays=[("Int", "Int")]))),
+    ("arrays of vectors", "QF_ABV", lambda seed: plain(Terms(seed, vectors(seed), arrays=[tuple(vectors(seed) * 2)]))),
+    ("arrays and functions", "QF_AUFLIA", lambda seed: plain(Terms(seed, ["Int"], functions=True, arrays=[("Int", "Int")]))),
+    ("arrays of arrays", "QF_ALIA", lambda seed: plain(Terms(seed, ["Int"], arrays=[("Int", "Int"), ("Int", "(Array Int Int)")]))),
     ("declared sorts and functions", "QF_UF", lambda seed: plain(Terms(seed, DECLARED[: 1 + seed % 2], functions=True))),
 )
 

@@ -451,12 +451,7 @@ fn begin_named<'a>(theories: Theories, name: &[u8], args: Trees<'a>) -> Begun<'a
 }
 
 // The same where two trees stand after the symbol.
-fn begin_pair<'a>(
-    theories: Theories,
-    name: &[u8],
-    first: Tree<'a>,
-    second: Tree<'a>,
-) -> Begun<'a>
+fn begin_pair<'a>(theories: Theories, name: &[u8], first: Tree<'a>, second: Tree<'a>) -> Begun<'a>
     ensures { (names : sorts.SortNames) → names.theories ≡ theories
         → IsBegun names (Items (Cons (Atom Symbol name.now)
         (Cons (sexp_of first.entry) (Cons (sexp_of second.entry) Nil)))) result }
