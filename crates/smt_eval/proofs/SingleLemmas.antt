@@ -1,8 +1,8 @@
 -- Operators on elements that are no arrays, where each array is open.
 use Rattle.std.proofs.Common.{◌≡◌, ℕ, Bool, true, false, cond, not, ◌||◌, ◌&&◌, List, [], ◌∷◌, ◌++◌, map}
 use Rattle.std.proofs.Common.{Option, Some, None, option_map, refl, ap, ap₂, sym, ◌∙◌}
-use Rattle.std.specs.List.{list_all, list_any}
-use Rattle.std.specs.Prelude.{option_and_then}
+use Rattle.std.specs.List.{list_all, list_any, sum}
+use Rattle.std.specs.Prelude.{nat_lt, option_and_then}
 use Rattle.smt_theory.specs.declared.op.ArraysOp.{ArraysOp}
 use Rattle.smt_theory.specs.declared.op.ArraysOp.TheVariants.{Select, Store, Const}
 use Rattle.smt_theory.specs.declared.op.CoreOp.{CoreOp}
@@ -18,7 +18,7 @@ use Rattle.smt_values.specs.Operations.{is_same}
 use Rattle.smt_values.specs.declared.value.Value.{Value}
 use Rattle.smt_arrays.specs.Element.{Element, Plain as NoArray, known_plain}
 use Rattle.smt_arrays.specs.Known.{are_all_so, is_known_to_be, is_slow, known_arrays, known_choice, known_distinct}
-use Rattle.smt_arrays.specs.Known.{known_equal, known_same, known_step, neighbours_same, pairs_different}
+use Rattle.smt_arrays.specs.Known.{known_equal, known_same, known_step, neighbours_same, pairs_different, size}
 use Rattle.smt_arrays.specs.Operations.{truth}
 use Rattle.smt_eval.specs.PlainTerm.{known_single, known_singles, unless_array}
 
@@ -129,13 +129,15 @@ distinct (e ∷ es) = all-append (map (λ d. not (is_same e d)) es) (pair_tests 
 
 equal : (es : List plain.Element) → known_equal (map NoArray es) ≡ Some (truth (are_chained is_same es))
 equal es =
-    ap (λ b. cond (b && _) None (option_map truth (are_all_so (neighbours_same (map NoArray es))))) (none_slow es)
+    ap (λ b. cond (b && nat_lt 256 (sum (map size (map NoArray es)))) None
+    (option_map truth (are_all_so (neighbours_same (map NoArray es))))) (none_slow es)
     ∙ ap (λ os. option_map truth (are_all_so os)) (neighbours es)
     ∙ ap (option_map truth) (all_so (neighbour_tests es)) ∙ ap (λ b. Some (truth b)) (chained es)
 
 different : (es : List plain.Element) → known_distinct (map NoArray es) ≡ Some (truth (are_distinct is_same es))
 different es =
-    ap (λ b. cond (b && _) None (option_map truth (are_all_so (pairs_different (map NoArray es))))) (none_slow es)
+    ap (λ b. cond (b && nat_lt 256 (sum (map size (map NoArray es)))) None
+    (option_map truth (are_all_so (pairs_different (map NoArray es))))) (none_slow es)
     ∙ ap (λ os. option_map truth (are_all_so os)) (pairs es)
     ∙ ap (option_map truth) (all_so (pair_tests es)) ∙ ap (λ b. Some (truth b)) (distinct es)
 
