@@ -95,6 +95,7 @@ impl Evaluator<'_> {
     /// Uses up this number of steps, and stops where fewer are left.
     pub(crate) fn take(&mut self, steps: u64)
         ensures parts { self.new.parts ≡ self.old.parts }
+        ensures machine { self.new.machine ≡ self.old.machine }
     {
         if steps > self.steps {
             self.stop = Some(Stop::Steps);
