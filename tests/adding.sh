@@ -83,5 +83,5 @@ touches() {
 
 printed=
 touches bvumul_noovfl 'An operator' 6
-touches toy_sort 'A sort' 40
+touches toy_sort 'A sort' 43
 echo "adding: files of src and specs touched:${printed#,}"
