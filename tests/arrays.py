@@ -6,12 +6,12 @@ one bit and of two bits. Over truth values and one bit each is compared with eac
 compared likewise, each check by itself: of the former some are open. Says what is wrong, or nothing. PROGRAM may be tests/fuzz/validator.py.
 """
 import itertools
-import os
-import subprocess
 import sys
-import tempfile
+
+from reports import lines_of
 
 MOST = 4
+STEPS = ("--steps", "1000000000")
 # How many wrong lines are told.
 SHOWN = 20
 BITS = {"Bool": ["false", "true"], "(_ BitVec 1)": ["#b0", "#b1"], "(_ BitVec 2)": ["#b00", "#b01", "#b10", "#b11"]}
@@ -43,19 +43,6 @@ def plain(indexes):
     return [(default, some) for default in "01" for some in written]
 
 
-def lines_of(program, script, answers):
-    """The lines of the report on a script."""
-    with tempfile.TemporaryDirectory() as work:
-        paths = [os.path.join(work, name) for name in ("script", "answers")]
-        for path, text in zip(paths, (script, answers)):
-            with open(path, "w", encoding="ascii") as file:
-                file.write(text)
-        words = [sys.executable] * program.endswith(".py") + [program]
-        words += ["--profile", "wide", "--print-success", "off", "--steps", "1000000000", *paths]
-        run = subprocess.run(words, stdout=subprocess.PIPE, stderr=subprocess.STDOUT, check=False, timeout=1200)
-    return run.stdout.decode("latin-1").splitlines()
-
-
 def compared(program, index_sort, others):
     """Compares all arrays by an index sort with others, which a model gives; the wrong lines."""
     indexes = BITS[index_sort]
@@ -76,7 +63,7 @@ def compared(program, index_sort, others):
         commands.append("(assert (is%d %s))" % (number, made(sort, *array)))
     items = ["(define-fun %s () %s %s)" % (name, sort, made(sort, *other)) for name, other in zip(names, others)]
     script = "\n".join([*commands, "(check-sat)", "(get-model)"])
-    found = lines_of(program, script, "sat (%s)" % "\n".join(items))[:1]
+    found = lines_of(program, script, "sat (%s)" % "\n".join(items), STEPS)[:1]
     if found == ["check 1 at command %d: sat, confirmed" % (len(commands) + 1)]:
         return []
     return ["by %s, %d arrays behind command %d: %s" % (index_sort, len(all_of_them), before, found)]
@@ -106,7 +93,7 @@ def told_apart(program, index_sort, indexes, declared):
             commands += ["(check-sat-assuming ((%s a b)))" % word, "(get-model)"]
             answers.append("sat ((define-fun a () %s %s)(define-fun b () %s %s))" % (sort, made(sort, *first), sort, made(sort, *second)))
             wanted.append((first, second, word, ends[value if word == "=" or value is None else not value]))
-    lines = lines_of(program, "\n".join(commands), "\n".join(answers))
+    lines = lines_of(program, "\n".join(commands), "\n".join(answers), STEPS)
     wrong = ["%s of %s and %s: %s" % (word, *some, line) for (*some, word, end), line in zip(wanted, lines) if not line.endswith(end)]
     return wrong if len(lines) == len(wanted) + 1 else wrong + ["by %s: %d lines: %s" % (index_sort, len(lines), lines[-2:])]
 

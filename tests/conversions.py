@@ -4,10 +4,9 @@ Each term has a value by Python, or is open. One script asserts all values, and 
 its value, and is refuted. Says what is wrong, or nothing.
 """
 import itertools
-import os
-import subprocess
 import sys
-import tempfile
+
+from reports import lines_of
 
 HIGHEST = 2**127 - 1
 SMALL, WIDE = (1, 2, 3, 4), (63, 64, 65, 127, 128)
@@ -146,18 +145,6 @@ def cases():
     true += [equal(term, value) for term, value in found if value is not None]
     opened += [term for term, value in found if value is None]
     return true, opened
-
-
-def lines_of(program, script, answers):
-    """The lines of the report on a script."""
-    with tempfile.TemporaryDirectory() as work:
-        paths = [os.path.join(work, name) for name in ("script", "answers")]
-        for path, text in zip(paths, (script, answers)):
-            with open(path, "w", encoding="ascii") as file:
-                file.write(text)
-        words = [program, "--profile", "wide", "--print-success", "off", *paths]
-        run = subprocess.run(words, stdout=subprocess.PIPE, stderr=subprocess.STDOUT, check=False, timeout=600)
-    return run.stdout.decode("latin-1").splitlines()
 
 
 def main():

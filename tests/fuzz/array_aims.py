@@ -327,14 +327,8 @@ class ArrayAims:
             return
         name = symbol((*OPERATORS, *OPERATORS, "const")[self.turn % 5])
         kind = self.turn // 5 % 5
-        if kind == 0:
-            self.do(listed("declare-const", name, "Bool"))
-        elif kind == 1:
-            self.do(listed("define-fun", name, [listed("x", "Bool")], "Bool", "x"))
-        elif kind == 2:
-            self.do(listed("assert", listed("!", "true", keyword(":named"), name)))
-        elif kind == 3:
-            self.do(listed("define-sort", name, [], "Bool"))
+        if kind < 4:
+            self.take(name, kind)
         else:
             item = [word("define-fun"), name, [], symbol("Bool"), symbol("true")]
             self.sat_with(lambda items: self.put(items, item))

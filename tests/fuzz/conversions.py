@@ -292,15 +292,8 @@ class ConversionAims:
         kind = self.turn % 6
         if self.PROFILE == WIDE and not self.begin_with(rng.choice((USUAL, PURE, LACKING))):
             return
-        if kind == 0:
-            self.do(listed("declare-const", name, "Bool"))
-        elif kind == 1:
-            self.do(listed("define-fun", name, [listed("x", "Bool")], "Bool", "x"))
-        elif kind == 2:
-            self.do(listed("assert", listed("!", "true", keyword(":named"), name)))
-        elif kind == 3:
-            self.do(listed("define-sort", name, [], "Bool"))
-        elif kind == 4:
+        self.take(name, kind)
+        if kind == 4:
             self.do(listed("assert", [word("let"), [[name, symbol("true")]], rng.choice((name, [name, symbol("true")]))]))
         use = rng.choice((name, [name, symbol("true")], [name, self.inventor().leaf(self.inventor().sort(), {})]))
         if not self.over and rng.random() < 0.6 and kind < 5:

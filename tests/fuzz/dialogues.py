@@ -103,6 +103,17 @@ class Story:
 
     # Commands and answers
 
+    def take(self, name, kind):
+        """Makes a name a declared one, a function's, a label or an abbreviation, by the kinds from 0 to 3."""
+        if kind == 0:
+            self.do(listed("declare-const", name, "Bool"))
+        elif kind == 1:
+            self.do(listed("define-fun", name, [listed("x", "Bool")], "Bool", "x"))
+        elif kind == 2:
+            self.do(listed("assert", listed("!", "true", keyword(":named"), name)))
+        elif kind == 3:
+            self.do(listed("define-sort", name, [], "Bool"))
+
     def do(self, tree, answer=None):
         """Puts a command, and its answer if it takes one. Whether it took effect without a fault."""
         number = len(self.commands) + 1

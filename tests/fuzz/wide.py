@@ -822,15 +822,8 @@ class WideStory(ArrayAims, ConversionAims, Story):
         if not self.begin_with(rng.choice((reals.USUAL, reals.PURE, reals.LACKING))):
             return
         kind = self.turn // 4 % 6
-        if kind == 0:
-            self.do(listed("declare-const", name, "Bool"))
-        elif kind == 1:
-            self.do(listed("define-fun", name, [listed("x", "Bool")], "Bool", "x"))
-        elif kind == 2:
-            self.do(listed("assert", listed("!", "true", keyword(":named"), name)))
-        elif kind == 3:
-            self.do(listed("define-sort", name, [], "Bool"))
-        elif kind == 4:
+        self.take(name, kind)
+        if kind == 4:
             self.do(listed("assert", [word("let"), [[name, symbol("true")]], rng.choice((name, [name, numeral(1), numeral(2)]))]))
         if kind < 5:
             self.check_numbers()
