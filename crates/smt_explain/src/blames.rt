@@ -84,6 +84,7 @@ fn tell_lacking(page: &mut Page<'_>, part: Tree<'_>, theory: Theory) {
         Theory::Integers => b" needs integers, which the logic lacks",
         Theory::Reals => b" needs reals, which the logic lacks",
         Theory::BitVectors => b" needs bit vectors, which the logic lacks",
+        Theory::Arrays => b" needs arrays, which the logic lacks",
     })
 }
 

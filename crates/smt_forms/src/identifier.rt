@@ -49,6 +49,7 @@ impl Identifier<'_> {
 
 /// The identifier that a list of this head and these arguments applies, or what is wrong with the form of
 /// that list.
+#[inline(always)]
 pub fn applied_identifier<'a>(
     alloc: Global,
     head: Tree<'a>,
@@ -152,6 +153,18 @@ fn is_const(name: &[u8]) -> bool
     name == b"const".as_slice()
 }
 
+// The identifier `(as const sort)`, by the parts after the `as`.
+#[inline(never)]
+fn qualified_identifier<'a>(parts: Trees<'a>, args: Trees<'_>) -> Result<Identifier<'a>, TermFault>
+    ensures { IsOutcome identifier_view
+        (applied (Items (Cons (Reserved As) (sexps_of parts.entry))) (sexps_of args.entry)) result }
+{
+    match constant_sort(parts, args) {
+        Some(sort) => Ok(Identifier::Qualified(sort)),
+        None => Err(TermFault::Unsupported),
+    }
+}
+
 // What is wrong with the form of an identifier with indexes, by the trees after the `_`.
 fn indexed_flaw(parts: Trees<'_>) -> Option<TermFlaw>
     ensures { MatchOption result ((f : identifiers.Identifier) × (indexed (sexps_of parts.entry) ≡ Ok f))
@@ -178,10 +191,7 @@ fn applied_list<'a>(
     ensures { IsOutcome identifier_view (applied (Items (sexps_of parts.entry)) (sexps_of args.entry)) result }
 {
     match parts.split_first() {
-        Some((Tree::Reserved(Word::As), rest)) => match constant_sort(rest, args) {
-            Some(sort) => Ok(Identifier::Qualified(sort)),
-            None => Err(TermFault::Unsupported),
-        },
+        Some((Tree::Reserved(Word::As), rest)) => qualified_identifier(rest, args),
         Some((Tree::Reserved(Word::Underscore), rest)) if args.split_first().is_some() => {
             indexed_identifier(alloc, rest)
         }

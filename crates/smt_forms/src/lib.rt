@@ -18,6 +18,7 @@ mod heads;
 mod identifier;
 mod items;
 pub mod laws;
+mod marks;
 mod name_set;
 mod params;
 mod places;

@@ -4,6 +4,7 @@
 ghost use Rattle.std.specs.Prelude.{◌≡◌, ◌∷◌, ◌++◌, ◌-◌, [], length, take, OnErr, OnOk, bytes_eq};
 ghost use Rattle.smt_forms.specs.Internal.Places.{names_of, place_from, place_in};
 
+use crate::marks::{is_marked, with_mark};
 use smt_faults::Memory;
 use smt_names::NameMap;
 use std::alloc::Global;
@@ -18,6 +19,8 @@ pub struct Places<'a> {
     names: Vec<Placed<'a>>,
     // For each name, the place of its last occurrence after the first `FEW` names, if one is left.
     last: NameMap<Option<usize>>,
+    // The mark of each name, and perhaps marks of names that are gone.
+    marks: u64,
 }
 
 // A name, and the place that it hides in the map, if any.
@@ -29,6 +32,7 @@ pub struct Placed<'a> {
 
 impl<'a> Model for Places<'a> {
     ghost use Rattle.std.specs.Prelude.{ℕ, List};
+    ghost use Rattle.smt_forms.specs.Internal.Marks.{AreMarked};
     ghost use Rattle.smt_forms.specs.Internal.Places.{IsIndexed, names_of};
     ghost use Rattle.smt_forms.specs.declared.places.TheConstants.{FEW};
 
@@ -36,7 +40,7 @@ impl<'a> Model for Places<'a> {
 
     ghost view = { λ p. names_of p.names.items };
 
-    ghost invariant = { λ p. IsIndexed FEW p.names.items p.last };
+    ghost invariant = { λ p. IsIndexed FEW p.names.items p.last × AreMarked p.marks (names_of p.names.items) };
 }
 
 impl<'a> Places<'a> {
@@ -46,6 +50,7 @@ impl<'a> Places<'a> {
         Places {
             names: Vec::new(alloc),
             last: NameMap::new(alloc),
+            marks: 0,
         }
     }
 
@@ -60,11 +65,11 @@ impl<'a> Places<'a> {
     pub fn find(&self, name: &[u8]) -> Option<usize>
         ensures { result ≡ place_from 0 self.now name.now }
     {
-        let names = self.names.as_slice();
-        // Most terms have no variables.
-        if names.is_empty() {
+        // Most names are no variables.
+        if !is_marked(self.marks, name) {
             return None;
         }
+        let names = self.names.as_slice();
         if names.len() <= FEW {
             return find_last(names, name);
         }
@@ -81,6 +86,7 @@ impl<'a> Places<'a> {
         let place = self.names.len();
         if place < FEW {
             self.names.push(Placed { name, hidden: None })?;
+            self.marks = with_mark(self.marks, name);
             return Ok(());
         }
         // Room is asked for first: nothing is refused after the map's own want of memory, which leaves all as
@@ -89,6 +95,7 @@ impl<'a> Places<'a> {
         let hidden = self.last.replace(name, Some(place))?;
         let hidden = hidden.flatten();
         self.names.push(Placed { name, hidden })?;
+        self.marks = with_mark(self.marks, name);
         Ok(())
     }
 
@@ -107,6 +114,10 @@ impl<'a> Places<'a> {
         let Some(gone) = self.names.pop() else {
             return;
         };
+        if self.names.is_empty() {
+            self.marks = 0;
+            return;
+        }
         if self.names.len() < FEW {
             return;
         }

@@ -30,7 +30,7 @@ use Rattle.smt_terms.specs.Freshness.{is_defined_before, is_sort_taken, is_taken
 use Rattle.smt_terms.specs.declared.blame.Blame.TheVariants.{InUse, Whole}
 use Rattle.smt_terms.specs.Internal.Blamed.{IsApplied, IsTold, blame_of_unknown, unknown_by}
 use Rattle.smt_terms.specs.declared.blame.Theory.{Theory}
-use Rattle.smt_terms.specs.declared.blame.Theory.TheVariants.{Integers, Reals, BitVectors}
+use Rattle.smt_terms.specs.declared.blame.Theory.TheVariants.{Integers, Reals, BitVectors, Arrays}
 use Rattle.smt_terms.specs.declared.library.blamed_names.Unknown.{Unknown}
 use Rattle.smt_terms.specs.Internal.Blamed as internal
 use Rattle.smt_terms.specs.Internal.Calls.{names_variable}
@@ -107,10 +107,11 @@ and_right false b h = cc
 -- ---- unknown parts
 
 by_tests : (names : Names) (sorts : SortNames) (part : Tree) (name : Option (Bor (List ℕ)))
-    (here with_integers with_reals with_vectors : Bool)
+    (here with_integers with_reals with_vectors with_arrays : Bool)
     → (here ≡ true → with_integers ≡ false → IsLacking names sorts (sexp_of part) Integers)
     → (here ≡ true → with_reals ≡ false → IsLacking names sorts (sexp_of part) Reals)
     → (here ≡ true → with_vectors ≡ false → IsLacking names sorts (sexp_of part) BitVectors)
+    → (here ≡ true → with_arrays ≡ false → IsLacking names sorts (sexp_of part) Arrays)
     → ((x : Bor (List ℕ)) → name ≡ Some x → here ≡ true → IsUnknown names sorts x.now)
     → IfSome (blame_of_unknown part name
     (record {
@@ -118,13 +119,15 @@ by_tests : (names : Names) (sorts : SortNames) (part : Tree) (name : Option (Bor
       with_integers = with_integers;
       with_reals = with_reals;
       with_vectors = with_vectors;
+      with_arrays = with_arrays;
     })) (IsBlamed names sorts)
-by_tests names sorts part name false i r v integers reals vectors named = tt
-by_tests names sorts part name true false r v integers reals vectors named = integers refl refl
-by_tests names sorts part name true true false v integers reals vectors named = reals refl refl
-by_tests names sorts part name true true true false integers reals vectors named = vectors refl refl
-by_tests names sorts part None true true true true integers reals vectors named = tt
-by_tests names sorts part (Some x) true true true true integers reals vectors named = named x refl refl
+by_tests names sorts part name false i r v a integers reals vectors arrays named = tt
+by_tests names sorts part name true false r v a integers reals vectors arrays named = integers refl refl
+by_tests names sorts part name true true false v a integers reals vectors arrays named = reals refl refl
+by_tests names sorts part name true true true false a integers reals vectors arrays named = vectors refl refl
+by_tests names sorts part name true true true true false integers reals vectors arrays named = arrays refl refl
+by_tests names sorts part None true true true true true integers reals vectors arrays named = tt
+by_tests names sorts part (Some x) true true true true true integers reals vectors arrays named = named x refl refl
 
 -- a part that is unknown lacks a theory, or has a name that nothing has
 pub told_unknown : (names : Names) (sorts : SortNames) (part : Tree) (name : Option (Bor (List ℕ)))
@@ -137,8 +140,8 @@ pub told_unknown : (names : Names) (sorts : SortNames) (part : Tree) (name : Opt
 told_unknown names sorts part name theories is_unknown unknown found is tests lacks named =
     subst (λ r. IfSome r (IsBlamed names sorts)) (sym (is ∙ ap (blame_of_unknown part name) tests))
     (by_tests names sorts part name (is_unknown theories) (is_unknown (with_theory Integers theories))
-    (is_unknown (with_theory Reals theories)) (is_unknown (with_theory BitVectors theories)) (lacks Integers)
-    (lacks Reals) (lacks BitVectors) named)
+    (is_unknown (with_theory Reals theories)) (is_unknown (with_theory BitVectors theories))
+    (is_unknown (with_theory Arrays theories)) (lacks Integers) (lacks Reals) (lacks BitVectors) (lacks Arrays) named)
 
 pub some_of : {A : Type 0} (P : A → Type 0) (o : Option A) → IfSome o P → (x : A) → o ≡ Some x → P x
 some_of P o h x is = subst (λ o. IfSome o P) is h

@@ -40,7 +40,7 @@ use Rattle.smt_terms.specs.declared.blame.Blame.{Blame}
 use Rattle.smt_terms.specs.declared.blame.Blame.TheVariants.{Unknown, Lacks, Twice, Label, InUse, Variable, Misfit}
 use Rattle.smt_terms.specs.declared.blame.Blame.TheVariants.{Arity, Sorts, Whole, Parameter, Outcome, Parameters}
 use Rattle.smt_terms.specs.declared.blame.Theory.{Theory}
-use Rattle.smt_terms.specs.declared.blame.Theory.TheVariants.{Integers, Reals, BitVectors}
+use Rattle.smt_terms.specs.declared.blame.Theory.TheVariants.{Integers, Reals, BitVectors, Arrays}
 
 -- ---- unknown names
 
@@ -89,11 +89,12 @@ sort_word (Items (Cons (Atom Symbol x) args)) = Some x
 sort_word (Items (Cons (Reserved Underscore) (Cons (Atom Symbol x) indexes))) = Some x
 sort_word _ = None
 
--- these theories with one more: the profile Base never has reals
+-- these theories with one more: the profile Base never has reals or arrays
 abbrev pub with_theory : Theory → Theories → Theories
 with_theory Integers theories = record theories { ints = true }
 with_theory Reals theories = record theories { reals = theories.reals || theories.wide }
 with_theory BitVectors theories = record theories { bits = true }
+with_theory Arrays theories = record theories { arrays = theories.arrays || theories.wide }
 
 -- ---- parts
 

@@ -82,4 +82,6 @@ pub enum Theory {
     /// Only in the wide profile.
     Reals,
     BitVectors,
+    /// Only in the wide profile.
+    Arrays,
 }

@@ -70,6 +70,23 @@ impl SortNames {
         ensures { IsOutcome (λ sort. sort)
             (sort_named (record (sort_names self.now) { theories = theories }) (sexp_of tree.entry)) result }
     {
+        match self.begin(theories, tree) {
+            Begun::Found(found) => Ok(found?),
+            Begun::Parts(_, _) => self.sort_with_parts(alloc, theories, tree),
+        }
+    }
+
+    // The same, out of line: most sorts have no parts.
+    #[inline(never)]
+    fn sort_with_parts(
+        &self,
+        alloc: Global,
+        theories: Theories,
+        tree: Tree<'_>,
+    ) -> Result<Sort, TermFault>
+        ensures { IsOutcome (λ sort. sort)
+            (sort_named (record (sort_names self.now) { theories = theories }) (sexp_of tree.entry)) result }
+    {
         match self.read(alloc, theories, tree) {
             Ok(sort) => Ok(sort),
             Err(refusal) => Err(refusal.fault),
@@ -141,7 +158,8 @@ impl SortNames {
     }
 
     // What a tree names in these theories, or the trees of the parts of a sort of arrays.
-    pub(crate) fn begin<'a>(&self, theories: Theories, tree: Tree<'a>) -> Begun<'a>
+    #[inline(always)]
+    fn begin<'a>(&self, theories: Theories, tree: Tree<'a>) -> Begun<'a>
         ensures { IsBegun (record (sort_names self.now) { theories = theories }) (sexp_of tree.entry) result }
     {
         match tree {
@@ -268,10 +286,10 @@ impl SortNames {
     }
 }
 
-/// What is found of a tree before its parts are read: what it names, or the trees of the indexes and of the elements
-/// of a sort of arrays.
+// What is found of a tree before its parts are read: what it names, or the trees of the indexes and of the elements
+// of a sort of arrays.
 #[derive(Clone, Copy)]
-pub(crate) enum Begun<'a> {
+enum Begun<'a> {
     Found(Result<Sort, TermFlaw>),
     Parts(Tree<'a>, Tree<'a>),
 }

@@ -28,6 +28,17 @@ pub fn rank(op: Op, args: &[Sort]) -> Option<Sort>
 pub fn plain_rank(op: PlainOp, args: &[Sort]) -> Option<Sort>
     ensures { result ≡ rank_of (op_of_plain op) args.now }
 {
+    match op {
+        PlainOp::Select | PlainOp::Store => rank_out_of_line(op, args),
+        _ => rank_by(plain_shape(op), args),
+    }
+}
+
+// The same, for operators that few scripts have.
+#[inline(never)]
+fn rank_out_of_line(op: PlainOp, args: &[Sort]) -> Option<Sort>
+    ensures { result ≡ rank_of (op_of_plain op) args.now }
+{
     rank_by(plain_shape(op), args)
 }
 

@@ -26,6 +26,7 @@ use smt_theory::{CoreOp, Op};
 /// - those of operators on arrays, of which this crate knows nothing;
 /// - every result with an open argument, except for `and`, `or`, `=>` and `ite` where the known arguments
 ///   decide (this project's own rule).
+#[inline(always)]
 pub fn apply(op: Op, args: &[Option<Value>]) -> Option<Value>
     ensures { known_element result ≡ known_step op (known_elements args.now) }
 {
@@ -40,6 +41,7 @@ pub fn apply(op: Op, args: &[Option<Value>]) -> Option<Value>
 
 /// What [`apply`] gives. The arguments may change places, so `distinct` of n arguments takes time n log n,
 /// where `apply` takes n^2.
+#[inline(always)]
 pub fn apply_in_place(op: Op, args: &mut [Option<Value>]) -> Option<Value>
     ensures { known_element result ≡ known_step op (known_elements args.old) }
 {

@@ -12,7 +12,7 @@ use Rattle.smt_theory.specs.declared.theories.Theories.{Theories}
 use Rattle.smt_terms.specs.declared.library.blamed_names.Unknown.{Unknown}
 use Rattle.smt_terms.specs.declared.blame.Blame.TheVariants as blames
 use Rattle.smt_terms.specs.declared.blame.Blame.TheVariants.{Lacks}
-use Rattle.smt_terms.specs.declared.blame.Theory.TheVariants.{Integers, Reals, BitVectors}
+use Rattle.smt_terms.specs.declared.blame.Theory.TheVariants.{Integers, Reals, BitVectors, Arrays}
 use Rattle.smt_trees.specs.Sexp.{Sexps, Nil, Cons}
 use Rattle.smt_theory.specs.declared.misfits.RankFlaw.TheVariants as flaws
 use Rattle.smt_theory.specs.declared.misfits.Wanted.{Wanted}
@@ -45,6 +45,7 @@ unknown_by is_unknown theories =
       with_integers = is_unknown (with_theory Integers theories);
       with_reals = is_unknown (with_theory Reals theories);
       with_vectors = is_unknown (with_theory BitVectors theories);
+      with_arrays = is_unknown (with_theory Arrays theories);
     }
 
 -- the theory that is lacking to a part, or its name
@@ -53,7 +54,8 @@ blame_of_unknown part name unknown =
     if not unknown.here then None
     else if not unknown.with_integers then Some (Lacks part Integers)
     else if not unknown.with_reals then Some (Lacks part Reals)
-    else if not unknown.with_vectors then Some (Lacks part BitVectors) else option_map blames.Unknown name
+    else if not unknown.with_vectors then Some (Lacks part BitVectors)
+    else if not unknown.with_arrays then Some (Lacks part Arrays) else option_map blames.Unknown name
 
 -- ---- parts
 

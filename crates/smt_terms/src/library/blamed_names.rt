@@ -1,7 +1,10 @@
 //! Names that are to blame: unknown ones, those that a logic lacks, and those that are in use. This file knows no
 //! terms but symbols and literals.
 
-ghost use Rattle.std.specs.Prelude.{◌≡◌, IfSome, None, Some, if◌then◌else◌};
+ghost use Rattle.std.specs.Prelude.{◌≡◌, IfSome, None, Some, Result, if◌then◌else◌};
+ghost use Rattle.smt_faults.specs.Outcome.{Tells};
+ghost use Rattle.smt_faults.specs.declared.term_flaw.TermFlaw.{TermFlaw};
+ghost use Rattle.smt_theory.specs.Sort.{Sort};
 ghost use Rattle.smt_trees.specs.Sexp.{Cons, Items, Reserved};
 ghost use Rattle.smt_trees.specs.View.{sexp_of, sexps_of};
 ghost use Rattle.smt_forms.specs.IdentifierView.{identifier_view};
@@ -14,11 +17,12 @@ ghost use Rattle.smt_trees.specs.declared.reserved.Word.TheVariants.{Underscore}
 
 use crate::blame::{Blame, Theory};
 use crate::library::Library;
-use crate::sorts::{Begun, SortNames};
-use smt_faults::TermFlaw;
+use crate::sorts::SortNames;
+use smt_faults::{TermFault, TermFlaw};
 use smt_forms::Identifier;
-use smt_theory::{Op, OpFault, Sort, Theories};
+use smt_theory::{Op, OpFault, Theories};
 use smt_trees::{Tree, Trees, Word};
+use std::alloc::Global;
 
 impl Library<'_> {
     // What is to blame for an identifier alone, or for one that is applied, if it is unknown.
@@ -45,6 +49,7 @@ impl Library<'_> {
             with_integers: self.is_unknown(with_theory(Theory::Integers, theories), identifier),
             with_reals: self.is_unknown(with_theory(Theory::Reals, theories), identifier),
             with_vectors: self.is_unknown(with_theory(Theory::BitVectors, theories), identifier),
+            with_arrays: self.is_unknown(with_theory(Theory::Arrays, theories), identifier),
         }
     }
 
@@ -65,11 +70,11 @@ impl Library<'_> {
         }
     }
 
-    // The same of a part that is no sort of arrays.
+    // The same of a part that has the first fault.
     fn blame_of_sort_part<'t>(&self, part: Tree<'t>) -> Option<Blame<'t>>
         ensures { IsTold self.now result }
     {
-        match unknown_sort(&self.sorts, part) {
+        match unknown_sort(self.alloc, &self.sorts, part) {
             Some(unknown) => unknown_part(part, sort_word(part), unknown),
             None => None,
         }
@@ -108,6 +113,7 @@ struct Unknown {
     with_integers: bool,
     with_reals: bool,
     with_vectors: bool,
+    with_arrays: bool,
 }
 
 // What is to blame for a part, which may have a name: a theory that the logic lacks, or else the name.
@@ -125,6 +131,9 @@ fn unknown_part<'t>(part: Tree<'t>, name: Option<&'t [u8]>, unknown: Unknown) ->
     }
     if !unknown.with_vectors {
         return lacking(part, Theory::BitVectors);
+    }
+    if !unknown.with_arrays {
+        return lacking(part, Theory::Arrays);
     }
     match name {
         Some(name) => Some(Blame::Unknown { name }),
@@ -192,37 +201,55 @@ fn unknown_literal(theories: Theories, part: Tree<'_>) -> Unknown
         with_integers: is_unknown_literal(with_theory(Theory::Integers, theories), part),
         with_reals: is_unknown_literal(with_theory(Theory::Reals, theories), part),
         with_vectors: is_unknown_literal(with_theory(Theory::BitVectors, theories), part),
+        with_arrays: is_unknown_literal(with_theory(Theory::Arrays, theories), part),
     }
 }
 
-// Under which theories a tree names no sort; `None` of a sort of arrays, whose parts are asked.
-fn unknown_sort(sorts: &SortNames, tree: Tree<'_>) -> Option<Unknown>
+// Under which theories a tree names no sort; `None` for want of memory.
+fn unknown_sort(alloc: Global, sorts: &SortNames, tree: Tree<'_>) -> Option<Unknown>
     ensures { IfSome result (λ unknown. unknown
         ≡ unknown_by (λ t. blame.names_no_sort (sort_names sorts.now) t (sexp_of tree.entry)) sorts.now.theories) }
 {
     let theories = sorts.theories;
     Some(Unknown {
-        here: names_no_sort(sorts, theories, tree)?,
-        with_integers: names_no_sort(sorts, with_theory(Theory::Integers, theories), tree)?,
-        with_reals: names_no_sort(sorts, with_theory(Theory::Reals, theories), tree)?,
-        with_vectors: names_no_sort(sorts, with_theory(Theory::BitVectors, theories), tree)?,
+        here: names_no_sort(alloc, sorts, theories, tree)?,
+        with_integers: names_no_sort(alloc, sorts, with_theory(Theory::Integers, theories), tree)?,
+        with_reals: names_no_sort(alloc, sorts, with_theory(Theory::Reals, theories), tree)?,
+        with_vectors: names_no_sort(
+            alloc,
+            sorts,
+            with_theory(Theory::BitVectors, theories),
+            tree,
+        )?,
+        with_arrays: names_no_sort(alloc, sorts, with_theory(Theory::Arrays, theories), tree)?,
     })
 }
 
-// Whether a tree names no sort of these theories; `None` of a sort of arrays.
-fn names_no_sort(sorts: &SortNames, theories: Theories, tree: Tree<'_>) -> Option<bool>
+// Whether a tree names no sort of these theories; `None` for want of memory.
+fn names_no_sort(
+    alloc: Global,
+    sorts: &SortNames,
+    theories: Theories,
+    tree: Tree<'_>,
+) -> Option<bool>
     ensures { IfSome result (λ no. no ≡ blame.names_no_sort (sort_names sorts.now) theories (sexp_of tree.entry)) }
 {
-    match sorts.begin(theories, tree) {
-        Begun::Found(sort) => Some(is_unknown_sort(sort)),
-        Begun::Parts(_, _) => None,
+    match sorts.sort_under(alloc, theories, tree) {
+        Ok(_) => Some(false),
+        Err(fault) => is_told_unknown(fault),
     }
 }
 
-fn is_unknown_sort(sort: Result<Sort, TermFlaw>) -> bool
-    ensures { result ≡ blame.is_unknown_sort sort }
+// Whether a fault is that of an unknown name; `None` for want of memory.
+fn is_told_unknown(fault: TermFault) -> Option<bool>
+    ensures { IfSome result (λ unknown. (expected : Result Sort TermFlaw) → Tells expected fault
+        → unknown ≡ blame.is_unknown_sort expected) }
 {
-    matches!(sort, Err(TermFlaw::Unknown))
+    match fault.flaw() {
+        Some(TermFlaw::Unknown) => Some(true),
+        Some(_) => Some(false),
+        None => None,
+    }
 }
 
 // The name by which a tree names a sort.
@@ -267,6 +294,7 @@ fn with_theory(theory: Theory, theories: Theories) -> Theories
         Theory::Integers => more.ints = true,
         Theory::Reals => more.reals = theories.reals || theories.wide,
         Theory::BitVectors => more.bits = true,
+        Theory::Arrays => more.arrays = theories.arrays || theories.wide,
     }
     more
 }

@@ -18,6 +18,7 @@ use crate::value::Value;
 use smt_bits::{Bits, arithmetic, bitwise, parts, shifts, signed};
 use smt_theory::{BitsBinary, BitsComparison, BitsFolded, BitsOp, BitsUnary, Width};
 
+#[inline(never)]
 pub(crate) fn apply_bits(op: BitsOp, args: &[Option<Value>]) -> Option<Value>
     ensures { known_element result ≡ known_step (ops.Bits op) (known_elements args.now) }
 {

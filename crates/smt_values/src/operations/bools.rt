@@ -15,6 +15,7 @@ ghost use Rattle.smt_theory.specs.declared.op.CoreOp.TheVariants.{Distinct, Equa
 use crate::value::Value;
 use smt_theory::CoreOp;
 
+#[inline(never)]
 pub(crate) fn apply_core(op: CoreOp, args: &[Option<Value>]) -> Option<Value>
     ensures { known_element result ≡ known_core op (known_elements args.now) }
 {

@@ -23,7 +23,7 @@ use smt_ratios::{
 use smt_theory::{Arithmetic, Comparison, IntsOp, RealsOp};
 
 /// What an operator of Ints gives, which may be one of Reals too.
-#[inline(always)]
+#[inline(never)]
 pub(crate) fn apply_number_op(op: IntsOp, args: &[Option<Value>]) -> Option<Value>
     ensures { known_element result ≡ known_step (Ints op) (known_elements args.now) }
 {
@@ -130,6 +130,7 @@ fn is_related(op: Comparison, a: &Number, b: &Number) -> bool
 }
 
 /// What an operator of Reals alone gives.
+#[inline(never)]
 pub(crate) fn apply_reals(op: RealsOp, args: &[Option<Value>]) -> Option<Value>
     ensures { known_element result
         ≡ option_and_then (known_reals op) (known_numbers (known_elements args.now)) }

@@ -3,7 +3,7 @@ use Rattle.smt_trees.specs.View.{sexp_of}
 use Rattle.smt_theory.specs.declared.theories.Theories.{Theories}
 use Rattle.smt_terms.specs.Blame.{names_no_sort, with_theory}
 use Rattle.smt_terms.specs.Internal.LibraryView.{sort_names}
-use Rattle.smt_terms.specs.declared.blame.Theory.TheVariants.{Integers, Reals, BitVectors}
+use Rattle.smt_terms.specs.declared.blame.Theory.TheVariants.{Integers, Reals, BitVectors, Arrays}
 use Rattle.smt_terms.proofs.library.blamed_names.unknown_sort.Goals as goal
 
 pub returns : goal.returns
@@ -16,9 +16,12 @@ returns c =
     c.in_ok-names_no_sort-3.ensures ∙ ap no_sort c.with_theory-2.ensures in
     let vectors : c.in_ok-names_no_sort-4.field-0 ≡ no_sort (with_theory BitVectors theories) =
     c.in_ok-names_no_sort-4.ensures ∙ ap no_sort c.with_theory-3.ensures in
+    let arrays : c.in_ok-names_no_sort-5.field-0 ≡ no_sort (with_theory Arrays theories) =
+    c.in_ok-names_no_sort-5.ensures ∙ ap no_sort c.with_theory-4.ensures in
     λ i. record {
       here = c.in_ok-names_no_sort.ensures i;
       with_integers = integers i;
       with_reals = reals i;
       with_vectors = vectors i;
+      with_arrays = arrays i;
     }
