@@ -1,5 +1,5 @@
 -- Sorts (SMT-LIB 2.6, theories Core, Reals_Ints, FixedSizeBitVectors and ArraysEx, and section 4.2.3).
-use Rattle.std.specs.Prelude.{ℕ, Bool, true, false, ◌==◌, ◌&&◌, Option, Some, None}
+use Rattle.std.specs.Prelude.{ℕ, Bool, true, false, ◌==◌, ◌-◌, ◌^◌, ◌&&◌, Option, Some, None, nat_lt}
 
 -- a sort of the theories; `Free k` is the one that command k declares
 pub data Sort : Type 0 where
@@ -38,3 +38,16 @@ command_of_sort _ = None
 abbrev pub array_of_sort : Sort → Option (Sort × Sort)
 array_of_sort (Array index element) = Some (index, element)
 array_of_sort _ = None
+
+-- whether a sort is one of no arrays, and no command of this number or above declares it
+abbrev pub is_declared_below : ℕ → Sort → Bool
+is_declared_below limit (Free command) = nat_lt command limit
+is_declared_below limit (Array index element) = false
+is_declared_below limit _ = true
+
+-- whether there are arrays by these indexes with these elements
+abbrev pub has_arrays : Sort → Sort → Bool
+has_arrays index (Array inner element) =
+    is_declared_below (2 ^ 20 - 131) index
+    && (is_declared_below (2 ^ 20 - 131) inner && is_declared_below (2 ^ 20 - 131) element)
+has_arrays index element = is_declared_below (2 ^ 31 - 131) index && is_declared_below (2 ^ 31 - 131) element

@@ -1,7 +1,7 @@
 //! Sorts of the theories, each as one number. This file knows no operator, and no value.
 
-ghost use Rattle.std.specs.Prelude.{◌≡◌, IfSome};
-ghost use Rattle.smt_theory.specs.Sort.{Array, Bits, Boolean, Free, Int, Real, array_of_sort, command_of_sort};
+ghost use Rattle.std.specs.Prelude.{◌≡◌, IfSome, is_some};
+ghost use Rattle.smt_theory.specs.Sort.{Array, Bits, Boolean, Free, Int, Real, array_of_sort, command_of_sort, has_arrays};
 ghost use Rattle.smt_theory.specs.Sort.{is_number, is_same_sort};
 ghost use Rattle.smt_theory.specs.Sort.{width_of_sort};
 ghost use Rattle.smt_theory.specs.SortKinds.{sort_of_kind};
@@ -98,7 +98,8 @@ impl Sort {
     /// the elements are arrays of arrays, or where there is no room for the number of a command, which has 31 bits less
     /// 131 here, and 20 bits less 131 where the elements are arrays.
     pub fn array(index: Sort, element: Sort) -> Option<Sort>
-        ensures { IfSome result (λ sort. sort ≡ Array index element) }
+        ensures sort { IfSome result (λ sort. sort ≡ Array index element) }
+        ensures room { is_some result ≡ has_arrays index element }
     {
         let (i, e) = (index.code, element.code);
         if e < ARRAY {

@@ -10,8 +10,8 @@ invariant_of-result-2 c =
     ((c.element.inside.code - 4611686018427387904) % 2147483648)
     c.if-i-ge-NESTED_PART.false c.if-j-ge-NESTED_PART.false c.if-f-ge-NESTED_PART.false
 
-pub returns : goal.returns
-returns c =
+pub returns-clause-sort : goal.returns-clause-sort
+returns-clause-sort c =
     let index = sym (plain_view c.index.inside.code (omega (arith, c.if-i-ge-NESTED_PART.false))) ∙ c.index.view_is in
     let element =
     sym (array_view c.element.inside.code c.if-e-lt-ARRAY.false c.if-e-ge-NESTED.false) ∙ c.element.view_is
