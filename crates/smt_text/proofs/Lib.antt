@@ -26,4 +26,5 @@ pub mod LayoutLemmas
 pub mod ScanLemmas
 pub mod AtomLemmas
 pub mod PlacesLemmas
+pub mod WindowLemmas
 pub mod OrderLemmas

@@ -2,14 +2,15 @@
 use Rattle.std.proofs.Common.{◌≡◌, ◌<◌, ℕ, Bool, true, false, List, [], ◌∷◌, length, get_or, take, Some, refl}
 use Rattle.std.proofs.Common.{arith, sym, ap, ◌∙◌, subst, ltb-true, nat_lt}
 use Rattle.std.specs.Prelude.{◌==◌, if◌then◌else◌}
-use Rattle.smt_text.proofs.ByteLemmas.{digit_begins, letter_begins, lex_ended, push_first_bin, push_first_hex}
+use Rattle.smt_text.proofs.ByteLemmas.{digit_begins, letter_begins, lex_ended, push_first_bin, push_first_hex, push_first_keyword}
 use Rattle.smt_text.proofs.ReaderCompleteness.{step-at, run-cons}
 use Rattle.smt_text.specs.Internal.LexerStates.{Levels, At, lex, run, separated}
 use Rattle.smt_text.specs.Internal.ReaderState.{BeginsAtom}
-use Rattle.smt_text.specs.Lexical.{is_binary_digit, is_hexadecimal_digit, is_letter, is_nonzero_digit, is_white}
+use Rattle.smt_text.specs.Lexical.{is_binary_digit, is_hexadecimal_digit, is_letter, is_nonzero_digit, is_symbol_byte}
+use Rattle.smt_text.specs.Lexical.{is_white}
 use Rattle.smt_text.specs.declared.lexer.AtomState.{AtomState}
 use Rattle.smt_text.specs.declared.lexer.AtomState.TheVariants.{Nothing, Digits, Hash, HexMark, HexDigits}
-use Rattle.smt_text.specs.declared.lexer.AtomState.TheVariants.{BinMark, BinDigits, Name, InComment}
+use Rattle.smt_text.specs.declared.lexer.AtomState.TheVariants.{BinMark, BinDigits, Colon, KeywordName, Name, InComment}
 use Rattle.smt_text.specs.declared.lexer.LexerStep.TheVariants.{Push, Skip, Finish, Open, Close, Stuck}
 
 -- a byte between tokens is kept by none
@@ -40,6 +41,14 @@ mark_run max_depth levels mark (h ∷ c ∷ text) b d lt first second e =
     ∙ run-cons max_depth (At Hash [] levels) (At mark [] levels) c []
     (step-at max_depth (At Hash [] levels) c (Skip mark) (ap (lex Hash) second ∙ e))
 
+-- the byte before a keyword
+colon_run : (max_depth : ℕ) (levels : Levels) (text : List ℕ) → 0 < length text → get_or text 0 0 ≡ 58
+    → run max_depth (At Nothing [] levels) (take 1 text) ≡ Some (At Colon [] levels)
+colon_run max_depth levels [] some first = absurd (omega arith)
+colon_run max_depth levels (h ∷ text) some first =
+    run-cons max_depth (At Nothing [] levels) (At Colon [] levels) h []
+    (step-at max_depth (At Nothing [] levels) h (Skip Colon) (ap (lex Nothing) first))
+
 -- the state where no token has begun
 at_start : (P : AtomState → List ℕ → Type 0) (token : AtomState) (bytes : List ℕ) → token ≡ Nothing
     → bytes ≡ [] → P Nothing [] → P token bytes
@@ -68,6 +77,19 @@ binary_begins max_depth token bytes text levels d e f lt first second =
       first = λ h. push_first_bin (get_or text 2 0)
           (kept_digit BinDigits (get_or text 2 0) (is_binary_digit (get_or text 2 0)) h);
       ended = λ b h. lex_ended BinDigits b tt h;
+      whole = refl;
+    })
+
+pub keyword_begins : (max_depth : ℕ) (token : AtomState) (bytes text : List ℕ) (levels : Levels)
+    → token ≡ Nothing → bytes ≡ [] → 0 < length text → get_or text 0 0 ≡ 58
+    → BeginsAtom max_depth (At token bytes levels) text 1 KeywordName
+keyword_begins max_depth token bytes text levels e f some first =
+    at_start (λ t b. BeginsAtom max_depth (At t b levels) text 1 KeywordName) token bytes e f (record {
+      start = Colon;
+      marked = colon_run max_depth levels text some first;
+      first = λ h. push_first_keyword (get_or text 1 0)
+          (kept_digit KeywordName (get_or text 1 0) (is_symbol_byte (get_or text 1 0)) h);
+      ended = λ b h. lex_ended KeywordName b tt h;
       whole = refl;
     })
 

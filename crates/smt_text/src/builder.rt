@@ -1,6 +1,6 @@
 //! Trees, built from tokens in order. This file knows no bytes of a text.
 
-ghost use Rattle.std.specs.Prelude.{◌≡◌, [], ◌∷◌, ◌++◌, IfOk};
+ghost use Rattle.std.specs.Prelude.{◌≡◌, [], ◌∷◌, ◌++◌, length, IfOk, IfSome};
 ghost use Rattle.smt_text.specs.Internal.ReaderState.{place_of};
 
 use crate::mark::Mark;
@@ -29,11 +29,12 @@ pub(crate) struct Ready {
 }
 
 impl Builder {
-    ghost use Rattle.std.specs.Prelude.{◌<◌, MatchOption};
+    ghost use Rattle.std.specs.Prelude.{◌<◌, ◌==◌, MatchOption};
     ghost use Rattle.smt_text.specs.Internal.LexerStates.{On, add, begun, ended, depth_of};
-    ghost use Rattle.smt_text.specs.Internal.ReaderState.{levels_of, EndsTree};
+    ghost use Rattle.smt_text.specs.Internal.ReaderState.{levels_of, EndsTree, KeepsText};
     ghost use Rattle.smt_trees.specs.Sexp.{Atom, Nil, Reserved};
     ghost use Rattle.smt_trees.specs.Tape.{kind_of};
+    ghost use Rattle.smt_trees.specs.TapeView.{text_of, Holds};
 
     pub(crate) fn new(alloc: Global) -> Self
         ensures levels { levels_of result ≡ On [] Nil }
@@ -55,19 +56,51 @@ impl Builder {
         self.list.depth()
     }
 
-    /// Adds an atom, which ends at a mark, to the innermost list that is not closed, or at the top.
+    /// Whether no bytes are offered.
     #[inline(always)]
-    pub(crate) fn add_atom(&mut self, kind: Kind, bytes: &[u8], end: Mark) -> Result<(), Memory>
+    pub(crate) fn is_text_taken(&self) -> bool
+        ensures { result ≡ (length (text_of self.now.list) == 0) }
+    {
+        self.list.text_len() == 0
+    }
+
+    /// Offers bytes, which the next atoms may be among, in the place of those that were offered before. Returns their
+    /// place.
+    #[inline(always)]
+    pub(crate) fn offer(&mut self, bytes: &[u8]) -> Result<usize, Memory>
+        ensures levels { IfOk result (λ _. levels_of self.new ≡ levels_of self.old) }
+        ensures held { IfOk result (λ place. Holds self.new.list place bytes.now) }
+        ensures ready { self.new.ready ≡ self.old.ready }
+        ensures limit { self.new.limit ≡ self.old.limit }
+    {
+        Ok(self.list.offer(bytes)?)
+    }
+
+    /// Adds an atom, which ends at a mark, to the innermost list that is not closed, or at the top. Its bytes may be
+    /// among those that were offered, at this place.
+    #[inline(always)]
+    pub(crate) fn add_atom(
+        &mut self,
+        kind: Kind,
+        bytes: &[u8],
+        at: Option<usize>,
+        end: Mark,
+    ) -> Result<(), Memory>
+        requires { IfSome at (λ place. Holds self.old.list place bytes.now) }
         ensures levels { IfOk result
             (λ _. levels_of self.new ≡ add (Atom (kind_of kind) bytes.now) (levels_of self.old)) }
         ensures ready { IfOk result (λ _. EndsTree end self.old self.new) }
         ensures limit { self.new.limit ≡ self.old.limit }
+        ensures text { IfSome at (λ _. text_of self.new.list ≡ text_of self.old.list) }
     {
         if self.list.depth() == 0 {
             let atom = OwnedTree::atom(self.alloc, kind, bytes)?;
             return push_ready(&mut self.ready, atom, self.limit, end);
         }
-        self.list.add_atom(kind, bytes)?;
+        match at {
+            Some(place) => self.list.add_offered(kind, place, bytes.len())?,
+            None => self.list.add_atom(kind, bytes)?,
+        }
         Ok(())
     }
 
@@ -77,6 +110,7 @@ impl Builder {
         ensures levels { IfOk result (λ _. levels_of self.new ≡ add (Reserved word) (levels_of self.old)) }
         ensures ready { IfOk result (λ _. EndsTree end self.old self.new) }
         ensures limit { self.new.limit ≡ self.old.limit }
+        ensures text { text_of self.new.list ≡ text_of self.old.list }
     {
         if self.list.depth() == 0 {
             let word = OwnedTree::word(self.alloc, word)?;
@@ -92,6 +126,7 @@ impl Builder {
         ensures levels { IfOk result (λ _. levels_of self.new ≡ begun (levels_of self.old)) }
         ensures ready { self.new.ready ≡ self.old.ready }
         ensures limit { self.new.limit ≡ self.old.limit }
+        ensures text { text_of self.new.list ≡ text_of self.old.list }
     {
         self.list.begin_list()?;
         Ok(())
@@ -104,6 +139,7 @@ impl Builder {
         ensures levels { IfOk result (λ _. ended (levels_of self.old) ≡ levels_of self.new) }
         ensures ready { IfOk result (λ _. EndsTree end self.old self.new) }
         ensures limit { self.new.limit ≡ self.old.limit }
+        ensures text { IfOk result (λ _. KeepsText self.old self.new) }
     {
         if self.list.depth() == 1 {
             let list = self.list.take(self.alloc)?;

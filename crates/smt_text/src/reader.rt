@@ -10,10 +10,11 @@ ghost use Rattle.smt_text.specs.Internal.LexerStates.{act, add_if, atom_of, fini
 ghost use Rattle.smt_text.specs.Internal.LexerStates.{settle, step};
 ghost use Rattle.smt_text.specs.Internal.ReaderState.{levels_of, state_of, BeginsAtom, Ends, EndsTree, Goes};
 ghost use Rattle.smt_text.specs.Internal.ReaderState.{GoesOn, GoesOver, GoesThrough, IfRead, IsBeside, Marks, Pushed};
-ghost use Rattle.smt_text.specs.Internal.ReaderState.{PushedBy, UnlessRefused};
+ghost use Rattle.smt_text.specs.Internal.ReaderState.{KeepsText, PushedBy, UnlessRefused};
 ghost use Rattle.smt_text.specs.Reading.{Reads};
 ghost use Rattle.smt_trees.specs.Owned.{sexps_of};
 ghost use Rattle.smt_trees.specs.Sexp.{Sexps, Nil};
+ghost use Rattle.smt_trees.specs.TapeView.{text_of, Holds};
 ghost use Rattle.smt_faults.specs.declared.text_fault.TextFault.{TextFault as Fault};
 ghost use Rattle.smt_faults.specs.declared.text_fault.TextFault.TheVariants.{Memory as OutOfMemory};
 ghost use Rattle.smt_faults.specs.declared.text_flaw.TextFlaw.{TextFlaw};
@@ -33,6 +34,9 @@ use smt_faults::{Failure, Memory, TextFault, TextFlaw};
 use smt_trees::OwnedTree;
 use std::alloc::Global;
 use std::mem;
+
+/// As many bytes, at most, are offered to the builder at once.
+const WINDOW: usize = 512;
 
 /// How deep lists may nest in a text that [`read_trees`] reads. A list at the top is at depth 1.
 pub const MAX_DEPTH: usize = 1000;
@@ -243,7 +247,7 @@ impl Reader {
         Ok(count)
     }
 
-    // Reads the tokens that end within a text, from its beginning on, and the white space between them.
+    // Reads the tokens that end within the first bytes of a text, and the white space between them.
     fn read_tokens(&mut self, text: &[u8]) -> Result<usize, Memory>
         requires token { self.old.token ≡ Nothing }
         requires bytes { self.old.bytes.items ≡ [] }
@@ -251,34 +255,59 @@ impl Reader {
         ensures goes { IfOk result (λ count. GoesOn self.old text.now count self.new) }
         ensures marks { IfOk result (λ _. Marks self.old text.now self.new) }
     {
+        let window = &text[..text.len().min(WINDOW)];
+        let limit = self.builder.limit;
+        // While the window is read, it is the piece.
+        self.builder.limit = limit.saturating_sub((text.len() - window.len()) as u64);
+        let result = self.read_window(window);
+        self.builder.limit = limit;
+        result
+    }
+
+    // Reads the tokens that end within a window, which is the rest of the piece, and the white space between them.
+    fn read_window(&mut self, window: &[u8]) -> Result<usize, Memory>
+        requires token { self.old.token ≡ Nothing }
+        requires bytes { self.old.bytes.items ≡ [] }
+        ensures beside { IsBeside self.old self.new }
+        ensures goes { IfOk result (λ count. GoesOn self.old window.now count self.new) }
+        ensures marks { IfOk result (λ _. Marks self.old window.now self.new) }
+    {
+        let mut at = self.builder.offer(window)?;
         let mut place = 0;
-        while place < text.len() {
-            let count = self.read_token(&text[place..])?;
+        while place < window.len() {
+            let count = self.read_token(&window[place..], at)?;
             if count == 0 {
                 return Ok(place);
             }
             place += count;
+            at += count;
+            // A list at the top takes the text with it.
+            if self.builder.is_text_taken() {
+                at = self.builder.offer(&window[place..])?;
+            }
         }
         Ok(place)
     }
 
-    // Reads an atom that ends, a parenthesis or white space at the beginning of a text that is not empty. It
-    // reads nothing where something else is there, or something rare.
+    // Reads an atom that ends, a parenthesis or white space at the beginning of a text that is not empty and that was
+    // offered, at this place. It reads nothing where something else is there, or something rare.
     #[inline(always)]
-    fn read_token(&mut self, text: &[u8]) -> Result<usize, Memory>
+    fn read_token(&mut self, text: &[u8], at: usize) -> Result<usize, Memory>
         requires some { 0 < length text.now }
         requires token { self.old.token ≡ Nothing }
         requires bytes { self.old.bytes.items ≡ [] }
+        requires held { Holds self.old.builder.list at text.now }
         ensures beside { IsBeside self.old self.new }
         ensures goes { IfOk result (λ count. GoesOn self.old text.now count self.new) }
         ensures marks { IfOk result (λ _. Marks self.old text.now self.new) }
+        ensures text { IfOk result (λ _. KeepsText self.old.builder self.new.builder) }
     {
         match text[0] {
             b'(' if self.builder.depth() < self.max_depth => {
                 self.builder.begin_list()?;
                 Ok(1)
             }
-            first if is_letter(first) => self.read_atom(text, 0, 1, AtomState::Name),
+            first if is_letter(first) => self.read_atom(text, at, 0, 1, AtomState::Name),
             b' ' | b'\n' => Ok(1),
             b')' if self.builder.depth() > 0 => {
                 self.builder.end_list(Mark {
@@ -287,26 +316,31 @@ impl Reader {
                 })?;
                 Ok(1)
             }
-            first if is_nonzero_digit(first) => self.read_atom(text, 0, 1, AtomState::Digits),
-            b'#' => self.read_literal(text),
+            first if is_nonzero_digit(first) => {
+                self.read_atom(text, at, 0, 1, AtomState::Digits)
+            }
+            b'#' => self.read_literal(text, at),
+            b':' => self.read_atom(text, at, 1, 0, AtomState::KeywordName),
             _ => Ok(0),
         }
     }
 
     // Reads a literal of a bit vector, and the byte after it, where that ends it.
     #[inline(always)]
-    fn read_literal(&mut self, text: &[u8]) -> Result<usize, Memory>
+    fn read_literal(&mut self, text: &[u8], at: usize) -> Result<usize, Memory>
         requires some { 0 < length text.now }
         requires first { slice_index text.now 0 ≡ 35 }
         requires token { self.old.token ≡ Nothing }
         requires bytes { self.old.bytes.items ≡ [] }
+        requires held { Holds self.old.builder.list at text.now }
         ensures beside { IsBeside self.old self.new }
         ensures goes { IfOk result (λ count. GoesOn self.old text.now count self.new) }
         ensures marks { IfOk result (λ _. Marks self.old text.now self.new) }
+        ensures text { IfOk result (λ _. KeepsText self.old.builder self.new.builder) }
     {
         match text.get(1) {
-            Some(b'x') => self.read_atom(text, 2, 0, AtomState::HexDigits),
-            Some(b'b') => self.read_atom(text, 2, 0, AtomState::BinDigits),
+            Some(b'x') => self.read_atom(text, at, 2, 0, AtomState::HexDigits),
+            Some(b'b') => self.read_atom(text, at, 2, 0, AtomState::BinDigits),
             _ => Ok(0),
         }
     }
@@ -317,6 +351,7 @@ impl Reader {
     fn read_atom(
         &mut self,
         text: &[u8],
+        at: usize,
         mark: usize,
         known: usize,
         token: AtomState,
@@ -326,9 +361,11 @@ impl Reader {
         requires begins { BeginsAtom self.old.max_depth (state_of self.old) text.now mark token }
         requires token { self.old.token ≡ Nothing }
         requires bytes { self.old.bytes.items ≡ [] }
+        requires held { Holds self.old.builder.list at text.now }
         ensures beside { IsBeside self.old self.new }
         ensures goes { IfOk result (λ count. GoesOn self.old text.now count self.new) }
         ensures marks { IfOk result (λ _. Marks self.old text.now self.new) }
+        ensures text { IfOk result (λ _. KeepsText self.old.builder self.new.builder) }
     {
         let said = &text[mark..];
         let count = known + token.run_length(&said[known..]);
@@ -341,7 +378,7 @@ impl Reader {
             return Ok(0);
         }
         let left = text.len();
-        self.add_atom(token, said, count, Mark { left, read: end })?;
+        self.add_atom(token, said, count, at + mark, Mark { left, read: end })?;
         let read = end + 1;
         if closes {
             self.builder.end_list(Mark { left, read })?;
@@ -349,24 +386,28 @@ impl Reader {
         Ok(read)
     }
 
-    // Adds the atom that a token of the first `count` bytes of a text is, if it is one. It ends at a mark.
+    // Adds the atom that a token of the first `count` bytes of a text is, if it is one. They were offered, at this
+    // place. It ends at a mark.
     #[inline(always)]
     fn add_atom(
         &mut self,
         token: AtomState,
         text: &[u8],
         count: usize,
+        at: usize,
         end: Mark,
     ) -> Result<(), Memory>
-        requires { count ≤ length text.now }
+        requires within { count ≤ length text.now }
+        requires held { Holds self.old.builder.list at (take count text.now) }
         ensures beside { IsBeside self.old self.new }
         ensures token { self.new.token ≡ self.old.token }
         ensures bytes { self.new.bytes ≡ self.old.bytes }
         ensures added { IfOk result (λ _. levels_of self.new.builder
             ≡ add_if (atom_of token (take count text.now)) (levels_of self.old.builder)) }
         ensures ready { IfOk result (λ _. EndsTree end self.old.builder self.new.builder) }
+        ensures text { text_of self.new.builder.list ≡ text_of self.old.builder.list }
     {
-        add_token(&mut self.builder, token, &text[..count], end)
+        add_token(&mut self.builder, token, &text[..count], Some(at), end)
     }
 
     // Reads on in a comment.
@@ -477,7 +518,7 @@ impl Reader {
         ensures ready { IfOk result (λ _. EndsTree end self.old.builder self.new.builder) }
     {
         let token = mem::replace(&mut self.token, next);
-        add_token(&mut self.builder, token, self.bytes.as_slice(), end)?;
+        add_token(&mut self.builder, token, self.bytes.as_slice(), None, end)?;
         self.bytes.clear();
         Ok(())
     }

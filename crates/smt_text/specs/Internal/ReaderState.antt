@@ -14,7 +14,7 @@ use Rattle.smt_text.specs.declared.lexer.AtomState.{AtomState}
 use Rattle.smt_text.specs.declared.lexer.LexerStep.TheVariants.{Push}
 use Rattle.smt_trees.specs.Sexp.{Sexps, Nil, Cons, append}
 use Rattle.smt_trees.specs.Owned.{sexp_of, sexps_of}
-use Rattle.smt_trees.specs.TapeView.{lists_of}
+use Rattle.smt_trees.specs.TapeView.{lists_of, text_of}
 use Rattle.smt_text.specs.declared.lexer.AtomState.TheVariants.{Nothing}
 use Rattle.smt_text.specs.declared.builder.Builder.{Builder}
 use Rattle.smt_text.specs.declared.builder.Ready.{Ready}
@@ -44,6 +44,10 @@ EndsTree end old new =
     ⊎ ((tree : OwnedTree)
     × (new.ready.items ≡ old.ready.items ++ record { tree = tree; end = place_of old.limit end } ∷ [])
     × (lists_of new.list ≡ []))
+
+-- the bytes that were offered are there, or a list at the top took them with it
+abbrev pub KeepsText : Builder → Builder → Type 0
+KeepsText old new = (text_of new.list ≡ text_of old.list) ⊎ (text_of new.list ≡ [])
 
 -- trees that were handed out before those at the top
 abbrev pub under : Sexps → Levels → Levels

@@ -27,4 +27,4 @@ pub returns-clause-levels : goal.returns-clause-levels
 returns-clause-levels c =
     add_inside (lists_of c.args.self.now.list) (lists_of c.add_word.new.self)
     (sexps_of (trees_in c.args.self.now.ready.items)) (Reserved c.args.word)
-    (λ none. c.if-depth-eq0.false (c.depth.ensures ∙ none)) c.in_ok-add_word.ensures
+    (λ none. c.if-depth-eq0.false (c.depth.ensures ∙ none)) c.in_ok-add_word.ensures.lists

@@ -23,4 +23,4 @@ pub returns-clause-levels : goal.returns-clause-levels
 returns-clause-levels c =
     end_inside (lists_of c.args.self.now.list) (lists_of c.end_list.new.self)
     (sexps_of (trees_in c.args.self.now.ready.items))
-    (omega (arith, c.requires, c.depth.ensures, c.if-depth-eq1.false)) c.in_ok-end_list.ensures
+    (omega (arith, c.requires, c.depth.ensures, c.if-depth-eq1.false)) c.in_ok-end_list.ensures.lists

@@ -4,6 +4,7 @@ use Rattle.std.proofs.lemmas.Bool.{false≢true}
 use Rattle.smt_text.proofs.BuilderLemmas.{depth_of-flush}
 use Rattle.smt_text.proofs.EndingLemmas.{ends_inside}
 use Rattle.smt_text.proofs.MarkedLemmas.{marks_atom, marks_end}
+use Rattle.smt_text.proofs.WindowLemmas.{held_part}
 use Rattle.smt_text.proofs.RunLemmas.{atom_white, atom_close, kept_on, over_goes, rest_of}
 use Rattle.smt_text.specs.Internal.ReaderState.{levels_of, state_of}
 use Rattle.smt_text.specs.Internal.LexerStates.{At, depth_of}
@@ -12,6 +13,11 @@ use Rattle.smt_text.proofs.reader.Reader.read_atom.Goals as goal
 use Rattle.smt_text.proofs.reader.Reader.read_atom.Goals.{then-text-end-eq41, else-text-end-eq41}
 use Rattle.smt_text.proofs.reader.Reader.read_atom.Goals.{else-not-closes-via-else-not-closes}
 use Rattle.smt_text.proofs.reader.Reader.read_atom.Goals.{else-not-closes-via-then-not-closes+else-not-is_white}
+
+pub add_atom-requires-clause-held : goal.add_atom-requires-clause-held
+add_atom-requires-clause-held c =
+    held_part c.args.self.now.builder.list c.args.at c.args.text.now c.args.mark (c.args.known + c.run_length.result)
+    (omega arith) c.requires.held
 
 pub end_list-requires : goal.end_list-requires
 end_list-requires c =

@@ -1,6 +1,6 @@
 use Rattle.std.proofs.Common.{◌∙◌, sym, refl, arith}
 use Rattle.smt_text.proofs.MarkedLemmas.{marks_close}
-use Rattle.smt_text.proofs.MarkLemmas.{name_begins, numeral_begins}
+use Rattle.smt_text.proofs.MarkLemmas.{keyword_begins, name_begins, numeral_begins}
 use Rattle.smt_text.specs.Internal.ReaderState.{levels_of}
 use Rattle.smt_text.proofs.reader.Reader.read_token.Goals as goal
 
@@ -15,6 +15,11 @@ read_atom-requires-in_default-2-clause-begins c =
     numeral_begins c.args.self.now.max_depth c.args.self.now.token c.args.self.now.bytes.items c.args.text.now
     (levels_of c.args.self.now.builder) c.requires.token c.requires.bytes
     (sym c.is_nonzero_digit.ensures ∙ c.if-is_nonzero_digit.true)
+
+pub read_atom-requires-in-58-clause-begins : goal.read_atom-requires-in-58-clause-begins
+read_atom-requires-in-58-clause-begins c =
+    keyword_begins c.args.self.now.max_depth c.args.self.now.token c.args.self.now.bytes.items c.args.text.now
+    (levels_of c.args.self.now.builder) c.requires.token c.requires.bytes c.requires.some c.in-58.is
 
 pub returns-in_ok-end_list-in-41-clause-marks : goal.returns-in_ok-end_list-in-41-clause-marks
 returns-in_ok-end_list-in-41-clause-marks c =
