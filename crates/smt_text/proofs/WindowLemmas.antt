@@ -1,7 +1,7 @@
 -- A window of a text: its bytes are offered, and what is read of it is read of the text.
-use Rattle.std.proofs.Common.{◌≡◌, ◌<◌, ◌≤◌, ◌+◌, ◌-◌, ℕ, List, [], ◌∷◌, length, take, drop, Some, refl, sym, ap, ◌∙◌}
-use Rattle.std.proofs.Common.{◌⊎◌, inl, inr, arith, subst, ◌++◌}
-use Rattle.std.proofs.lemmas.List.{drop-drop, drop-take, length-drop, length-take, length-take-le, take-take}
+use Rattle.std.proofs.Common.{◌≡◌, ◌≤◌, ◌+◌, ◌-◌, ℕ, List, [], ◌∷◌, length, take, drop, Some, sym, ap, ◌∙◌}
+use Rattle.std.proofs.Common.{inl, inr, arith, subst, ◌++◌}
+use Rattle.std.proofs.lemmas.List.{drop-drop, drop-take, length-take, length-take-le, take-take}
 use Rattle.smt_text.proofs.RunLemmas.{rest_is, rest_length, rest_of}
 use Rattle.smt_text.specs.Internal.LexerStates.{State, run}
 use Rattle.smt_text.specs.Internal.ReaderState.{state_of, trees_in, AreMarked, GoesOn, KeepsText, Marks}

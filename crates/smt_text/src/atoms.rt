@@ -52,12 +52,7 @@ pub(crate) fn add_token(
 
 // Adds the reserved word or the simple symbol that these bytes spell.
 #[inline(always)]
-fn add_name(
-    builder: &mut Builder,
-    bytes: &[u8],
-    at: Option<usize>,
-    end: Mark,
-) -> Result<(), Memory>
+fn add_name(builder: &mut Builder, bytes: &[u8], at: Option<usize>, end: Mark) -> Result<(), Memory>
     requires { IfSome at (λ place. Holds builder.old.list place bytes.now) }
     ensures levels { IfOk result (λ _. levels_of builder.new
         ≡ add (name_or_word (word_named bytes.now) bytes.now) (levels_of builder.old)) }

@@ -19,7 +19,12 @@ pub(crate) struct Builder {
     ready: VecDeque<Ready>,
     /// The place, in the whole text, at which the piece ends that is read.
     pub(crate) limit: u64,
+    /// Trees that are done with, for their memory.
+    spare: Vec<OwnedTree>,
 }
+
+/// The most trees that are kept for their memory.
+const SPARE: usize = 64;
 
 /// A tree at the top, and how many bytes the text has up to its end.
 #[derive(Drop)]
@@ -45,6 +50,7 @@ impl Builder {
             list: Tape::new(alloc),
             ready: VecDeque::new(alloc),
             limit: 0,
+            spare: Vec::new(alloc),
         }
     }
 
@@ -94,8 +100,7 @@ impl Builder {
         ensures text { IfSome at (λ _. text_of self.new.list ≡ text_of self.old.list) }
     {
         if self.list.depth() == 0 {
-            let atom = OwnedTree::atom(self.alloc, kind, bytes)?;
-            return push_ready(&mut self.ready, atom, self.limit, end);
+            return self.add_top(kind, bytes, end);
         }
         match at {
             Some(place) => self.list.add_offered(kind, place, bytes.len())?,
@@ -142,11 +147,49 @@ impl Builder {
         ensures text { IfOk result (λ _. KeepsText self.old self.new) }
     {
         if self.list.depth() == 1 {
-            let list = self.list.take(self.alloc)?;
-            return push_ready(&mut self.ready, list, self.limit, end);
+            return self.end_top(end);
         }
         self.list.end_list()?;
         Ok(())
+    }
+
+    // Adds an atom at the top, which ends at a mark.
+    #[inline(never)]
+    fn add_top(&mut self, kind: Kind, bytes: &[u8], end: Mark) -> Result<(), Memory>
+        requires { depth_of (levels_of self.old) ≡ 0 }
+        ensures levels { IfOk result
+            (λ _. levels_of self.new ≡ add (Atom (kind_of kind) bytes.now) (levels_of self.old)) }
+        ensures ready { IfOk result (λ _. EndsTree end self.old self.new) }
+        ensures limit { self.new.limit ≡ self.old.limit }
+        ensures list { self.new.list ≡ self.old.list }
+    {
+        let atom = OwnedTree::atom_in(self.alloc, self.spare.pop(), kind, bytes)?;
+        push_ready(&mut self.ready, atom, self.limit, end)
+    }
+
+    // Closes the list at the top, which ends at a mark.
+    #[inline(never)]
+    fn end_top(&mut self, end: Mark) -> Result<(), Memory>
+        requires { depth_of (levels_of self.old) ≡ 1 }
+        ensures levels { IfOk result (λ _. ended (levels_of self.old) ≡ levels_of self.new) }
+        ensures ready { IfOk result (λ _. EndsTree end self.old self.new) }
+        ensures limit { self.new.limit ≡ self.old.limit }
+        ensures text { IfOk result (λ _. text_of self.new.list ≡ []) }
+    {
+        let list = self.list.take_in(self.alloc, self.spare.pop())?;
+        push_ready(&mut self.ready, list, self.limit, end)
+    }
+
+    /// Accepts a tree that is done with, for its memory.
+    pub(crate) fn give_back(&mut self, tree: OwnedTree)
+        ensures list { self.new.list ≡ self.old.list }
+        ensures ready { self.new.ready ≡ self.old.ready }
+        ensures limit { self.new.limit ≡ self.old.limit }
+    {
+        if self.spare.len() < SPARE && tree.is_small() {
+            // Where there is no memory for it, the tree is dropped.
+            let _ = self.spare.push(tree);
+        }
     }
 
     /// Takes the first of the trees that are ready; `None` where none is.

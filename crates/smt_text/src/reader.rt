@@ -187,6 +187,20 @@ impl Reader {
         }
     }
 
+    /// Accepts a tree that is done with: a tree that is read later has its memory.
+    pub fn give_back(&mut self, tree: OwnedTree)
+        ensures stands { (fed : List ℕ) (taken : Sexps) → StandsFor self.old fed taken → StandsFor self.new fed taken }
+        ensures ends { (fed : List ℕ) (taken : Sexps) → KeepsEnds self.old fed taken → KeepsEnds self.new fed taken }
+        ensures finished { is_finished self.new ≡ is_finished self.old }
+        ensures counted { bytes_fed self.new ≡ bytes_fed self.old }
+        ensures limit { depth_limit self.new ≡ depth_limit self.old }
+        ensures fault { fault_of self.new ≡ fault_of self.old }
+        ensures waiting { trees_waiting self.new ≡ trees_waiting self.old }
+        ensures end { end_of_trees self.new ≡ end_of_trees self.old }
+    {
+        self.builder.give_back(tree);
+    }
+
     // Whether memory was refused.
     fn is_refused(&self) -> bool
         ensures { MatchBool result (self.now.failure ≡ Some failures.Memory)

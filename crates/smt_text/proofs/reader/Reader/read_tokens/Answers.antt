@@ -1,4 +1,4 @@
-use Rattle.std.proofs.Common.{arith, length, take, refl}
+use Rattle.std.proofs.Common.{arith, refl}
 use Rattle.std.proofs.lemmas.List.{length-take}
 use Rattle.smt_text.proofs.BuilderLemmas.{if_ok}
 use Rattle.smt_text.proofs.WindowLemmas.{marks_wider}

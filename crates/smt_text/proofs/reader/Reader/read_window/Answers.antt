@@ -17,10 +17,10 @@ pub loop-place-preserved-then-is_text_taken : goal.loop-place-preserved-then-is_
 loop-place-preserved-then-is_text_taken c =
     let now = record c.read_token.new.self { builder = c.offer-then-is_text_taken.new.self } in
     let goes = goes_further c.args.self.now c.loop-place.self c.read_token.new.self c.args.window.now c.loop-place.place
-        c.in_ok-count.count c.loop-place.invariant.goes c.in_ok-count.ensures.goes in
+    c.in_ok-count.count c.loop-place.invariant.goes c.in_ok-count.ensures.goes in
     let marks = marks_further c.args.self.now c.loop-place.self c.args.window.now c.read_token.new.self c.loop-place.place
-        c.loop-place.invariant.goes.within c.loop-place.invariant.goes.runs c.loop-place.invariant.beside.3
-        c.loop-place.invariant.beside.5 c.loop-place.invariant.marks c.in_ok-count.ensures.marks in
+    c.loop-place.invariant.goes.within c.loop-place.invariant.goes.runs c.loop-place.invariant.beside.3
+    c.loop-place.invariant.beside.5 c.loop-place.invariant.marks c.in_ok-count.ensures.marks in
     record {
       beside = (
         c.in_ok-count.ensures.beside.0 ∙ c.loop-place.invariant.beside.0,
@@ -48,10 +48,10 @@ loop-place-preserved c = record {
     c.in_ok-count.ensures.beside.5 ∙ c.loop-place.invariant.beside.5,
   );
   goes = goes_further c.args.self.now c.loop-place.self c.read_token.new.self c.args.window.now c.loop-place.place
-    c.in_ok-count.count c.loop-place.invariant.goes c.in_ok-count.ensures.goes;
+      c.in_ok-count.count c.loop-place.invariant.goes c.in_ok-count.ensures.goes;
   marks = marks_further c.args.self.now c.loop-place.self c.args.window.now c.read_token.new.self c.loop-place.place
-    c.loop-place.invariant.goes.within c.loop-place.invariant.goes.runs c.loop-place.invariant.beside.3
-    c.loop-place.invariant.beside.5 c.loop-place.invariant.marks c.in_ok-count.ensures.marks;
+      c.loop-place.invariant.goes.within c.loop-place.invariant.goes.runs c.loop-place.invariant.beside.3
+      c.loop-place.invariant.beside.5 c.loop-place.invariant.marks c.in_ok-count.ensures.marks;
   held = held_on c.loop-place.self.builder c.read_token.new.self.builder c.loop-place.at c.args.window.now
       c.loop-place.place c.in_ok-count.count c.in_ok-count.ensures.goes.within c.in_ok-count.ensures.text
       (λ none. false≢true (sym c.if-is_text_taken.false ∙ c.is_text_taken.ensures
