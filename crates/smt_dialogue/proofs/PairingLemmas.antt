@@ -259,7 +259,9 @@ same_command r c d h k = cc
 
 pub taken_up : (turn : Turn) (old new : Pairing) (texts : Texts) (pairs : List Pair) (later rest : Sexps)
     (t : OwnedTree) (c : commands.Command) → old.command ≡ Some t
-    → command_of (profile_of old.dialogue.stack) (sexp_of t) ≡ Ok c → new.script ≡ old.script
+    → command_of (profile_of old.dialogue.stack) (sexp_of t) ≡ Ok c
+    → ((bytes : List ℕ) (text : TextSoFar) (left : Sexps) → HasQueue old.script bytes text left
+    → HasQueue new.script bytes text left)
     → options_of new.dialogue ≡ options_of old.dialogue
     → (turn ≡ turns.GoesOn → new.command ≡ None) → ((closed : Bool) → turn ≡ turns.Waits closed → new.command ≡ Some t)
     → ((early : Bool) → Fits early (state_behind texts.taken old.dialogue) pairs
@@ -282,7 +284,7 @@ taken_up turns.GoesOn old new texts pairs later rest t c some read script start 
         left = h.left;
         in_turn = subst (λ o. IsInTurn (profile_of new.dialogue.stack) o
             (pairs ++ pair_of c up.answer ∷ []) h.left h.left) (sym (gone refl)) refl;
-        script_front = subst (λ f. HasQueue f texts.script_bytes texts.script h.left) (sym script) h.script_front;
+        script_front = script texts.script_bytes texts.script h.left h.script_front;
         answers_front = up.front_is;
         early = false;
         stands = up.stands;
@@ -301,7 +303,7 @@ taken_up (turns.Waits closed) old new texts pairs later rest t c some read scrip
         in_turn = subst (λ (o : Options). IsInTurn o.profile new.command pairs later h.left) (sym start)
             (subst (λ o. IsInTurn (profile_of old.dialogue.stack) o pairs later h.left)
             (some ∙ sym (stays closed refl)) h.in_turn);
-        script_front = subst (λ f. HasQueue f texts.script_bytes texts.script h.left) (sym script) h.script_front;
+        script_front = script texts.script_bytes texts.script h.left h.script_front;
         answers_front = up.1;
         early = h.early;
         stands = up.2;

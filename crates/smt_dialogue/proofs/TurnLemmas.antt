@@ -53,6 +53,21 @@ taken_accepted start on pairs c o need text rest bytes front new is same h fault
   stands = stands;
 }
 
+-- where what is left of the answers stays
+pub left_kept : (start : Start) (pairs : List Pair) (c : Command) (text : TextSoFar) (rest : Sexps) (bytes : List ℕ)
+    (front next : TreeQueue) (new : State)
+    → ((bytes : List ℕ) (text : TextSoFar) (rest : Sexps) → HasQueue front bytes text rest → HasQueue next bytes text rest)
+    → GoesOn start pairs c text rest bytes front new → GoesOn start pairs c text rest bytes next new
+left_kept start pairs c text rest bytes front next new kept h = record {
+  answer = h.answer;
+  left = h.left;
+  front_is = kept bytes text h.left h.front_is;
+  next = h.next;
+  taken_so = h.taken_so;
+  faultless = h.faultless;
+  stands = h.stands;
+}
+
 pub taken_refused : (early : Bool) (start : Start) (on : Bool) (pairs : List Pair) (c : Command)
     (o : Option TakenAnswer) (need : Need) (text : TextSoFar) (rest : Sexps) (bytes : List ℕ) (front : TreeQueue)
     (new : State) (n : ℕ) (flaw : CommandFlaw) (line : Line)

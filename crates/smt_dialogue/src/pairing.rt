@@ -1,8 +1,8 @@
 //! Pairs commands with answers, as far as both texts have come. This file does not know what a command does.
 
-ghost use Rattle.std.specs.Prelude.{◌≡◌, ◌<◌, ◌+◌, ◌^◌, ◌++◌, List, [], IfOk, OnErr, None};
+ghost use Rattle.std.specs.Prelude.{◌≡◌, ◌<◌, ◌+◌, ◌^◌, ◌++◌, ℕ, List, [], IfOk, OnErr, None};
 ghost use Rattle.std.specs.Prelude.{is_some, false, length, true};
-ghost use Rattle.smt_text.specs.Reader.{bytes_fed, is_finished};
+ghost use Rattle.smt_text.specs.Reader.{bytes_fed, depth_limit, is_finished};
 ghost use Rattle.smt_trees.specs.Sexp.{Nil, Sexps};
 ghost use Rattle.smt_dialogue.specs.FirstFault.{TextSoFar};
 ghost use Rattle.smt_dialogue.specs.Pairs.{Pair};
@@ -14,6 +14,7 @@ ghost use Rattle.smt_dialogue.specs.Internal.PairingView.{AllNext, AllTurned, Ar
 ghost use Rattle.smt_dialogue.specs.Internal.PairingView.{GoesOnWith, HasAdvanced, HasRoom};
 ghost use Rattle.smt_dialogue.specs.Internal.PairingView.{IsAdvance, IsCut, IsFedAlike, IsTurned, IsUnderWay};
 ghost use Rattle.smt_dialogue.specs.Internal.PairingView.{Texts, TreesAreFew, bytes_at, queue_at, waiting};
+ghost use Rattle.smt_dialogue.specs.Internal.TreeQueueView.{HasQueue};
 
 use crate::accepted::AcceptedPairs;
 use crate::options::Options;
@@ -195,7 +196,7 @@ impl Pairing {
         };
         let turn = take_up(&mut self.dialogue, &command, &mut self.answers)?;
         if let Turn::GoesOn = turn {
-            self.command = None;
+            give_back(&mut self.script, &mut self.command);
         }
         Ok(turn)
     }
@@ -260,5 +261,20 @@ impl Pairing {
         };
         self.command = Some(tree);
         None
+    }
+}
+
+// Gives the memory of a command that was accepted to those of the script that are read later. It is no longer in turn.
+#[inline(always)]
+fn give_back(script: &mut TreeQueue, command: &mut Option<OwnedTree>)
+    ensures command { command.new ≡ None }
+    ensures queue { (bytes : List ℕ) (text : TextSoFar) (rest : Sexps)
+        → HasQueue script.old bytes text rest → HasQueue script.new bytes text rest }
+    ensures fed { bytes_fed script.new.reader ≡ bytes_fed script.old.reader }
+    ensures finished { is_finished script.new.reader ≡ is_finished script.old.reader }
+    ensures limit { depth_limit script.new.reader ≡ depth_limit script.old.reader }
+{
+    if let Some(tree) = command.take() {
+        script.give_back(tree);
     }
 }

@@ -119,6 +119,18 @@ impl TreeQueue {
         }
     }
 
+    /// Accepts a tree that is done with: a tree that is read later has its memory.
+    pub(crate) fn give_back(&mut self, tree: OwnedTree)
+        ensures queue { (bytes : List ℕ) (text : TextSoFar) (rest : Sexps)
+            → HasQueue self.old bytes text rest → HasQueue self.new bytes text rest }
+        ensures next { self.new.next ≡ self.old.next }
+        ensures fed { bytes_fed self.new.reader ≡ bytes_fed self.old.reader }
+        ensures finished { is_finished self.new.reader ≡ is_finished self.old.reader }
+        ensures limit { depth_limit self.new.reader ≡ depth_limit self.old.reader }
+    {
+        self.reader.give_back(tree);
+    }
+
     /// Takes the ready tree out of the queue; `None` where no tree is ready.
     pub(crate) fn take(&mut self) -> Option<OwnedTree>
         ensures taken { MatchOption result (self.old.next ≡ None)

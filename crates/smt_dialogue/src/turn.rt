@@ -17,6 +17,7 @@ ghost use Rattle.smt_dialogue.specs.Internal.Turns.{IsTakenUp};
 ghost use Rattle.smt_report.specs.declared.line.Line.{Line as ReportLine};
 
 use crate::accepted::AcceptedPairs;
+use crate::answer::TakenAnswer;
 use crate::need::need_of;
 use crate::next_answer::{NextAnswer, take_answer};
 use crate::tree_queue::TreeQueue;
@@ -78,7 +79,10 @@ pub(crate) fn take_up(
     );
     match take_answer(need, answers)? {
         NextAnswer::Takes(mut answer) => match dialogue.accept(command, kind, &mut answer) {
-            Ok(()) => Ok(Turn::GoesOn),
+            Ok(()) => {
+                give_back(answers, answer);
+                Ok(Turn::GoesOn)
+            }
             Err(fault) => match fault.flaw() {
                 Some(flaw) => Ok(Turn::Ends(Some(refused(number, flaw)))),
                 None => Err(Memory),
@@ -92,6 +96,20 @@ pub(crate) fn take_up(
             command: number,
             answer: dialogue.answers + 1,
         }))),
+    }
+}
+
+// Gives the memory of an answer that was accepted to the answers that are read later.
+#[inline(always)]
+fn give_back(answers: &mut TreeQueue, answer: Option<TakenAnswer>)
+    ensures queue { (bytes : List ℕ) (text : TextSoFar) (rest : Sexps)
+        → HasQueue answers.old bytes text rest → HasQueue answers.new bytes text rest }
+    ensures fed { bytes_fed answers.new.reader ≡ bytes_fed answers.old.reader }
+    ensures finished { is_finished answers.new.reader ≡ is_finished answers.old.reader }
+    ensures limit { depth_limit answers.new.reader ≡ depth_limit answers.old.reader }
+{
+    if let Some(answer) = answer {
+        answers.give_back(answer.tree);
     }
 }
 

@@ -2,7 +2,7 @@ use Rattle.std.proofs.Common.{ap, subst, sym, ◌∙◌, ◌+◌}
 use Rattle.smt_script.specs.Command.{asks_check}
 use Rattle.smt_script.specs.CommandView.{command_view}
 use Rattle.smt_script.specs.StackView.{profile_of, start_of}
-use Rattle.smt_dialogue.proofs.TurnLemmas.{taken_accepted, taken_missing, taken_refused, taken_unfit, taken_waits}
+use Rattle.smt_dialogue.proofs.TurnLemmas.{left_kept, taken_accepted, taken_missing, taken_refused, taken_unfit, taken_waits}
 use Rattle.smt_dialogue.specs.Answers.{need_of_kind}
 use Rattle.smt_dialogue.specs.Internal.NextAnswerView.{IsKnown, IsTaken}
 use Rattle.smt_dialogue.specs.Internal.AcceptedState.{state_behind}
@@ -17,7 +17,9 @@ pub returns-in-Ok-clause-turn : goal.returns-in-Ok-clause-turn
 returns-in-Ok-clause-turn c = λ bytes text rest taken early pairs h stands check.
     let dialogue = c.args.dialogue.now in
     let done = c.in-Ok.ensures.accepted taken early pairs stands check in
-    taken_accepted (start_of dialogue.stack) c.print_success.result pairs (command_view c.args.command.now)
+    left_kept (start_of dialogue.stack) pairs (command_view c.args.command.now) text rest bytes
+    c.take_answer.new.answers c.give_back.new.answers (state_behind taken c.accept.new.self) c.give_back.ensures.queue
+    (taken_accepted (start_of dialogue.stack) c.print_success.result pairs (command_view c.args.command.now)
     c.in-Takes.answer c.need_of-need.result text rest bytes c.take_answer.new.answers
     (state_behind taken c.accept.new.self)
     (c.need_of-need.ensures
@@ -25,7 +27,7 @@ returns-in-Ok-clause-turn c = λ bytes text rest taken early pairs h stands chec
     ∙ ap (need_of_kind (profile_of dialogue.stack) c.print_success.result) c.kind-kind.ensures)
     (c.print_success.ensures (effective_commands pairs) stands.stack)
     (subst (λ (a : NextAnswer). IsTaken a c.need_of-need.result text rest bytes c.take_answer.new.answers) c.in-Takes.is
-    (c.in_ok-answer.ensures.taken bytes text rest h)) done.0 done.1
+    (c.in_ok-answer.ensures.taken bytes text rest h)) done.0 done.1)
 
 pub returns-in-Some-clause-turn : goal.returns-in-Some-clause-turn
 returns-in-Some-clause-turn c = λ bytes text rest taken early pairs h stands check.

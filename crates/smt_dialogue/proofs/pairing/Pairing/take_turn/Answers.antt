@@ -142,8 +142,8 @@ returns-in-GoesOn-clause-turn c = λ texts pairs later rest way.
     (taken_up c.in_ok-turn.turn m _ texts pairs later rest c.in-Some-command.tree
     (command_view c.in-Ok.command) c.in-Some-command.is
     (read_again (profile_of m.dialogue.stack) c.profile.result (sexp_of c.in-Some-command.tree)
-    (view.sexp_of c.view.result) _ c.profile.ensures c.view.ensures c.in-Ok.ensures) refl
-    c.in_ok-turn.ensures.start (λ e. refl) (λ closed e. absurd (cc))
+    (view.sexp_of c.view.result) _ c.profile.ensures c.view.ensures c.in-Ok.ensures) c.give_back.ensures.queue
+    c.in_ok-turn.ensures.start (λ e. c.give_back.ensures.command) (λ closed e. absurd (cc))
     (λ early stands check. c.in_ok-turn.ensures.turn texts.answers_bytes texts.answers rest texts.taken early pairs
     h.answers_front
     stands check) h)
@@ -159,7 +159,7 @@ returns-in_default-turn-clause-turn c = λ texts pairs later rest way.
     (taken_up c.in_ok-turn.turn m _ texts pairs later rest c.in-Some-command.tree
     (command_view c.in-Ok.command) c.in-Some-command.is
     (read_again (profile_of m.dialogue.stack) c.profile.result (sexp_of c.in-Some-command.tree)
-    (view.sexp_of c.view.result) _ c.profile.ensures c.view.ensures c.in-Ok.ensures) refl
+    (view.sexp_of c.view.result) _ c.profile.ensures c.view.ensures c.in-Ok.ensures) (λ bytes text left q. q)
     c.in_ok-turn.ensures.start (λ e. absurd (c.in_default-turn.not-GoesOn e)) (λ closed e. c.in-Some-command.is)
     (λ early stands check. c.in_ok-turn.ensures.turn texts.answers_bytes texts.answers rest texts.taken early pairs
     h.answers_front
