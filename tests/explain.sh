@@ -345,6 +345,11 @@ explains F4 off '(declare-const y (_ BitVec 8))(assert (bvuaddo y y y))' '' 's:1
 explains F3 off '(set-logic QF_BV)(declare-const y (_ BitVec 8))(assert (= ((_ int2bv 8) y) y))' '' \
     's:1:48: fault, command 3: (assert (= ((_ int2bv 8) y) y))' '    C7: F3: a name, a sort or a literal is unknown there' \
     '    lacking: (_ int2bv 8) needs integers, which the logic lacks'
+explains F3 off '(set-logic QF_LIA)(declare-const a Int)(assert (= (select a 1) 1))' '' 's:1:40: fault, command 3: (assert (= (select a 1) 1))' \
+    '    C7: F3: a name, a sort or a literal is unknown there' '    lacking: select needs arrays, which the logic lacks'
+explains F3 off '(set-logic QF_BV)(declare-const a (Array (_ BitVec 2) (_ BitVec 2)))' '' \
+    's:1:18: fault, command 2: (declare-const a (Array (_ BitVec 2) (_ BitVec 2)))' '    C7: F3: a name, a sort or a literal is unknown there' \
+    '    lacking: (Array (_ BitVec 2) (_ BitVec 2)) needs arrays, which the logic lacks'
 explains F7 off '(declare-sort U 0)(declare-const d U)(define-fun @a () U d)(check-sat)(get-model)' 'sat ((define-fun d () U (as @a U)))' \
     's:1:60: check 1, command 4: (check-sat)' 'a:1:6: item 1: (define-fun d () U (as @a U))' "$used" \
     's:1:38: in use, command 3: (define-fun @a () U d)'

@@ -52,7 +52,7 @@ __all__ = [
     "Explained", "Explanation", "FORMS", "Item", "LibraryError", "Line", "PROFILES", "Place", "Remark", "Report", "SOLVERS", "STEPS", "Session",
     "Spot", "VERDICTS", "Value", "VerdictError", "check", "check_files", "explain", "line_of", "main", "version",
 ]
-__version__ = "0.13.0"
+__version__ = "0.13.1"
 
 VERDICTS = ("valid", "invalid", "not decided", "refused")
 PROFILES = ("base", "wide")

@@ -175,7 +175,7 @@ void smtcheck_session_free(struct smtcheck_session *session);
 
 /*
  * Writes the version of the library, and the toolchain that proved it, as `smtcheck --version` prints them after the
- * program's name: `0.13.0 (rattle-kit-13f ..)`.
+ * program's name: `0.13.1 (rattle-kit-13f ..)`.
  *
  * It returns the length of that text in bytes. The text has no byte 0. If it has at most `room` bytes, the first bytes
  * at `text` are the text, and those after it stay as they were; if it has more, all stay as they were.

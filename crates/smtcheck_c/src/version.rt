@@ -6,7 +6,7 @@ ghost use Rattle.smtcheck_c.specs.Told.{IsPut};
 use crate::text::put_text;
 
 /// The version of the library and the kit that proves it, as `smtcheck --version` has them.
-pub const VERSION: &str = "0.13.0 (rattle-kit-13f logic dac8208d650f15bf)";
+pub const VERSION: &str = "0.13.1 (rattle-kit-13f logic dac8208d650f15bf)";
 
 /// Writes the version of the library, and of the toolchain that proved it, into `text`.
 ///

@@ -19,7 +19,7 @@ use smt_theory::Profile;
 use std::alloc::{AllocError, Global};
 
 /// The version of the program and the kit that proves it, which `--version` prints after the program's name.
-const VERSION: &str = "0.13.0 (rattle-kit-13f logic dac8208d650f15bf)";
+const VERSION: &str = "0.13.1 (rattle-kit-13f logic dac8208d650f15bf)";
 
 const ABOUT: &str = "Checks the models that an SMT solver printed.
 
