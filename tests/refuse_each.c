@@ -61,6 +61,29 @@ static void tell(int status)
         _exit(100);
 }
 
+// Opens the files that are open anew, at the same places: those of the program and those of its copy go on apart.
+static void open_anew(void)
+{
+    for (int file = 3; file < 64; file++) {
+        char link[40];
+        char path[LONGEST];
+        off_t place = lseek(file, 0, SEEK_CUR);
+        if (place < 0 || file == output || file == errors)
+            continue;
+        sprintf(link, "/proc/self/fd/%d", file);
+        ssize_t length = readlink(link, path, sizeof path - 1);
+        if (length <= 0)
+            continue;
+        path[length] = 0;
+        int own = open(path, O_RDONLY);
+        if (own < 0)
+            continue;
+        if (lseek(own, place, SEEK_SET) != place || dup2(own, file) != file)
+            _exit(100);
+        close(own);
+    }
+}
+
 // Whether this is the copy that is refused.
 static int is_refused(void)
 {
@@ -75,6 +98,7 @@ static int is_refused(void)
         _exit(100);
     if (copy == 0) {
         alarm(SECONDS);
+        open_anew();
         dup2(output, 1);
         dup2(errors, 2);
         return 1;
