@@ -175,6 +175,7 @@ impl Arrays {
     /// arguments may change places. Arrays are added, and those that are there stay.
     ///
     /// The only error is want of memory, and then nothing changes.
+    #[inline(always)]
     pub fn operate(&mut self, op: Op, args: &mut [Option<Value>]) -> Result<Option<Value>, Memory>
         requires held { AreHeld (length self.old) args.old }
         ensures known { IfOk result (λ v. known_in (arrays_of self.new) v
@@ -192,6 +193,7 @@ impl Arrays {
     }
 
     // What is known of an operator's result, where arrays may be among the arguments.
+    #[inline(never)]
     fn operate_on_arrays(
         &mut self,
         op: Op,

@@ -4,6 +4,8 @@ use Rattle.std.proofs.Common.{slice_get, Option, Some, None, refl, ap, sym, ◌�
 use Rattle.std.proofs.lemmas.Bool.{ltb-true}
 use Rattle.std.proofs.lemmas.Option.{slice_get_past}
 use Rattle.smt_machine.proofs.GivenLemmas.{CostBelow, fill_at, fill_past}
+use Rattle.smt_theory.specs.declared.op.plain.PlainOp.{PlainOp}
+use Rattle.smt_theory.specs.PlainOp.{op_of_plain}
 use Rattle.smt_machine.specs.Given.{fill}
 use Rattle.smt_machine.specs.Costs.{around_at}
 use Rattle.smt_machine.specs.Least.{arguments_least, first_least, inner_least, is_choice, least, node_least}
@@ -11,7 +13,7 @@ use Rattle.smt_machine.specs.Least.{part_least, parts_least}
 use Rattle.smt_machine.specs.Internal.Tasks.{body_least, charge, part_task, task_least, tasks_least, visits}
 use Rattle.smt_machine.specs.Nodes.{Node, Known, Slot, Apply, Call, Let}
 use Rattle.smt_machine.specs.declared.task.Task.{Task}
-use Rattle.smt_machine.specs.declared.task.Task.TheVariants.{Visit, Open, Finish}
+use Rattle.smt_machine.specs.declared.task.Task.TheVariants.{Visit, Open, Finish, Operate}
 
 -- ---- a node sees those below it alone
 
@@ -137,3 +139,18 @@ node_owes nodes i n first at inner = λ arounds.
     let here = ap (inner_least i k) (sym at) in
     let body = ap (body_least i k) (sym at) in
     omega (arith, here, body, inner k, least_visits nodes k i first, least_law nodes arounds i)
+
+-- an operator whose task is planned behind its arguments
+pub operator_owes : (nodes : List Node) (i n : ℕ) (op : PlainOp) (args : List ℕ)
+    → Some (Apply (op_of_plain op) args) ≡ slice_get nodes i
+    → Owes nodes (Visit i) (Operate op n ∷ visits i args)
+operator_owes nodes i n op args at = λ arounds.
+    let k : ℕ → ℕ = least nodes arounds in
+    let here = ap (inner_least i k) (sym at) in
+    omega (
+      arith,
+      here,
+      arguments_of_parts i k (is_choice (op_of_plain op)) args,
+      least_visits nodes k i args,
+      least_law nodes arounds i,
+    )

@@ -6,7 +6,7 @@ use Rattle.smt_nodes.specs.Node as node
 use Rattle.smt_nodes.specs.Node.{Row}
 use Rattle.smt_nodes.specs.NodeParts.{NodeParts, Args, Declared, Defined, Let, parts_of}
 use Rattle.smt_nodes.specs.Nodes.{rows_of}
-use Rattle.smt_machine.specs.Internal.Parts.{elements_at, found, found_parts}
+use Rattle.smt_machine.specs.Internal.Parts.{elements_at, found, found_node, found_parts}
 use Rattle.smt_machine.specs.Nodes as machine
 use Rattle.smt_machine.specs.Tables.{call, resolved, shifted}
 use Rattle.smt_machine.specs.declared.tables.Place.{Place}
@@ -19,6 +19,19 @@ node_at : (at : Place) (row : Option Row) (parts : NodeParts) (P : Option machin
     → P (option_map (λ (r : Row). resolved (elements_at at) at.shift at.bodies.now at.declared.now r.node) row)
 node_at at None parts P h by = cc
 node_at at (Some r) parts P h by = by r.node cc
+
+-- a node that is seen whole
+pub found_as : (at : Place) (n : node.Node) → found_node at ≡ Some n
+    → found at ≡ Some (resolved (elements_at at) at.shift at.bodies.now at.declared.now n)
+found_as at n h = by (slice_get (rows_of at.nodes.now) at.number) h
+  where
+    by : (row : Option Row) → option_map (λ (r : Row). r.node) row ≡ Some n
+        → option_map (λ (r : Row). resolved (elements_at at) at.shift at.bodies.now at.declared.now r.node) row
+        ≡ Some (resolved (elements_at at) at.shift at.bodies.now at.declared.now n)
+    by None e = cc
+    by (Some r) e =
+        let same : r.node ≡ n = cc in
+        ap (λ m. Some (resolved (elements_at at) at.shift at.bodies.now at.declared.now m)) same
 
 pub none_at : (at : Place) → None ≡ found_parts at → None ≡ found at
 none_at at h = by (slice_get (rows_of at.nodes.now) at.number) h

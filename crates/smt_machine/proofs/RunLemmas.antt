@@ -10,7 +10,9 @@ use Rattle.smt_arrays.specs.Tables.{Grows}
 use Rattle.smt_machine.proofs.GivenLemmas.{given_law, cost_law}
 use Rattle.smt_machine.proofs.HeldLemmas.{known_stays}
 use Rattle.smt_machine.proofs.LeastLemmas.{AtOnce, Owes, arguments_of_parts, least-append, node_owes}
-use Rattle.smt_machine.proofs.LeastLemmas.{owes_nothing}
+use Rattle.smt_machine.proofs.LeastLemmas.{operator_owes, owes_nothing}
+use Rattle.smt_theory.specs.declared.op.plain.PlainOp.{PlainOp}
+use Rattle.smt_theory.specs.PlainOp.{op_of_plain}
 use Rattle.smt_machine.specs.Given.{given}
 use Rattle.smt_machine.specs.Costs.{cost, first_cost, part_cost, parts_cost}
 use Rattle.smt_machine.specs.Least.{inner_least, is_choice, least, parts_least}
@@ -24,7 +26,7 @@ use Rattle.smt_machine.specs.Memory.{Remembers, arrays_in}
 use Rattle.smt_machine.specs.Nodes.{Frame, Node, Known, Slot, Apply, Call, Let, node_value, part, parts}
 use Rattle.smt_machine.specs.declared.machine.Machine.{Machine}
 use Rattle.smt_machine.specs.declared.task.Task.{Task}
-use Rattle.smt_machine.specs.declared.task.Task.TheVariants.{Visit, Open, Finish}
+use Rattle.smt_machine.specs.declared.task.Task.TheVariants.{Visit, Open, Finish, Operate}
 
 -- ---- stacks of tasks
 
@@ -340,6 +342,30 @@ visit_planned nodes i n before after at compound is based =
     omega (arith, firsts, first, cost_law nodes arounds i))
     (node_owes nodes i n (first_parts n) at (λ k. inner_least_of i k n))
     (tt, due_visits nodes i (first_parts n) s)
+
+-- an operator that holds no number, behind its arguments
+pub visit_operated : (nodes : List Node) (i n : ℕ) (op : PlainOp) (args : List ℕ) (before after : Machine)
+    → Some (Apply (op_of_plain op) args) ≡ slice_get nodes i → n ≡ length args
+    → IsPlanned (Operate op n ∷ visits i args) (state_of before) before after
+    → IsBased (state_of before)
+    → IsStep nodes (Visit i) before after
+visit_operated nodes i n op args before after at count is based =
+    let s : State = state_of before in
+    planned nodes (Visit i) before after (Operate op n ∷ visits i args) s is
+    (ap (run nodes (Operate op n)) (run_visits nodes i args s)
+    ∙ ap (λ m. run nodes (Operate op m) (with_values (parts i (given nodes) (frame_of s) args) s)) count
+    ∙ finish_law nodes i (Apply (op_of_plain op) args) s tt
+    ∙ ap (λ m. with_value (node_value i (given nodes) (frame_of s) m) s) at
+    ∙ ap (λ v. with_value v s) (sym (given_law nodes i (frame_of s))))
+    based
+    (let first = ap (first_cost i (cost nodes [])) (sym at) in
+    omega (arith, work_visits nodes i args, first, cost_law nodes [] i))
+    (λ arounds.
+    let c : ℕ → ℕ = cost nodes arounds in
+    let first = ap (first_cost i c) (sym at) in
+    omega (arith, cost_visits nodes c i args, first, cost_law nodes arounds i))
+    (operator_owes nodes i n op args at)
+    (tt, due_visits nodes i args s)
 
 -- ---- the loop that plans visits, from the last part on
 

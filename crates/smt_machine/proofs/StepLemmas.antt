@@ -10,6 +10,8 @@ use Rattle.std.specs.Prelude.{option_and_then, if◌then◌else◌}
 use Rattle.smt_theory.specs.declared.op.CoreOp.TheVariants.{Ite}
 use Rattle.smt_theory.specs.declared.op.Op.{Op}
 use Rattle.smt_theory.specs.declared.op.Op.TheVariants.{Core}
+use Rattle.smt_theory.specs.declared.op.plain.PlainOp.{PlainOp}
+use Rattle.smt_theory.specs.PlainOp.{op_of_plain}
 use Rattle.smt_arrays.specs.Cells.{arrays_of}
 use Rattle.smt_arrays.specs.Element.{Element, known_plain}
 use Rattle.smt_arrays.specs.Known.{known_choice, known_step}
@@ -39,7 +41,8 @@ use Rattle.smt_machine.specs.Memory.{Remembers, arrays_in}
 use Rattle.smt_machine.specs.Nodes.{Frame, Node, Apply, Call, Let, node_value, part}
 use Rattle.smt_machine.specs.declared.machine.Machine.{Machine}
 use Rattle.smt_machine.specs.declared.task.Task.{Task}
-use Rattle.smt_machine.specs.declared.task.Task.TheVariants.{Visit, Open, Finish, Choose, Return, Unbind, Keep}
+use Rattle.smt_machine.specs.declared.task.Task.TheVariants.{Visit, Open, Finish, Operate, Choose, Return, Unbind}
+use Rattle.smt_machine.specs.declared.task.Task.TheVariants.{Keep}
 
 -- what follows from what holds unless memory was refused
 pub if_done : {T E : Type 0} {P Q : Type 0} (r : Result T E) → IfOk r (λ _. P) → (P → Q) → IfOk r (λ _. Q)
@@ -251,6 +254,16 @@ operated_step nodes i n op args before after at count is based =
     settled nodes (Finish i) before after (subst A leads is)
     (let here : B made = based in subst B leads here) (omega arith) (λ arounds. omega arith)
     (λ arounds. let none = ap (body_least i (least nodes arounds)) (sym at) in omega (arith, none))
+
+pub applied_step : (nodes : List Node) (n : ℕ) (plain : PlainOp) (op : Op) (before after : Machine) → op ≡ op_of_plain plain
+    → IsAt (with_last n (known_step op (last_of n (state_of before).values)) (state_of before)) before after
+    → IsBased (state_of before)
+    → IsStep nodes (Operate plain n) before after
+applied_step nodes n plain op before after same is based =
+    let s : State = state_of before in
+    let A : Op → Type 0 = λ o. IsAt (with_last n (known_step o (last_of n s.values)) s) before after in
+    settled nodes (Operate plain n) before after (subst A same is) based (omega arith) (λ arounds. omega arith)
+    (λ arounds. omega arith)
 
 pub entered_step : (nodes : List Node) (i n body : ℕ) (args : List ℕ) (before after : Machine)
     → Some (Call body args) ≡ slice_get nodes i → length args ≡ n

@@ -84,7 +84,8 @@ fn parts_of(kept: &[u64], from: &Place<'_>, parts: &NodeParts<'_>) -> u64
         → result ≡ capped (made_cost (length kept.now) c from.now (parts_view parts.now)) }
 {
     match parts {
-        NodeParts::Args(args) => sum_of(kept, from.parts(*args)),
+        NodeParts::Literal(_, _) | NodeParts::Slot(_) => 0,
+        NodeParts::Plain { args, .. } | NodeParts::Args(args) => sum_of(kept, from.parts(*args)),
         NodeParts::Declared { place, args } => {
             cost_of_call(kept, from.declared(*place), from.parts(*args))
         }

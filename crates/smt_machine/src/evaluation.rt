@@ -4,10 +4,11 @@ ghost use Rattle.std.specs.Prelude.{◌≡◌, ◌≤◌, ◌<◌, ◌+◌, ℕ,
 ghost use Rattle.std.specs.Prelude.{Some, ◌==◌, false, length, nat_lt};
 ghost use Rattle.std.specs.Prelude.{if◌then◌else◌, option_map, slice_get};
 ghost use Rattle.smt_theory.specs.declared.op.CoreOp.TheVariants.{Ite};
+ghost use Rattle.smt_theory.specs.PlainOp.{op_of_plain};
 ghost use Rattle.smt_theory.specs.declared.op.Op.{Op};
 ghost use Rattle.smt_theory.specs.declared.op.Op.TheVariants.{Core};
 ghost use Rattle.smt_nodes.specs.NodeView.{node_view};
-ghost use Rattle.smt_nodes.specs.PartsView.{parts_view};
+ghost use Rattle.smt_nodes.specs.PartsView.{parts_view, IsWhole};
 ghost use Rattle.smt_arrays.specs.Cells.{arrays_of};
 ghost use Rattle.smt_arrays.specs.Element.{known_plain};
 ghost use Rattle.smt_arrays.specs.Tables.{Grows, all_known_in, known_in};
@@ -19,7 +20,8 @@ ghost use Rattle.smt_machine.specs.Least.{least};
 ghost use Rattle.smt_machine.specs.Internal.States.{frame_of, state_of};
 ghost use Rattle.smt_machine.specs.Internal.Parts.{found, found_node, found_parts, meaning, number_of};
 ghost use Rattle.smt_machine.specs.Internal.Parts.{numbers_of};
-ghost use Rattle.smt_machine.specs.Internal.Tasks.{IsBased, IsBefore, IsChoice, IsStep, branches_of, charge};
+ghost use Rattle.smt_machine.specs.Internal.Tasks.{IsBased, IsBefore, IsChoice, IsStep, branches_of};
+ghost use Rattle.smt_machine.specs.Internal.Tasks.{charge};
 ghost use Rattle.smt_machine.specs.Memory.{Holds, Remembers, arrays_in};
 ghost use Rattle.smt_machine.specs.Nodes.{Apply, Call, Node as MachineNode};
 ghost use Rattle.smt_machine.specs.Tables.{arounds_of, call, model_count, nodes_of, term_cost, term_least};
@@ -31,7 +33,7 @@ use crate::tables::{Place, Tables};
 use crate::task::{Task, task_of};
 use smt_faults::Memory;
 use smt_nodes::{Node, NodeParts, TermId};
-use smt_theory::Op;
+use smt_theory::{Op, PlainOp};
 use smt_values::{Value, literal_of};
 
 impl Machine {
@@ -156,6 +158,7 @@ impl Machine {
             Task::Visit(number) => self.visit(tables, number, left),
             Task::Open => self.leave(None),
             Task::Finish(number) => self.finish(tables, number),
+            Task::Operate(op, count) => self.operate(op.op(), count),
             Task::Choose(number) => self.choose(tables, number),
             Task::Return(base) => {
                 self.leave_frame(base);
@@ -197,12 +200,21 @@ impl Machine {
         from: &Place<'_>,
         parts: &NodeParts<'_>,
     ) -> Result<(), Memory>
-        requires { IsBased (state_of self.old) }
+        requires based { IsBased (state_of self.old) }
+        requires whole { IsWhole parts.now (found_node from.now) }
         ensures { IfOk result (λ _. found_parts from.now ≡ Some (parts_view parts.now)
             → found from.now ≡ slice_get (nodes_of tables.now) number
             → IsStep (nodes_of tables.now) (Visit number) self.old self.new) }
     {
         match parts {
+            NodeParts::Literal(kind, digits) => {
+                self.leave(literal_of(*kind, from.literal(), *digits))
+            }
+            NodeParts::Slot(place) => {
+                let value = self.value_at(*place);
+                self.leave(value)
+            }
+            NodeParts::Plain { op, args } => self.visit_plain(number, *op, from.parts(*args)),
             NodeParts::Args(args) => self.visit_operator(tables, number, from.parts(*args)),
             NodeParts::Declared { place, args } => {
                 self.visit_call(number, from.declared(*place), from.parts(*args))
@@ -213,6 +225,20 @@ impl Machine {
             NodeParts::Let { values, .. } => {
                 self.plan(Task::Finish(number), number, from.parts(*values))
             }
+        }
+    }
+
+    // Plans an operator that holds no number after its arguments, and a choice after its condition alone.
+    #[inline(always)]
+    fn visit_plain(&mut self, number: usize, op: PlainOp, args: Parts<'_>) -> Result<(), Memory>
+        requires { IsBased (state_of self.old) }
+        ensures { IfOk result (λ _. (nodes : List MachineNode)
+            → Some (Apply (op_of_plain op) (numbers_of args.entry)) ≡ slice_get nodes number
+            → IsStep nodes (Visit number) self.old self.new) }
+    {
+        match condition_of(&op.op(), args) {
+            Some(condition) => self.plan(Task::Choose(number), number, condition),
+            None => self.plan(Task::Operate(op, args.ids.len()), number, args),
         }
     }
 
@@ -354,7 +380,7 @@ impl Machine {
             → IsStep nodes (Finish number) self.old self.new) }
     {
         match node {
-            Node::Apply { op, args } => self.operate(*op, args.len()),
+            Node::Apply { op, args } => self.operate_numbered(op, args.len()),
             Node::Declared { place, args } => {
                 self.finish_call(number, from.declared(*place), from.parts(*args))
             }

@@ -1,7 +1,7 @@
 //! A machine's stacks, and how values move between them. This file fetches no node.
 
 ghost use Rattle.std.proofs.Props.{props};
-ghost use Rattle.std.specs.Prelude.{length};
+ghost use Rattle.std.specs.Prelude.{◌≡◌, ◌≤◌, ◌+◌, OnOk, length, vec_capacity, vec_len};
 ghost use Rattle.smt_arrays.specs.Cells.{arrays_of};
 ghost use Rattle.smt_arrays.specs.Tables.{AreHeld};
 ghost use Rattle.smt_machine.specs.Internal.Held.{AreKeptHeld, held-prop};
@@ -203,20 +203,31 @@ impl Machine {
         Ok(())
     }
 
+    /// The same as `operate`, out of line: most operators hold no number.
+    #[inline(never)]
+    pub(crate) fn operate_numbered(&mut self, op: &Op, count: usize) -> Result<(), Memory>
+        ensures { let before = state_of self.old in IfOk result (λ _.
+            IsAt (with_last count (known_step op.now (last_of count before.values)) before) self.old self.new) }
+    {
+        self.operate(*op, count)
+    }
+
     /// Plans visits of the parts of a node, the first part first, and then a task.
     #[inline(always)]
     pub(crate) fn plan(&mut self, task: Task, number: usize, parts: Parts<'_>) -> Result<(), Memory>
         ensures { IfOk result (λ _. IsPlanned (task ∷ visits number (numbers_of parts.entry))
             (state_of self.old) self.old self.new) }
     {
-        self.tasks.push(task)?;
+        make_room(&mut self.tasks, 1)?;
+        self.tasks.push_reserved(task);
+        make_room(&mut self.tasks, parts.ids.len())?;
         let mut left = parts.ids;
         while let Some((last, rest)) = left.split_last() {
             let part = Part {
                 id: *last,
                 shift: parts.shift,
             };
-            self.tasks.push(task_of(number, part))?;
+            self.tasks.push_reserved(task_of(number, part));
             left = rest;
         }
         Ok(())
@@ -345,4 +356,25 @@ impl Machine {
         self.frames.truncate(len);
         self.base = lesser(base, self.frames.as_slice().len());
     }
+}
+
+// Makes room for so many more tasks, where most often there is some.
+#[inline(always)]
+fn make_room(tasks: &mut Vec<Task>, count: usize) -> Result<(), Memory>
+    ensures items { tasks.new.items ≡ tasks.old.items }
+    ensures room { OnOk result (vec_len tasks.new + count ≤ vec_capacity tasks.new) }
+{
+    if tasks.capacity() - tasks.len() >= count {
+        return Ok(());
+    }
+    more_room(tasks, count)
+}
+
+#[inline(never)]
+fn more_room(tasks: &mut Vec<Task>, count: usize) -> Result<(), Memory>
+    ensures items { tasks.new.items ≡ tasks.old.items }
+    ensures room { OnOk result (vec_len tasks.new + count ≤ vec_capacity tasks.new) }
+{
+    tasks.reserve(count)?;
+    Ok(())
 }

@@ -1,11 +1,11 @@
 //! The nodes of a model and of a script as one table, and what names lead to. This file evaluates nothing.
 
-ghost use Rattle.std.specs.Prelude.{◌≡◌, ◌+◌, ◌<◌, ◌≤◌, ℕ, List, Some, false, option_map, slice_get, unwrap_or};
+ghost use Rattle.std.specs.Prelude.{◌≡◌, ◌+◌, ◌<◌, ◌≤◌, ℕ, IfSome, List, Some, false, option_map, slice_get, unwrap_or};
 ghost use Rattle.smt_machine.specs.Costs.{around_at, capped};
 ghost use Rattle.smt_nodes.specs.Literals.{literal_number};
 ghost use Rattle.smt_nodes.specs.Node.{Element};
 ghost use Rattle.smt_nodes.specs.NodeView.{node_view};
-ghost use Rattle.smt_nodes.specs.PartsView.{parts_view};
+ghost use Rattle.smt_nodes.specs.PartsView.{parts_view, IsWhole};
 ghost use Rattle.smt_machine.specs.Internal.Parts.{elements_at, found, found_around, found_node, found_parts};
 ghost use Rattle.smt_machine.specs.Internal.Parts.{meaning, number_of, numbers_of};
 ghost use Rattle.smt_values.specs.Element.{known_element};
@@ -159,6 +159,7 @@ impl<'a> Place<'a> {
     pub(crate) fn annotated_parts(&self) -> Option<(NodeParts<'a>, usize)>
         ensures parts { option_map (λ p. parts_view p.0) result ≡ found_parts self.now }
         ensures around { unwrap_or (option_map (λ p. p.1) result) 0 ≡ found_around self.now }
+        ensures whole { IfSome result (λ p. IsWhole p.0 (found_node self.now)) }
     {
         self.nodes.get_parts(self.number)
     }

@@ -5,6 +5,7 @@ ghost use Rattle.smt_machine.specs.Internal.Parts.{number_of};
 ghost use Rattle.smt_machine.specs.Internal.Tasks.{part_task};
 
 use crate::parts::Part;
+use smt_theory::PlainOp;
 
 /// A task; its nodes are given by their numbers.
 #[derive(Clone, Copy)]
@@ -15,6 +16,8 @@ pub(crate) enum Task {
     Open,
     /// Continues with the node whose arguments are the last values.
     Finish(usize),
+    /// Replaces the last values, which are so many, by what the operator makes of them.
+    Operate(PlainOp, usize),
     /// Continues with the choice whose condition is the last value.
     Choose(usize),
     /// Ends the innermost frame; the frame before it began at this place.

@@ -1,7 +1,7 @@
 //! Nodes, as a caller writes and reads them. This file does not know how a table holds them.
 
 use crate::term_id::TermId;
-use smt_theory::{LiteralKind, Op};
+use smt_theory::{LiteralKind, Op, PlainOp};
 
 /// A node of a term (SMT-LIB 2.6, section 3.6). Its parts are nodes, by their numbers.
 #[derive(Clone, Copy)]
@@ -22,10 +22,16 @@ pub enum Node<'a> {
     Let { values: &'a [TermId], body: TermId },
 }
 
-/// The parts of a node, by their numbers, without its operator, digits or variable.
+/// A node, without what takes long to fetch: the operator of some, and the name of an element.
 #[derive(Clone, Copy)]
 pub enum NodeParts<'a> {
-    /// The arguments of an operator; none for a literal, an element or a variable.
+    /// A literal, by its digits.
+    Literal(LiteralKind, &'a [u8]),
+    /// A variable, by its place in the frame, from 0.
+    Slot(usize),
+    /// An operator that holds no number, with its arguments.
+    Plain { op: PlainOp, args: &'a [TermId] },
+    /// The arguments of another operator; none for an element.
     Args(&'a [TermId]),
     /// The arguments of a declared name, with its place among the declared names, from 0.
     Declared { place: usize, args: &'a [TermId] },

@@ -14,7 +14,7 @@ use crate::tables::{Tables, narrow};
 use crate::term_id::TermId;
 use smt_faults::Memory;
 use smt_names::Names;
-use smt_theory::PlainOp;
+use smt_theory::{LiteralKind, PlainOp};
 use std::alloc::Global;
 
 /// A table of nodes, with numbers from 0 in the order in which they came.
@@ -35,12 +35,12 @@ pub struct Nodes {
 
 impl Nodes {
     ghost use Rattle.std.specs.Prelude.{ℕ, List, ◌≡◌, ◌<◌, ◌≤◌, ◌∷◌, ◌++◌, ◌+◌, [], length, take, slice_get};
-    ghost use Rattle.std.specs.Prelude.{None, Some, option_map, IfOk, OnOk, OnErr};
-    ghost use Rattle.smt_nodes.specs.Node.{Apply};
+    ghost use Rattle.std.specs.Prelude.{None, Some, option_map, IfOk, IfSome, OnOk, OnErr};
+    ghost use Rattle.smt_nodes.specs.Node.{Apply, Literal};
     ghost use Rattle.smt_theory.specs.PlainOp.{op_of_plain};
     ghost use Rattle.smt_nodes.specs.NodeView.{node_view};
     ghost use Rattle.smt_nodes.specs.NodeParts.{parts_of};
-    ghost use Rattle.smt_nodes.specs.PartsView.{parts_view};
+    ghost use Rattle.smt_nodes.specs.PartsView.{parts_view, IsWhole};
     ghost use Rattle.smt_nodes.specs.Nodes.{names_of, rows_of};
     ghost use Rattle.smt_nodes.specs.Internal.Annotations.{IsOwn, annotated_in, inner};
     ghost use Rattle.smt_nodes.specs.Internal.Lists.{IsHeld, lengths};
@@ -91,6 +91,8 @@ impl Nodes {
             ≡ option_map (λ row. parts_of row.node) (slice_get (rows_of self.now) number) }
         ensures around { option_map (λ p. p.1) result
             ≡ option_map (λ row. row.around) (slice_get (rows_of self.now) number) }
+        ensures whole { IfSome result
+            (λ p. IsWhole p.0 (option_map (λ row. row.node) (slice_get (rows_of self.now) number))) }
     {
         match self.row(number) {
             Some(row) => {
@@ -190,6 +192,24 @@ impl Nodes {
         ensures names { names_of self.new ≡ names_of self.old }
     {
         let stored = self.tables.store_plain(op, args)?;
+        self.push_stored(stored, around)
+    }
+
+    /// Adds the node of a literal, by its digits, as `push` does. It takes less time.
+    #[inline(always)]
+    pub fn push_literal(
+        &mut self,
+        kind: LiteralKind,
+        digits: &[u8],
+        around: u32,
+    ) -> Result<TermId, Memory>
+        ensures pushed { OnOk result (rows_of self.new ≡ rows_of self.old
+            ++ (record { node = Literal kind digits.now; around = around }) ∷ []) }
+        ensures number { IfOk result (λ id. id ≡ length (rows_of self.old)) }
+        ensures unchanged { OnErr result (rows_of self.new ≡ rows_of self.old) }
+        ensures names { names_of self.new ≡ names_of self.old }
+    {
+        let stored = self.tables.store_literal(kind, digits, self.rows.len())?;
         self.push_stored(stored, around)
     }
 
@@ -307,8 +327,10 @@ impl Nodes {
     #[inline(always)]
     fn parts(&self, row: StoredRow) -> NodeParts<'_>
         requires { (i : ℕ) × (slice_get self.now.rows.items i ≡ Some row) }
-        ensures { parts_view result
+        ensures parts { parts_view result
             ≡ parts_of (row_view (lists_of self.now.tables) (annotated_of self.now.tables) row).node }
+        ensures whole { IsWhole result
+            (Some (row_view (lists_of self.now.tables) (annotated_of self.now.tables) row).node) }
     {
         let stored = self.tables.inner(row.stored);
         self.tables.node_parts(row.ends, stored)

@@ -11,7 +11,7 @@ ghost use Rattle.smt_theory.specs.declared.op.Op.{Op};
 ghost use Rattle.smt_nodes.specs.Node as spec;
 ghost use Rattle.smt_nodes.specs.NodeView.{node_view};
 ghost use Rattle.smt_nodes.specs.NodeParts.{parts_of};
-ghost use Rattle.smt_nodes.specs.PartsView.{parts_view};
+ghost use Rattle.smt_nodes.specs.PartsView.{parts_view, IsWhole};
 ghost use Rattle.smt_nodes.specs.Internal.Annotations.{IsAnnotated, annotated_in, annotated_of, inner, stored_in};
 ghost use Rattle.smt_nodes.specs.Internal.Lists.{Grows, IsHeld, IsStored, IsUpTo, before, first_of, lengths};
 ghost use Rattle.smt_nodes.specs.Internal.Lists.{IsPrefix, lists_of, node_of, no_lists};
@@ -138,15 +138,20 @@ impl Tables {
     pub(crate) fn node_parts(&self, ends: Ends, stored: Stored) -> NodeParts<'_>
         requires held { IsHeld ends stored }
         requires within { IsUpTo ends (lengths (lists_of self.now)) }
-        ensures { parts_view result ≡ parts_of (node_of (lists_of self.now) ends stored) }
+        ensures parts { parts_view result ≡ parts_of (node_of (lists_of self.now) ends stored) }
+        ensures whole { IsWhole result (Some (node_of (lists_of self.now) ends stored)) }
     {
         match stored {
-            Stored::Literal(_, _, _) | Stored::Large(_, _, _) => NodeParts::Args(&[]),
-            Stored::Element(_, _) | Stored::Slot(_) => NodeParts::Args(&[]),
-            Stored::Annotated(_, _) => NodeParts::Args(&[]),
-            Stored::Plain(_, count) | Stored::Numbered(_, count) => {
-                NodeParts::Args(self.parts(count, ends.parts))
+            Stored::Literal(kind, count, _) | Stored::Large(kind, count, _) => {
+                NodeParts::Literal(kind, self.digits(count, ends.digits))
             }
+            Stored::Slot(place) => NodeParts::Slot(place as usize),
+            Stored::Element(_, _) | Stored::Annotated(_, _) => NodeParts::Args(&[]),
+            Stored::Plain(op, count) => NodeParts::Plain {
+                op,
+                args: self.parts(count, ends.parts),
+            },
+            Stored::Numbered(_, count) => NodeParts::Args(self.parts(count, ends.parts)),
             Stored::Declared(place, count) => NodeParts::Declared {
                 place: place as usize,
                 args: self.parts(count, ends.parts),
@@ -287,8 +292,9 @@ impl Tables {
         }
     }
 
-    // Stores a literal, as `store` does.
-    fn store_literal(
+    /// Stores a literal, as `store` does.
+    #[inline(always)]
+    pub(crate) fn store_literal(
         &mut self,
         kind: LiteralKind,
         digits: &[u8],

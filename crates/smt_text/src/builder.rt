@@ -5,7 +5,7 @@ ghost use Rattle.smt_text.specs.Internal.ReaderState.{place_of};
 
 use crate::mark::Mark;
 use smt_faults::Memory;
-use smt_trees::{Kind, OwnedTree, Tape, Word};
+use smt_trees::{Kind, OwnedTree, SpareTrees, Tape, Word};
 use std::alloc::Global;
 use std::collections::VecDeque;
 
@@ -19,12 +19,8 @@ pub(crate) struct Builder {
     ready: VecDeque<Ready>,
     /// The place, in the whole text, at which the piece ends that is read.
     pub(crate) limit: u64,
-    /// Trees that are done with, for their memory.
-    spare: Vec<OwnedTree>,
+    spare: SpareTrees,
 }
-
-/// The most trees that are kept for their memory.
-const SPARE: usize = 64;
 
 /// A tree at the top, and how many bytes the text has up to its end.
 #[derive(Drop)]
@@ -50,7 +46,7 @@ impl Builder {
             list: Tape::new(alloc),
             ready: VecDeque::new(alloc),
             limit: 0,
-            spare: Vec::new(alloc),
+            spare: SpareTrees::new(alloc),
         }
     }
 
@@ -163,7 +159,7 @@ impl Builder {
         ensures limit { self.new.limit ≡ self.old.limit }
         ensures list { self.new.list ≡ self.old.list }
     {
-        let atom = OwnedTree::atom_in(self.alloc, self.spare.pop(), kind, bytes)?;
+        let atom = OwnedTree::atom_in(self.alloc, &mut self.spare, kind, bytes)?;
         push_ready(&mut self.ready, atom, self.limit, end)
     }
 
@@ -176,7 +172,7 @@ impl Builder {
         ensures limit { self.new.limit ≡ self.old.limit }
         ensures text { IfOk result (λ _. text_of self.new.list ≡ []) }
     {
-        let list = self.list.take_in(self.alloc, self.spare.pop())?;
+        let list = self.list.take_in(self.alloc, &mut self.spare)?;
         push_ready(&mut self.ready, list, self.limit, end)
     }
 
@@ -186,10 +182,7 @@ impl Builder {
         ensures ready { self.new.ready ≡ self.old.ready }
         ensures limit { self.new.limit ≡ self.old.limit }
     {
-        if self.spare.len() < SPARE && tree.is_small() {
-            // Where there is no memory for it, the tree is dropped.
-            let _ = self.spare.push(tree);
-        }
+        self.spare.give(tree);
     }
 
     /// Takes the first of the trees that are ready; `None` where none is.

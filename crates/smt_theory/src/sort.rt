@@ -1,8 +1,8 @@
 //! Sorts of the theories, each as one number. This file knows no operator, and no value.
 
 ghost use Rattle.std.specs.Prelude.{◌≡◌, IfSome, is_some};
-ghost use Rattle.smt_theory.specs.Sort.{Array, Bits, Boolean, Free, Int, Real, array_of_sort, command_of_sort, has_arrays};
-ghost use Rattle.smt_theory.specs.Sort.{is_number, is_same_sort};
+ghost use Rattle.smt_theory.specs.Sort.{Array, Bits, Boolean, Free, Int, Real, array_of_sort, command_of_sort};
+ghost use Rattle.smt_theory.specs.Sort.{has_arrays, is_number, is_same_sort};
 ghost use Rattle.smt_theory.specs.Sort.{width_of_sort};
 ghost use Rattle.smt_theory.specs.SortKinds.{sort_of_kind};
 

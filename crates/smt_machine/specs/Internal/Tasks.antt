@@ -4,6 +4,8 @@ use Rattle.std.specs.Prelude.{nat_lt, slice_get, ◌==◌, ◌⊎◌, if◌then�
 use Rattle.smt_theory.specs.declared.op.CoreOp.TheVariants.{Ite}
 use Rattle.smt_theory.specs.declared.op.Op.{Op}
 use Rattle.smt_theory.specs.declared.op.Op.TheVariants.{Core}
+use Rattle.smt_theory.specs.declared.op.plain.PlainOp.{PlainOp}
+use Rattle.smt_theory.specs.PlainOp.{op_of_plain}
 use Rattle.smt_arrays.specs.Element.{Element}
 use Rattle.smt_arrays.specs.Known.{known_choice, known_step}
 use Rattle.smt_arrays.specs.Tables.{Grows}
@@ -17,7 +19,8 @@ use Rattle.smt_machine.specs.Memory.{Remembers, arrays_in}
 use Rattle.smt_machine.specs.Nodes.{Frame, Node, Known, Slot, Apply, Call, Let, part}
 use Rattle.smt_machine.specs.declared.machine.Machine.{Machine}
 use Rattle.smt_machine.specs.declared.task.Task.{Task}
-use Rattle.smt_machine.specs.declared.task.Task.TheVariants.{Visit, Open, Finish, Choose, Return, Unbind, Keep}
+use Rattle.smt_machine.specs.declared.task.Task.TheVariants.{Visit, Open, Finish, Operate, Choose, Return, Unbind}
+use Rattle.smt_machine.specs.declared.task.Task.TheVariants.{Keep}
 
 -- node i, when the values of its arguments are the last
 abbrev pub finished : List Node → ℕ → Option Node → State → State
@@ -51,6 +54,7 @@ abbrev pub run : List Node → Task → State → State
 run nodes (Visit i) s = with_value (given nodes i (frame_of s)) s
 run nodes Open s = with_value None s
 run nodes (Finish i) s = finished nodes i (slice_get nodes i) s
+run nodes (Operate op n) s = with_last n (known_step (op_of_plain op) (last_of n s.values)) s
 run nodes (Choose i) s = chosen nodes i (slice_get nodes i) s
 run nodes (Return base) s = with_frames base s.base s
 run nodes (Unbind len) s = with_frames s.base len s
@@ -134,6 +138,7 @@ abbrev pub task_work : List Node → Task → ℕ
 task_work nodes (Visit i) = 3 * cost nodes [] i
 task_work nodes Open = 3
 task_work nodes (Finish i) = 3 * last_cost i (cost nodes []) (slice_get nodes i) + 2
+task_work nodes (Operate op n) = 2
 task_work nodes (Choose i) = 3 * chosen_cost i (cost nodes []) (slice_get nodes i) + 2
 task_work nodes (Return base) = 1
 task_work nodes (Unbind len) = 1

@@ -2,7 +2,7 @@
 //! and knows no values.
 
 ghost use Rattle.std.specs.Prelude.{◌≡◌, ◌≤◌, ◌*◌, [], Ok, false, length, IfErr, IfOk, OnOk};
-ghost use Rattle.smt_nodes.specs.NodeView.{node_view};
+ghost use Rattle.smt_nodes.specs.Node.{Literal};
 ghost use Rattle.smt_trees.specs.Sexp.{Atom, Binary, Cons, Decimal, Hexadecimal, Items, Numeral, Reserved, Sexp, Sexps};
 ghost use Rattle.smt_trees.specs.Sexp.{Symbol};
 ghost use Rattle.smt_trees.specs.declared.reserved.Word.TheVariants.{Underscore};
@@ -67,8 +67,7 @@ impl Library<'_> {
         }
     }
 
-    // Adds the node of a numeral and finds its sort. (The toolchain proves a function that lends a node only if it
-    // names the type of nodes' numbers: hence the empty list, here and below.)
+    // Adds the node of a numeral and finds its sort.
     fn push_numeral(
         &self,
         draft: &mut Draft<'_>,
@@ -84,11 +83,11 @@ impl Library<'_> {
         ensures labels { draft.new.labels ≡ draft.old.labels }
         ensures arguments { draft.new.arguments ≡ draft.old.arguments }
     {
-        let _: &[TermId] = &[];
         push_literal(
             &self.nodes,
             draft,
-            &Node::Literal(LiteralKind::Numeral, digits),
+            LiteralKind::Numeral,
+            digits,
             sorts::numerals(self.sorts.theories),
             around,
         )
@@ -110,11 +109,11 @@ impl Library<'_> {
         ensures labels { draft.new.labels ≡ draft.old.labels }
         ensures arguments { draft.new.arguments ≡ draft.old.arguments }
     {
-        let _: &[TermId] = &[];
         push_literal(
             &self.nodes,
             draft,
-            &Node::Literal(LiteralKind::Decimal, digits),
+            LiteralKind::Decimal,
+            digits,
             sorts::reals(self.sorts.theories),
             around,
         )
@@ -137,11 +136,11 @@ impl Library<'_> {
         ensures labels { draft.new.labels ≡ draft.old.labels }
         ensures arguments { draft.new.arguments ≡ draft.old.arguments }
     {
-        let _: &[TermId] = &[];
         push_literal(
             &self.nodes,
             draft,
-            &Node::Literal(LiteralKind::Hexadecimal, digits),
+            LiteralKind::Hexadecimal,
+            digits,
             self.sort_of_digits(4, digits),
             around,
         )
@@ -164,11 +163,11 @@ impl Library<'_> {
         ensures labels { draft.new.labels ≡ draft.old.labels }
         ensures arguments { draft.new.arguments ≡ draft.old.arguments }
     {
-        let _: &[TermId] = &[];
         push_literal(
             &self.nodes,
             draft,
-            &Node::Literal(LiteralKind::Binary, digits),
+            LiteralKind::Binary,
+            digits,
             self.sort_of_digits(1, digits),
             around,
         )
@@ -502,13 +501,14 @@ pub(super) fn is_variable(scope: &Scope<'_, Bound>, identifier: &Identifier<'_>)
 fn push_literal(
     before: &Nodes,
     draft: &mut Draft<'_>,
-    node: &Node<'_>,
+    kind: LiteralKind,
+    digits: &[u8],
     sort: Result<Sort, TermFlaw>,
     around: u32,
 ) -> Result<CheckedTerm, TermFault>
     ensures sort { IsOutcome (λ c. c.sort) sort result }
     ensures open { IfOk result (λ c. c.is_open ≡ false) }
-    ensures added { IfOk result (λ c. AddsNode before.now draft.old draft.new around (node_view node.now) c) }
+    ensures added { IfOk result (λ c. AddsNode before.now draft.old draft.new around (Literal kind digits.now) c) }
     ensures longer { GrowsTo draft.old draft.new }
     ensures scope { draft.new.scope ≡ draft.old.scope }
     ensures base { draft.new.base ≡ draft.old.base }
@@ -516,7 +516,7 @@ fn push_literal(
     ensures arguments { draft.new.arguments ≡ draft.old.arguments }
 {
     let sort = sort?;
-    Ok(draft.push(before, node, &sort, false, around)?)
+    Ok(draft.push_literal(before, kind, digits, sort, around)?)
 }
 
 // The width of digits of this number of bits each, if it is a width.

@@ -2,8 +2,8 @@
 //! arguments that wait. This file knows no trees.
 
 ghost use Rattle.std.specs.Prelude.{◌≡◌, ◌||◌, ◌<◌, ◌≤◌, ◌+◌, ◌++◌, ◌∷◌, [], length, slice_get, Some, IfOk, OnOk};
-ghost use Rattle.std.specs.Prelude.{OnErr};
-ghost use Rattle.smt_nodes.specs.Node.{Apply, Let};
+ghost use Rattle.std.specs.Prelude.{OnErr, false};
+ghost use Rattle.smt_nodes.specs.Node.{Apply, Let, Literal};
 ghost use Rattle.smt_theory.specs.PlainOp.{op_of_plain};
 ghost use Rattle.smt_terms.specs.Denotes as denotes;
 ghost use Rattle.smt_terms.specs.Internal.DraftView.{argument_sorts, terms_from};
@@ -18,7 +18,7 @@ use crate::library::arguments::Arguments;
 use smt_faults::Memory;
 use smt_forms::{Scope, Variable};
 use smt_nodes::{Node, Nodes, TermId};
-use smt_theory::{Op, PlainOp, Sort};
+use smt_theory::{LiteralKind, Op, PlainOp, Sort};
 use std::alloc::Global;
 
 /// A variable's sort, and its place among the variables in scope; the outermost has place 0.
@@ -126,6 +126,35 @@ impl<'a> Draft<'a> {
             sort: *sort,
             node,
             is_open,
+        })
+    }
+
+    /// Adds the node of a literal of this sort, by its digits, as `push` does.
+    #[inline(always)]
+    pub(crate) fn push_literal(
+        &mut self,
+        before: &Nodes,
+        kind: LiteralKind,
+        digits: &[u8],
+        sort: Sort,
+        around: u32,
+    ) -> Result<CheckedTerm, Memory>
+        ensures sort { IfOk result (λ c. c.sort ≡ sort) }
+        ensures open { IfOk result (λ c. c.is_open ≡ false) }
+        ensures added { IfOk result (λ c. AddsNode before.now self.old self.new around
+            (Literal kind digits.now) c) }
+        ensures longer { GrowsTo self.old self.new }
+        ensures scope { self.new.scope ≡ self.old.scope }
+        ensures base { self.new.base ≡ self.old.base }
+        ensures labels { self.new.labels ≡ self.old.labels }
+        ensures arguments { self.new.arguments ≡ self.old.arguments }
+    {
+        let own = self.nodes.push_literal(kind, digits, around)?;
+        let node = own.behind(before.len())?;
+        Ok(CheckedTerm {
+            sort,
+            node,
+            is_open: false,
         })
     }
 

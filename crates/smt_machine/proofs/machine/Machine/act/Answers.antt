@@ -4,7 +4,7 @@ use Rattle.smt_machine.specs.Nodes.{Node}
 use Rattle.smt_machine.specs.Tables.{nodes_of}
 use Rattle.smt_machine.specs.declared.machine.Machine.{Machine}
 use Rattle.smt_machine.specs.declared.task.Task.{Task}
-use Rattle.smt_machine.proofs.StepLemmas.{if_done, keeping_step, open_done, returned, unbound}
+use Rattle.smt_machine.proofs.StepLemmas.{applied_step, if_done, keeping_step, open_done, returned, unbound}
 use Rattle.smt_machine.proofs.machine.Machine.act.Goals as goal
 
 -- the step of the task that this is
@@ -17,6 +17,12 @@ pub returns-in-Open-clause-step : goal.returns-in-Open-clause-step
 returns-in-Open-clause-step c = if_done c.leave.result c.leave.ensures
     (λ is. step_of (nodes_of c.args.tables.now) c.args.task _ c.args.self.now c.leave.new.self c.in-Open.is
     (open_done (nodes_of c.args.tables.now) c.args.self.now c.leave.new.self is c.requires.based))
+
+pub returns-in-Operate-clause-step : goal.returns-in-Operate-clause-step
+returns-in-Operate-clause-step c = if_done c.operate.result c.operate.ensures
+    (λ is. step_of (nodes_of c.args.tables.now) c.args.task _ c.args.self.now c.operate.new.self c.in-Operate.is
+    (applied_step (nodes_of c.args.tables.now) c.in-Operate.count c.in-Operate.op c.op.result c.args.self.now
+    c.operate.new.self c.op.ensures is c.requires.based))
 
 pub returns-in-Return-clause-step : goal.returns-in-Return-clause-step
 returns-in-Return-clause-step c =

@@ -6,9 +6,9 @@ use Rattle.smt_machine.proofs.StepLemmas.{bound_step, if_done, operated_step}
 use Rattle.smt_machine.proofs.machine.Machine.finish_node.Goals as goal
 
 pub returns-in-Apply : goal.returns-in-Apply
-returns-in-Apply c = if_done c.operate.result c.operate.ensures
+returns-in-Apply c = if_done c.operate_numbered.result c.operate_numbered.ensures
     (λ is nodes at. operated_step nodes c.args.number (length c.in-Apply.args.now) c.in-Apply.op
-    (shifted c.args.from.now.shift c.in-Apply.args.now) c.args.self.now c.operate.new.self
+    (shifted c.args.from.now.shift c.in-Apply.args.now) c.args.self.now c.operate_numbered.new.self
     (sym (ap (λ n. Some (meaning c.args.from.now n)) c.in-Apply.is) ∙ at)
     (length-map c.in-Apply.args.now (λ id. c.args.from.now.shift + id)) is c.requires)
 
