@@ -13,10 +13,14 @@ ghost use Rattle.smt_forms.specs.IdentifierView.{identifier_view};
 ghost use Rattle.smt_faults.specs.declared.term_flaw.TermFlaw.TheVariants.{Form, Unsupported};
 ghost use Rattle.smt_faults.specs.Outcome.{IsOutcome};
 
+use smallvec::SmallVec;
 use smt_faults::{TermFault, TermFlaw};
 use smt_theory::{Index, Op, OpFault, Theories, number, op_of};
 use smt_trees::{Tree, Trees, Word};
 use std::alloc::Global;
+
+/// No operator has more indexes.
+const FEW: usize = 2;
 
 /// An identifier, which borrows its names (SMT-LIB 2.6, section 3.3).
 #[derive(Drop)]
@@ -26,7 +30,7 @@ pub enum Identifier<'a> {
     /// A symbol with one index or more, as in `(_ divisible 3)`.
     Indexed {
         name: &'a [u8],
-        indexes: Vec<Index<'a>>,
+        indexes: SmallVec<Index<'a>, FEW>,
     },
     /// `(as const o)`, by the tree of the sort o: what makes an array of that sort of its one element. It is no
     /// standard's.
@@ -214,11 +218,11 @@ pub fn indexed_identifier<'a>(alloc: Global, parts: Trees<'a>) -> Result<Identif
 }
 
 // The indexes that these trees are, in order; the fault is `Form`, or want of memory.
-fn indexes_of<'a>(alloc: Global, trees: Trees<'a>) -> Result<Vec<Index<'a>>, TermFault>
+fn indexes_of<'a>(alloc: Global, trees: Trees<'a>) -> Result<SmallVec<Index<'a>, FEW>, TermFault>
     ensures { IsOutcome (λ indexes. map index_view indexes.items)
         (ok_or (all_indexes (sexps_of trees.entry)) Form) result }
 {
-    let mut indexes = Vec::new(alloc);
+    let mut indexes = SmallVec::new(alloc);
     let mut left = trees;
     while let Some((tree, rest)) = left.split_first() {
         let Some(index) = index_of(tree) else {

@@ -28,11 +28,11 @@ pub fn costs(alloc: Global, tables: Tables<'_>) -> Result<Vec<u64>, Memory>
     let mut costs = Vec::with_capacity(alloc, count)?;
     for number in 0..shift {
         let cost = cost_at(costs.as_slice(), &tables.model_place(number));
-        costs.push(cost)?;
+        costs.push_reserved(cost);
     }
     for number in shift..count {
         let next = cost_at(costs.as_slice(), &tables.script_place(shift, number));
-        costs.push(next)?;
+        costs.push_reserved(next);
     }
     Ok(costs)
 }

@@ -36,6 +36,16 @@ impl<V> NameMap<V> {
         }
     }
 
+    /// Makes room for so many more names with their values, so that they are not moved while they come.
+    ///
+    /// The only error is want of memory.
+    pub fn reserve(&mut self, count: usize) -> Result<(), Memory>
+        ensures { entries_of self.new ≡ entries_of self.old }
+    {
+        self.values.reserve(count)?;
+        self.names.reserve(count)
+    }
+
     /// The number of names.
     #[inline(always)]
     pub fn len(&self) -> usize

@@ -38,6 +38,32 @@ impl Names {
         Names { alloc, table: None }
     }
 
+    /// Makes room for so many more names.
+    ///
+    /// The only error is want of memory.
+    pub(crate) fn reserve(&mut self, count: usize) -> Result<(), Memory>
+        ensures { self.new ≡ self.old }
+    {
+        match &mut self.table {
+            Some(table) => table.reserve(count),
+            None => self.begin_with(count),
+        }
+    }
+
+    // Makes room for the first names.
+    fn begin_with(&mut self, count: usize) -> Result<(), Memory>
+        requires { self.old ≡ [] }
+        ensures { self.new ≡ self.old }
+    {
+        if count == 0 {
+            return Ok(());
+        }
+        let mut table = Box::new(self.alloc, Table::new(self.alloc))?;
+        table.reserve(count)?;
+        self.table = Some(table);
+        Ok(())
+    }
+
     /// The number of names.
     #[inline(always)]
     pub fn len(&self) -> usize

@@ -63,6 +63,14 @@ impl Table {
         }
     }
 
+    /// Makes room for so many more names.
+    pub(crate) fn reserve(&mut self, count: usize) -> Result<(), Memory>
+        ensures { self.new ≡ self.old }
+    {
+        self.names.reserve(count)?;
+        Ok(())
+    }
+
     /// The number of names.
     #[inline(always)]
     pub(crate) fn len(&self) -> usize

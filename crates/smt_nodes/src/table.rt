@@ -63,6 +63,17 @@ impl Nodes {
         }
     }
 
+    /// Makes room for so many more nodes.
+    ///
+    /// The only error is want of memory.
+    pub fn reserve(&mut self, count: usize) -> Result<(), Memory>
+        ensures rows { rows_of self.new ≡ rows_of self.old }
+        ensures names { names_of self.new ≡ names_of self.old }
+    {
+        self.rows.reserve(count)?;
+        Ok(())
+    }
+
     /// The number of nodes.
     #[inline(always)]
     pub fn len(&self) -> usize

@@ -37,8 +37,21 @@ impl Library<'_> {
         ensures reads { IfOk result (λ library. ReadsModelsOf library self.now) }
     {
         let mut library = Library::new(self.alloc, self.sorts.theories);
+        library.reserve(self.declared.len())?;
         library.elements = self.lent();
         Ok(library)
+    }
+
+    // Makes room for the definitions of so many constants.
+    fn reserve(&mut self, count: usize) -> Result<(), Memory>
+        ensures contents { contents_of self.new ≡ contents_of self.old }
+        ensures sorts { self.new.sorts ≡ self.old.sorts }
+    {
+        self.names.reserve(count)?;
+        self.definitions.reserve(count)?;
+        self.bodies.reserve(count)?;
+        self.ends.reserve(count)?;
+        self.nodes.reserve(count)
     }
 
     /// Adds the definition of an item of a model of the script's names, after the earlier items (SMT-LIB 2.6, section

@@ -12,7 +12,7 @@ loop-number-preserved c =
     let arounds = arounds_of c.args.tables in
     let kept = c.loop-number.costs.items in
     let seen = c.as_slice.ensures.value in
-    let all : c.push.new.self.items ≡ kept ++ c.cost_at-cost.result ∷ [] = c.in_ok-push.ensures.items in
+    let all : c.push_reserved.new.self.items ≡ kept ++ c.cost_at-cost.result ∷ [] = c.push_reserved.ensures.items in
     let is : c.cost_at-cost.result ≡ capped (node_cost (length kept) (cost nodes arounds)
     (found_around c.model_place.result) (found c.model_place.result)) =
     c.cost_at-cost.ensures (cost nodes arounds)
@@ -27,9 +27,11 @@ loop-number-preserved c =
         length-append kept (c.cost_at-cost.result ∷ []),
         counted,
       );
-      costs = kept_next nodes arounds kept c.push.new.self.items c.loop-number.number
+      costs = kept_next nodes arounds kept c.push_reserved.new.self.items c.loop-number.number
           (found_around c.model_place.result) c.cost_at-cost.result (found c.model_place.result)
           c.loop-number.invariant.costs counted c.model_place.ensures.around c.model_place.ensures.node is all;
+      len = omega (arith, c.push_reserved.ensures.len, c.loop-number.invariant.len);
+      room = omega (arith, c.push_reserved.ensures.capacity, c.loop-number.invariant.room);
     }
 
 pub loop-number-2-preserved : goal.loop-number-2-preserved
@@ -38,8 +40,8 @@ loop-number-2-preserved c =
     let arounds = arounds_of c.args.tables in
     let kept = c.loop-number-2.costs.items in
     let seen = c.as_slice-in-loop-number-2.ensures.value in
-    let all : c.push-in-loop-number-2.new.self.items ≡ kept ++ c.cost_at-next.result ∷ [] =
-    c.in_ok-push-2.ensures.items in
+    let all : c.push_reserved-in-loop-number-2.new.self.items ≡ kept ++ c.cost_at-next.result ∷ [] =
+    c.push_reserved-in-loop-number-2.ensures.items in
     let is : c.cost_at-next.result ≡ capped (node_cost (length kept) (cost nodes arounds)
     (found_around c.script_place.result) (found c.script_place.result)) =
     c.cost_at-next.ensures (cost nodes arounds)
@@ -54,7 +56,9 @@ loop-number-2-preserved c =
         length-append kept (c.cost_at-next.result ∷ []),
         counted,
       );
-      costs = kept_next nodes arounds kept c.push-in-loop-number-2.new.self.items c.loop-number-2.number
+      costs = kept_next nodes arounds kept c.push_reserved-in-loop-number-2.new.self.items c.loop-number-2.number
           (found_around c.script_place.result) c.cost_at-next.result (found c.script_place.result)
           c.loop-number-2.invariant.costs counted c.script_place.ensures.around c.script_place.ensures.node is all;
+      len = omega (arith, c.push_reserved-in-loop-number-2.ensures.len, c.loop-number-2.invariant.len);
+      room = omega (arith, c.push_reserved-in-loop-number-2.ensures.capacity, c.loop-number-2.invariant.room);
     }

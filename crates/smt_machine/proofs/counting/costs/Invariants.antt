@@ -1,4 +1,5 @@
-use Rattle.std.proofs.Common.{◌≡◌, length}
+use Rattle.std.proofs.Common.{◌≡◌, ◌≤◌, length}
+use Rattle.std.specs.Prelude.{vec_capacity, vec_len}
 use Rattle.smt_machine.specs.Costs.{cost}
 use Rattle.smt_machine.specs.Internal.Sums.{AreKept}
 use Rattle.smt_machine.specs.Tables.{arounds_of, nodes_of}
@@ -8,10 +9,14 @@ abbrev pub invariant-loop-number : goal.invariant-loop-number
 invariant-loop-number l = record {
   count : length l.costs.items ≡ l.number;
   costs : AreKept (cost (nodes_of l.tables) (arounds_of l.tables)) l.costs.items;
+  len : vec_len l.costs ≡ l.number;
+  room : l.count ≤ vec_capacity l.costs;
 }
 
 abbrev pub invariant-loop-number-2 : goal.invariant-loop-number-2
 invariant-loop-number-2 l = record {
   count : length l.costs.items ≡ l.number;
   costs : AreKept (cost (nodes_of l.tables) (arounds_of l.tables)) l.costs.items;
+  len : vec_len l.costs ≡ l.number;
+  room : l.count ≤ vec_capacity l.costs;
 }
