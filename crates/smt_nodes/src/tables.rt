@@ -30,7 +30,7 @@ use smt_faults::Memory;
 use smt_theory::{LiteralKind, Op, PlainOp, literal_number};
 use std::alloc::Global;
 
-/// Not more arguments than these are added one by one.
+/// Not more arguments or digits than these are added one by one.
 const FEW: usize = 4;
 
 /// The greatest length of a list.
@@ -377,6 +377,7 @@ impl Tables {
     }
 
     // Adds digits, and returns how many.
+    #[inline(always)]
     fn push_digits(&mut self, digits: &[u8]) -> Result<u32, Memory>
         ensures count { IfOk result (λ n. n ≡ length digits.now) }
         ensures pushed { OnOk result (self.new.digits.items ≡ self.old.digits.items ++ digits.now) }
@@ -387,8 +388,28 @@ impl Tables {
         ensures annotated { annotated_of self.new ≡ annotated_of self.old }
     {
         let count = narrow(digits.len())?;
-        self.digits.extend_from_slice(digits)?;
+        if digits.len() > FEW || self.digits.capacity() - self.digits.len() < digits.len() {
+            self.push_many_digits(digits)?;
+            return Ok(count);
+        }
+        for digit in digits {
+            self.digits.push_reserved(*digit);
+        }
         Ok(count)
+    }
+
+    // Adds digits, out of line: most literals have few, and most often there is room.
+    #[inline(never)]
+    fn push_many_digits(&mut self, digits: &[u8]) -> Result<(), Memory>
+        ensures pushed { OnOk result (self.new.digits.items ≡ self.old.digits.items ++ digits.now) }
+        ensures unchanged { OnErr result (self.new.digits.items ≡ self.old.digits.items) }
+        ensures parts { self.new.parts ≡ self.old.parts }
+        ensures ops { self.new.ops ≡ self.old.ops }
+        ensures large { self.new.large ≡ self.old.large }
+        ensures annotated { annotated_of self.new ≡ annotated_of self.old }
+    {
+        self.digits.extend_from_slice(digits)?;
+        Ok(())
     }
 
     // Adds arguments, and returns how many.

@@ -340,6 +340,7 @@ impl Library<'_> {
     }
 
     // What a name means, if it is in force.
+    #[inline(always)]
     fn get(&self, name: &[u8]) -> Option<&Entry>
         ensures ranked { option_map (λ e. rank_of e.now) result
             ≡ look_up (names_of_library self.now).ranks name.now }
@@ -354,6 +355,7 @@ impl Library<'_> {
     }
 
     // What a name means, found by comparing it with one name after another: for few names that costs less than a hash.
+    #[inline(never)]
     fn get_among_few(&self, name: &[u8]) -> Option<&Entry>
         ensures { option_copied result
             ≡ look_up (entries_of self.now.names) name.now }
