@@ -15,7 +15,7 @@ use crate::values::nodes::{declare_items, known_by_node, left_of};
 use crate::values::plain::plain_definitions;
 use anyhow::{Result, bail};
 use row_texts::{Field, want_key};
-use smt_eval::plain::{Closed, Definition};
+use smt_plain::{Closed, Definition};
 use smt_faults::{Memory, TermFlaw};
 use smt_names::Names;
 use smt_terms::Library;

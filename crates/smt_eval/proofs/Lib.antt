@@ -6,7 +6,6 @@ pub mod CompleteModelLemmas
 pub mod StructureLemmas
 pub mod EvaluatorLemmas
 pub mod PlaceLemmas
-pub mod ScopeLemmas
 pub mod DefinitionLemmas
 pub mod GivenBodyLemmas
 pub mod FoundLemmas
@@ -15,8 +14,6 @@ pub mod RelatedValueLemmas
 pub mod RenamingLemmas
 pub mod NumberingLemmas
 pub mod SetAsideLemmas
-pub mod PlainLemmas
-pub mod SingleLemmas
 pub mod PlainRenamingLemmas
 pub mod ArrayRenamingLemmas
 pub mod PlainNumberingLemmas

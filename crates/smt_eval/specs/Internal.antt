@@ -1,4 +1,3 @@
 pub mod DefinitionValues
 pub mod GivenBodies
-pub mod PlainEvaluation
 pub mod ItemFault

@@ -14,6 +14,5 @@ pub mod Renaming
 pub mod Numbering
 pub mod NamedElements
 pub mod Interpretation
-pub mod PlainTerm
 pub mod Parts
 pub mod Internal

@@ -14,7 +14,6 @@ mod interpretation;
 pub mod laws;
 mod model_fault;
 mod parts;
-pub mod plain;
 mod tables;
 
 pub use blames::blame_of_items;

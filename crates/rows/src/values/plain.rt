@@ -1,7 +1,7 @@
 //! The definitions of a model as trees. This file knows no nodes.
 
 use smt_eval::Memory;
-use smt_eval::plain::Definition;
+use smt_plain::Definition;
 use smt_forms::{ItemForm, item_form};
 use smt_terms::{Definition as Defined, Library};
 use smt_trees::Trees;

@@ -1,0 +1,4 @@
+pub mod KnownLemmas
+pub mod ScopeLemmas
+pub mod PlainLemmas
+pub mod SingleLemmas

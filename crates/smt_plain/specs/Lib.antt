@@ -1,0 +1,2 @@
+pub mod PlainTerm
+pub mod Internal
