@@ -29,13 +29,14 @@ abbrev IsNoName : Identifier → Type 0
 IsNoName (Plain x) = ⊥
 IsNoName _ = Unit {0}
 
-pub known_of_no_name : (m : KnownMeaning) (es : List Entry) (f : Identifier) (args : List (Option Element)) → IsNoName f
-    → (known_after m es).gives f args ≡ m.gives f args
-known_of_no_name m [] f args no = refl
-known_of_no_name m (e ∷ es) (Indexed x indexes) args no =
-    known_of_no_name (with_known m e) es (Indexed x indexes) args no
-known_of_no_name m (e ∷ es) (Qualified sort) args no = known_of_no_name (with_known m e) es (Qualified sort) args no
-known_of_no_name m (e ∷ es) (Plain x) args no = absurd no
+pub known_of_no_name : (f : Identifier) → IsNoName f → (m : KnownMeaning) (es : List Entry)
+    (args : List (Option Element)) → (known_after m es).gives f args ≡ m.gives f args
+known_of_no_name (Plain x) h m es args = absurd h
+known_of_no_name (Indexed x indexes) h m [] args = refl
+known_of_no_name (Indexed x indexes) h m (e ∷ es) args =
+    known_of_no_name (Indexed x indexes) h (with_known m e) es args
+known_of_no_name (Qualified sort) h m [] args = refl
+known_of_no_name (Qualified sort) h m (e ∷ es) args = known_of_no_name (Qualified sort) h (with_known m e) es args
 
 pub elements_kept : (m : KnownMeaning) (es : List Entry) → (known_after m es).element ≡ m.element
 elements_kept m [] = refl

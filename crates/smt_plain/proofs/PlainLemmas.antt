@@ -103,7 +103,7 @@ pub indexed_is_operator : (element : Naming) (theories : Theories) (es : List En
     → known_single v ≡ (known_after (without_arrays (known_operators element theories)) es).gives f []
 indexed_is_operator element theories es (Indexed x indexes) parts v op is found given =
     given x indexes ∙ ap (λ o. unless_array (known_of_op element o (Indexed x indexes) [])) found
-    ∙ sym (known_of_no_name (without_arrays (known_operators element theories)) es (Indexed x indexes) [] tt)
+    ∙ sym (known_of_no_name (Indexed x indexes) tt (without_arrays (known_operators element theories)) es [])
 indexed_is_operator element theories es (Plain x) parts v op is found given =
     absurd (always_indexed (Plain x) parts is)
 indexed_is_operator element theories es (Qualified sort) parts v op is found given =
@@ -113,7 +113,7 @@ indexed_is_operator element theories es (Qualified sort) parts v op is found giv
 pub constant_open : (element : Naming) (theories : Theories) (es : List Entry) (sort : Sexp) (args : List (Option Element))
     → None ≡ (known_after (without_arrays (known_operators element theories)) es).gives (Qualified sort) args
 constant_open element theories es sort args =
-    by args ∙ sym (known_of_no_name (without_arrays (known_operators element theories)) es (Qualified sort) args tt)
+    by args ∙ sym (known_of_no_name (Qualified sort) tt (without_arrays (known_operators element theories)) es args)
   where
     by : (args : List (Option Element)) → None ≡ unless_array (other_known element (Qualified sort) args)
     by [] = refl

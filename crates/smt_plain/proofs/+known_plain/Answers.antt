@@ -71,8 +71,9 @@ names::known_applied-returns-in-Indexed t c =
     ∙ ap (λ o. unless_array (known_of_op (numbered_in c.args.over.names.now) o (Indexed name indexes)
     (known_singles c.args.args.now)))
     (c.op_of.ensures ∙ ap (λ is. op_by c.args.over.theories name (map index_view is)) c.as_slice.ensures)
-    ∙ sym (known_of_no_name (without_arrays (known_operators (numbered_in c.args.over.names.now) c.args.over.theories))
-    (entries_of c.args.over.seen.now) (Indexed name indexes) (known_singles c.args.args.now) tt)
+    ∙ sym (known_of_no_name (Indexed name indexes) tt
+    (without_arrays (known_operators (numbered_in c.args.over.names.now) c.args.over.theories))
+    (entries_of c.args.over.seen.now) (known_singles c.args.args.now))
     ∙ ap (λ i. (meaning_of c.args.over).gives (identifier_view i) (known_singles c.args.args.now))
     (sym c.in-Indexed.is)
 
