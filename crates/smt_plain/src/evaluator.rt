@@ -12,9 +12,7 @@ ghost use Rattle.smt_forms.specs.Identifier.{applied, indexed};
 ghost use Rattle.smt_plain.specs.Internal.PlainEvaluation.{Gives, known_scope, meaning_of};
 ghost use Rattle.smt_eval.specs.Known.{known_by, known_of, knowns_bound, knowns_of};
 
-use crate::names::{
-    Definitions, known_applied, known_named, known_of_indexed, named_element,
-};
+use crate::names::{Definitions, known_applied, known_named, known_of_indexed, named_element};
 use crate::scope::push_variable;
 use smt_faults::Memory;
 use smt_forms::{

@@ -1,8 +1,8 @@
 //! The definitions of a model as trees. This file knows no nodes.
 
 use smt_eval::Memory;
-use smt_plain::Definition;
 use smt_forms::{ItemForm, item_form};
+use smt_plain::Definition;
 use smt_terms::{Definition as Defined, Library};
 use smt_trees::Trees;
 use std::alloc::Global;
