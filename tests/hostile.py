@@ -79,6 +79,11 @@ def doubling_functions(n):
     return script + "(assert (= (f20 0) 0))" + ASK * n, "sat ()\n" * n
 
 
+def empty_models(n):
+    """Checks with models that define nothing, of as many names."""
+    return "".join("(declare-const c%d Bool)" % i for i in range(n)) + ASK * n, "sat ()" * n
+
+
 def wide_model(n):
     """A model with one wide body of one-letter parts."""
     return DECLARED + "(assert (not p))" + ASK, "sat ((define-fun p () Bool (distinct" + " 7" * n + ")))"
@@ -278,6 +283,7 @@ SHAPES = {
     "assumptions": Shape(assumptions, 2_500, 1, 0),
     "honest assumptions": Shape(honest_assumptions, 135_000, 3, 0),
     "honest models": Shape(honest_models, 8_000, 3, 0),
+    "empty models": Shape(empty_models, 200_000, 2, 200),
     "global declarations": Shape(global_declarations, 16_000, 1, 0),
     "doubling functions": Shape(doubling_functions, 100, None, 200),
     "wide model": Shape(wide_model, 2_500_000, 1, 200),

@@ -10,7 +10,7 @@ trap 'rm -rf "$work"' EXIT
 command -v python3 >"$work/python" || { echo 'hostile: skipped, no python3' >&2; exit 0; }
 # Left out are those whose time is the time of steps.
 PYTHONDONTWRITEBYTECODE=1 python3 tests/hostile.py --part 4 --bound --patience 20 \
-    'unused body' 'assumptions, models' assumptions 'honest assumptions' 'honest models' 'global declarations' 'wide model' 'wide script' \
+    'unused body' 'assumptions, models' assumptions 'honest assumptions' 'honest models' 'empty models' 'global declarations' 'wide model' 'wide script' \
     'deep and wide' levels 'levels beside names' >"$work/table" || { cat "$work/table"; exit 1; }
 # Those that are explained, on the usual stack and on the smallest that the program takes, beside what they take without an explanation.
 for stack in 8192 256; do

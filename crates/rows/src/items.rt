@@ -48,7 +48,7 @@ fn print_items<W: Write>(
     script: &Library<'_>,
     fields: &[Field],
 ) -> Result<()> {
-    let Ok(mut model) = script.for_model() else {
+    let Ok(mut model) = script.for_model(fields.len()) else {
         bail!("out of memory");
     };
     print_fields(alloc, out, script, &mut model, fields)

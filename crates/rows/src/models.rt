@@ -106,7 +106,7 @@ pub(crate) fn definitions_of<'l>(
     declared: &'l Library<'_>,
     model: Trees<'_>,
 ) -> Result<Library<'l>> {
-    let Ok(mut definitions) = declared.for_model() else {
+    let Ok(mut definitions) = declared.for_model(model.size()) else {
         bail!("out of memory");
     };
     match define_items(declared, &mut definitions, model) {

@@ -24,8 +24,9 @@ pub fn blame_of_items<'t>(
     ensures { (s : Signature) → StandsFor declared.now s
         → IfOk result (λ found. (es : List Entry) × IsToldOf s (items_before s es) found) }
 {
-    let mut definitions = declared.for_model()?;
-    let refused = take_items(declared, &mut definitions, items(model))?;
+    let items = items(model);
+    let mut definitions = declared.for_model(items.size())?;
+    let refused = take_items(declared, &mut definitions, items)?;
     match refused {
         Some(item) => definitions.blame_of_item(declared, item),
         None => Ok(None),

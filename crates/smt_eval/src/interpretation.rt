@@ -96,7 +96,7 @@ fn read_items<'l>(declared: &'l Library<'_>, items: Trees<'_>) -> Result<Library
         × StandsFor library (items_before s es))
         (TellsModel (items_from s [] 1 (sexps_of items.entry))) }
 {
-    let Ok(mut definitions) = declared.for_model() else {
+    let Ok(mut definitions) = declared.for_model(items.size()) else {
         return Err(ModelFault::Memory);
     };
     let mut left = items;

@@ -10,7 +10,7 @@
 //! library.declare(1, b"x", &[], &int)?;                                     // (declare-const x Int)
 //! library.check(&sum)?.1                                                    // of (+ x 1): Sort::Int
 //! library.check(&other)                                                     // of (+ y 1): Err(TermFault::Unknown)
-//! let mut model = library.for_model()?;
+//! let mut model = library.for_model(items.len())?;
 //! model.define_item(&library, &item)?;                                      // (define-fun x () Int 2)
 //! model.find(b"x")                                                          // Some(Found::Defined(0))
 //! ```

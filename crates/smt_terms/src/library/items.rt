@@ -31,13 +31,16 @@ use smt_trees::Tree;
 impl Library<'_> {
     /// A library for the items of a model of these names (SMT-LIB 2.6, section 4.2.6). It has the theories of this
     /// library and no names. In the wide profile its terms may name elements of the sorts that this library declares.
-    pub fn for_model(&self) -> Result<Library<'_>, Memory>
+    ///
+    /// It has room for `count` items, but for no more than this library declares names. The only error is want of
+    /// memory.
+    pub fn for_model(&self, count: usize) -> Result<Library<'_>, Memory>
         ensures names { IfOk result
             (λ library. (s : Signature) → StandsFor self.now s → StandsFor library (items_before s [])) }
         ensures reads { IfOk result (λ library. ReadsModelsOf library self.now) }
     {
         let mut library = Library::new(self.alloc, self.sorts.theories);
-        library.reserve(self.declared.len())?;
+        library.reserve(count.min(self.declared.len()))?;
         library.elements = self.lent();
         Ok(library)
     }
