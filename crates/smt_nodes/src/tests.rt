@@ -34,7 +34,7 @@ fn arity(nodes: &Nodes, number: usize) -> usize {
 // The number of arguments of an operator's node, by its parts alone.
 fn arity_by_parts(nodes: &Nodes, number: usize) -> usize {
     match nodes.get_parts(number) {
-        Some((NodeParts::Args(args), _)) => args.len(),
+        Some((NodeParts::Plain { args, .. } | NodeParts::Args(args), _)) => args.len(),
         _ => 99,
     }
 }
