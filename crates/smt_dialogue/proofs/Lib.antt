@@ -7,6 +7,7 @@ pub mod CheckLineLemmas
 pub mod AcceptedLemmas
 pub mod StepLemmas
 pub mod JudgementLemmas
+pub mod SizedClaimLemmas
 pub mod TooLongLemmas
 pub mod FirstFaultLemmas
 pub mod PairingUnique

@@ -7,7 +7,7 @@ use Rattle.smt_terms.specs.Library.{IsTermOf}
 use Rattle.smt_script.specs.Stack as stacks
 use Rattle.smt_script.specs.StackView.{AreAssertions, AreTerms}
 use Rattle.smt_script.specs.declared.stack.Assertion as code
-use Rattle.smt_dialogue.specs.Internal.Claims.{AreClaimed, of_assertions, of_assumptions}
+use Rattle.smt_dialogue.specs.Internal.Claims.{AreClaimed, HaveSizes, of_assertions, of_assumptions}
 use Rattle.smt_dialogue.specs.Judgement.{all_claims, assumed_from}
 use Rattle.smt_report.specs.declared.claim.Claim.TheVariants.{Assertion}
 
@@ -31,5 +31,19 @@ all_are_claimed c l held (a ∷ as') ids [] ts h terms = absurd h
 all_are_claimed c l held (a ∷ as') ids (b ∷ bs) ts h terms = (
   number_same a.command b.command h.0,
   held a.term b.term h.1,
-  all_are_claimed c l held as' ids bs ts h.2 terms,
+  all_are_claimed c l held as' ids bs ts h.3 terms,
 )
+
+assumed_are_sized : (l : Table) (n : ℕ) (ids : List ℕ) → HaveSizes l (of_assumptions n ids)
+assumed_are_sized l n [] = tt
+assumed_are_sized l n (i ∷ ids) = (tt, assumed_are_sized l (n + 1) ids)
+
+pub all_are_sized : (c : Contents) (l : Table)
+    → ((i : ℕ) (t : Sexp) → IsTermOf c i t → Denotes l [] 0 0 i t) → (as' : List code.Assertion) (ids : List ℕ)
+    (bs : List stacks.Assertion) → AreAssertions c as' bs
+    → HaveSizes l (of_assertions as' ++ of_assumptions 1 ids)
+all_are_sized c l held [] ids [] h = assumed_are_sized l 1 ids
+all_are_sized c l held [] ids (b ∷ bs) h = absurd h
+all_are_sized c l held (a ∷ as') ids [] h = absurd h
+all_are_sized c l held (a ∷ as') ids (b ∷ bs) h =
+    ((b.term, held a.term b.term h.1, h.2), all_are_sized c l held as' ids bs h.3)

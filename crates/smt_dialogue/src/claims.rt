@@ -4,18 +4,19 @@ ghost use Rattle.std.specs.Prelude.{◌≡◌, ◌∷◌, ℕ, List, [], MatchOp
 ghost use Rattle.smt_terms.specs.Library.{terms_of};
 ghost use Rattle.smt_script.specs.Stack.{Numbered};
 ghost use Rattle.smt_script.specs.StackView.{StandsFor, library_of, profile_of};
-ghost use Rattle.smt_dialogue.specs.Internal.Claims.{AreClaimed, claims_in_force, claims_left};
+ghost use Rattle.smt_dialogue.specs.Internal.Claims.{AreClaimed, HaveSizes, claims_in_force, claims_left};
 
 use smt_report::Claim;
 use smt_script::{Assertion, Stack};
 use smt_terms::TermId;
 use smt_terms::laws::held_terms_are_terms;
 
-/// A claim, and its term in the library of a stack.
+/// A claim, its term in the library of a stack, and how many atoms and lists the term of an assertion has.
 #[derive(Clone, Copy)]
 pub struct ReadClaim {
     pub claim: Claim,
     pub term: TermId,
+    pub size: Option<u32>,
 }
 
 /// The claims that are left: assertions in force, and after them the assumptions of the last check.
@@ -30,9 +31,11 @@ pub(crate) struct Claims<'a> {
 impl<'a> Claims<'a> {
     /// All claims of a stack.
     pub(crate) fn new(stack: &'a Stack) -> Claims<'a>
-        ensures { (commands : List Numbered) → StandsFor stack.now commands
+        ensures claimed { (commands : List Numbered) → StandsFor stack.now commands
             → AreClaimed (terms_of (library_of stack.now)) (claims_left result)
             (claims_in_force (profile_of stack.now) commands) }
+        ensures sized { (commands : List Numbered) → StandsFor stack.now commands
+            → HaveSizes (terms_of (library_of stack.now)) (claims_left result) }
     {
         held_terms_are_terms();
         Claims {
@@ -56,6 +59,7 @@ impl<'a> Claims<'a> {
                 Some(ReadClaim {
                     claim,
                     term: assertion.term,
+                    size: Some(assertion.size),
                 })
             }
             None => self.next_assumption(),
@@ -72,6 +76,10 @@ impl<'a> Claims<'a> {
         let claim = Claim::Assumption {
             place: self.taken as u64,
         };
-        Some(ReadClaim { claim, term })
+        Some(ReadClaim {
+            claim,
+            term,
+            size: None,
+        })
     }
 }

@@ -1,6 +1,6 @@
 //! Judges a model under what is in force. This file knows no windows, and no lines of a report.
 
-ghost use Rattle.std.specs.Prelude.{◌≡◌, ◌≤◌, List, Some, true, false, IfOk, IsTrue, MatchOption};
+ghost use Rattle.std.specs.Prelude.{◌≡◌, ◌≤◌, ◌+◌, ◌*◌, ℕ, List, Some, true, false, IfOk, IfSome, IsTrue, MatchOption};
 ghost use Rattle.smt_values.specs.Element.{Truth, known_element};
 ghost use Rattle.smt_values.specs.KnownOperations.{is_known};
 ghost use Rattle.smt_machine.specs.Costs.{within};
@@ -14,7 +14,7 @@ ghost use Rattle.smt_script.specs.StackView.{StandsFor, profile_of};
 ghost use Rattle.smt_trees.specs.Owned.{sexp_of};
 ghost use Rattle.smt_trees.specs.Sexp.{Items, Sexps};
 ghost use Rattle.smt_dialogue.specs.Answers.{is_list};
-ghost use Rattle.smt_dialogue.specs.Internal.Claims.{AreClaimed, claims_in_force, claims_left};
+ghost use Rattle.smt_dialogue.specs.Internal.Claims.{AreClaimed, HaveSizes, claims_in_force, claims_left};
 ghost use Rattle.smt_dialogue.specs.Judgement as spec;
 ghost use Rattle.smt_dialogue.specs.Judgement.{Claimed, claims_cost, judged_over, judged_within};
 ghost use Rattle.smt_dialogue.specs.Judgement.{judgement_of};
@@ -22,7 +22,7 @@ ghost use Rattle.smt_dialogue.specs.declared.judgement.Judgement.TheVariants.{To
 
 use crate::claims::Claims;
 use crate::options::Limit;
-use smt_eval::{Interpretation, Machine, Memory, ModelFlaw, cost_within, eval_by};
+use smt_eval::{Interpretation, Machine, Memory, ModelFlaw, cost_by_size, cost_within, eval_by};
 use smt_faults::TermFlaw;
 use smt_report::Claim;
 use smt_script::Stack;
@@ -98,8 +98,9 @@ fn judgement_of_flaw(flaw: ModelFlaw) -> Judgement
     }
 }
 
-// Judges a model that was read. A walk from the claims down is enough where they cost little, whatever else is in
-// the script. Otherwise a pass counts all nodes, if that takes no longer than the limit lets a walk take.
+// Judges a model that was read. Where the sizes of the claims tell that the limit is enough, nothing else is counted.
+// A walk from the claims down is enough where they cost little, whatever else is in the script. Otherwise a pass counts
+// all nodes, if that takes no longer than the limit lets a walk take.
 fn judge_read(
     machine: &mut Machine,
     library: &Library<'_>,
@@ -108,6 +109,7 @@ fn judge_read(
     limit: Limit,
 ) -> Result<Judgement, Memory>
     requires terms { (all : List Claimed) × AreClaimed (terms_of library.now) (claims_left claims) all }
+    requires sized { HaveSizes (terms_of library.now) (claims_left claims) }
     requires fits { Fits interpretation.old library.now }
     requires costs { KeepsCosts interpretation.old library.now }
     ensures { (script definitions : Signature) (all : List Claimed)
@@ -116,6 +118,9 @@ fn judge_read(
         → IfOk result (λ j. j
         ≡ judged_within limit.steps all (structure_of script definitions)) }
 {
+    if let Some(steps) = steps_by_sizes(library, interpretation, claims, limit)? {
+        return judge_counted(machine, library, interpretation, claims, steps);
+    }
     let nodes = library.nodes().len() as u64;
     let few = few_of(limit, nodes);
     let judgement = judge_within(machine, library, interpretation, claims, few)?;
@@ -127,6 +132,48 @@ fn judge_read(
     }
     interpretation.count(library)?;
     judge_within(machine, library, interpretation, claims, limit)
+}
+
+// Steps that are enough for all claims by the sizes of their terms, and no more than the limit; `None` where the sizes
+// tell of none.
+fn steps_by_sizes(
+    library: &Library<'_>,
+    interpretation: &Interpretation<'_>,
+    claims: Claims<'_>,
+    limit: Limit,
+) -> Result<Option<u64>, Memory>
+    requires fits { Fits interpretation.now library.now }
+    requires sized { HaveSizes (terms_of library.now) (claims_left claims) }
+    ensures { (script definitions : Signature) (all : List Claimed)
+        → libraries.StandsFor library.now script → IsInterpretation interpretation.now script definitions
+        → AreClaimed (terms_of library.now) (claims_left claims.entry) all
+        → IfOk result (λ steps. IfSome steps (λ n. (n ≤ limit.steps)
+        × (claims_cost (structure_of script definitions) all ≤ n))) }
+{
+    let Some(rate) = cost_by_size(library, interpretation)? else {
+        return Ok(None);
+    };
+    let mut steps: u64 = 0;
+    let mut left = claims;
+    while let Some(next) = left.next() {
+        let Some(sum) = steps_with(steps, next.size, rate) else {
+            return Ok(None);
+        };
+        steps = sum;
+    }
+    Ok(if steps <= limit.steps {
+        Some(steps)
+    } else {
+        None
+    })
+}
+
+// So many steps, and those for a term of this size; `None` where the size is not known, or from 2^64 on.
+fn steps_with(steps: u64, size: Option<u32>, rate: u64) -> Option<u64>
+    ensures { IfSome result (λ sum. (n : ℕ) × (size ≡ Some n) × (sum ≡ steps + n * rate)) }
+{
+    let more = u64::from(size?).checked_mul(rate)?;
+    steps.checked_add(more)
 }
 
 // The limit, but no more steps than a walk makes in the time of one pass over so many nodes.

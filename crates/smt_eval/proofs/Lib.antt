@@ -37,3 +37,5 @@ pub mod CostExampleLemmas
 pub mod LetLemmas
 pub mod ElementNameLemmas
 pub mod PartLemmas
+pub mod SizeLemmas
+pub mod SizedTermLemmas

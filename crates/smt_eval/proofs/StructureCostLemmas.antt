@@ -1,12 +1,14 @@
 -- A node of a script costs what its term does over the structure that a model gives to the script.
-use Rattle.std.proofs.Common.{◌≡◌, ◌≤◌, ℕ, ◌+◌, List, [], length, map, slice_get, Some, None, ap, sym}
-use Rattle.std.proofs.Common.{◌∙◌, subst, arith}
+use Rattle.std.proofs.Common.{◌≡◌, ◌≤◌, ◌<◌, ℕ, zero, suc, ◌+◌, ◌-◌, ◌*◌, ◌^◌, Bool, true, false, List, [], ◌∷◌, ◌++◌}
+use Rattle.std.proofs.Common.{length, map, max, slice_get, Option, Some, None, refl, ap, sym, ◌∙◌, subst, arith}
+use Rattle.std.proofs.Math.Dec.{ltb}
+use Rattle.std.proofs.lemmas.Bool.{ltb-true, ltb-false}
 use Rattle.std.proofs.Math.Seq.{take-length}
-use Rattle.std.proofs.lemmas.List.{length-map}
+use Rattle.std.proofs.lemmas.List.{append-nil, length-map}
 use Rattle.std.specs.Prelude.{unwrap_or}
-use Rattle.smt_trees.specs.Sexp.{Sexp}
+use Rattle.smt_trees.specs.Sexp.{Sexp, weight}
 use Rattle.smt_nodes.specs.Node.{Row}
-use Rattle.smt_machine.specs.Costs.{around_at, cost, node_cost}
+use Rattle.smt_machine.specs.Costs.{around_at, capped, cost, greatest_of, node_cost}
 use Rattle.smt_machine.specs.Given.{given}
 use Rattle.smt_machine.specs.Least.{least, node_least}
 use Rattle.smt_machine.specs.Nodes as machine
@@ -15,18 +17,21 @@ use Rattle.smt_values.specs.Element.{Naming}
 use Rattle.smt_machine.specs.Tables.{resolved, unnamed}
 use Rattle.smt_terms.specs.Denotes.{Denotes, Table}
 use Rattle.smt_terms.specs.Library.{declared_among}
-use Rattle.smt_terms.specs.Signature.{AreDistinct, Entry, Signature}
-use Rattle.smt_terms.specs.TermsOf.{AreTermsOf, first_heads}
+use Rattle.smt_terms.specs.Signature.{AreDistinct, Declared, Defined, Entry, Origin, Signature, defined_among, entry_named}
+use Rattle.smt_terms.specs.TermsOf.{AreBodies, AreTermsOf, IsNextBody, first_heads}
+use Rattle.smt_eval.proofs.CompleteModelLemmas.{place_of}
+use Rattle.smt_eval.proofs.CostLemmas.{cost_absent}
 use Rattle.smt_eval.proofs.HeadLemmas.{IsBodyOf, body_at, none_declared}
 use Rattle.smt_eval.proofs.NodeCostLemmas.{HasRowCosts}
 use Rattle.smt_eval.proofs.NodeLeastLemmas.{HasRowLeasts, term_counts}
 use Rattle.smt_eval.proofs.NodeNameCostLemmas.{IsCostAt, called_costs, calls_cost, closed_costs, costs_its_nodes}
 use Rattle.smt_eval.proofs.NodeNameLemmas.{HasNames}
 use Rattle.smt_eval.proofs.PlaceLemmas.{at_left, at_right, within}
+use Rattle.smt_eval.proofs.SizeLemmas.{sized}
 use Rattle.smt_eval.proofs.StructureNodeLemmas.{all_seen, at_map, denotes_within, model_names, names_counted}
 use Rattle.smt_eval.proofs.StructureNodeLemmas.{script_names, seen}
-use Rattle.smt_eval.specs.Cost.{cost_of, cost_over, costs_in}
-use Rattle.smt_eval.specs.Internal.DefinitionValues.{AllDefined}
+use Rattle.smt_eval.specs.Cost.{cost_of, cost_over, costs_in, no_costs}
+use Rattle.smt_eval.specs.Internal.DefinitionValues.{AllDefined, IsDefined, first}
 use Rattle.smt_eval.specs.Least.{least_of}
 use Rattle.smt_eval.specs.NodeValues.{GivesBodies, arounds_over, nodes_over}
 use Rattle.smt_eval.specs.Structure.{structure_of}
@@ -150,6 +155,83 @@ module _ (has : (nodes : List machine.Node) (i : ℕ) (frame : Frame)
       denotes)
       ∙ ap (λ d. around + cost_of (costs_in d) [] term)
       (all_seen has naming model script declared names definitions terms bodies all theories elements distinct gives)
+
+  -- ---- what the bodies of names cost at most, where the script defines none
+
+  -- a body of the model's, and its number
+  body_there : (es : List Entry) (before : ℕ) (bodies : List ℕ) (q : ℕ) (e : Entry) → AllDefined es
+      → AreBodies model before bodies es → slice_get es q ≡ Some e → (j : ℕ) × (slice_get bodies q ≡ Some j)
+  body_there [] before bodies q e all b at = cc
+  body_there (d ∷ es) before bodies q e all b at =
+      by d.origin all.0 bodies b q at (λ k rest c there. body_there es (before + 1) rest k e all.1 c there)
+    where
+      by : (o : Origin) → IsDefined o → (bs : List ℕ)
+          → IsNextBody model before (length d.parameters) o bs (λ rest. AreBodies model (before + 1) rest es)
+          → (q : ℕ) → slice_get (d ∷ es) q ≡ Some e
+          → ((k : ℕ) (rest : List ℕ) → AreBodies model (before + 1) rest es → slice_get es k ≡ Some e
+          → (j : ℕ) × (slice_get rest k ≡ Some j))
+          → (j : ℕ) × (slice_get bs q ≡ Some j)
+      by (Declared command) is bs c q there next = absurd is
+      by (Defined ps body) is [] c q there next = absurd c
+      by (Defined ps body) is (j ∷ js) c zero there next = (j, refl)
+      by (Defined ps body) is (j ∷ js) c (suc k) there next = next k js c.1 there
+
+  module _ (none : defined_among names.entries ≡ []) (most : ℕ) (few : (i : ℕ) → i < count → c i ≤ most) where
+    alone : whole ≡ definitions
+    alone = ap (λ (es : List Entry). record definitions { entries = definitions.entries ++ es }) none
+        ∙ ap (λ (es : List Entry). record definitions { entries = es }) (append-nil definitions.entries)
+
+    all_first : first (length definitions.entries) whole ≡ definitions
+    all_first = ap (first (length definitions.entries)) alone
+        ∙ ap (λ (es : List Entry). record definitions { entries = es }) (take-length definitions.entries)
+
+    defined_few : (q : ℕ) (e : Entry) → slice_get definitions.entries q ≡ Some e → costs_in definitions e.name ≤ most
+    defined_few q e at =
+        let there = body_there definitions.entries 0 model.bodies q e all bodies.bodies at in
+        let b : IsBodyOf model q e there.0 =
+        subst (λ n. IsBodyOf model n e there.0) (omega arith)
+        (body_at model definitions.entries 0 model.bodies q e there.0 all bodies.bodies at there.1) in
+        let inside = denotes_within (first_heads q model) _ _ _ there.0 b.1 b.3.denotes in
+        let place = within definitions.entries q e at in
+        let last = suc there.0 in
+        let same = called_costs naming naming (given nodes) 0 [] model definitions.entries whole (λ n. n) names_of_model c
+        model_rows none_given last
+        (calls_cost naming naming (given nodes) 0 [] model definitions.entries whole (λ n. n) names_of_model c
+        model_rows none_given last) (length definitions.entries)
+        q there.0 e e.name at (omega (arith, place)) refl b (omega arith) in
+        let told = ap (λ (d : Signature). costs_in d e.name) all_first in
+        let low = few (0 + there.0) (omega (arith, inside)) in
+        omega (arith, same, told, low)
+
+    pub bodies_few : (x : List ℕ) → costs_in whole x ≤ most
+    bodies_few x =
+        subst (λ (d : Signature). costs_in d x ≤ most) (sym alone) (by (entry_named definitions.entries x) refl)
+      where
+        by : (o : Option Entry) → entry_named definitions.entries x ≡ o → costs_in definitions x ≤ most
+        by None is = let free = cost_absent no_costs definitions.entries x is in omega (arith, free)
+        by (Some e) is =
+            let p = place_of definitions.entries x e is in
+            subst (λ y. costs_in definitions y ≤ most) (sym p.2) (defined_few p.0 e p.1)
+
+    -- a term costs so much for each atom and list in it
+    pub term_sized : (term : Sexp) → cost_over whole term ≤ weight term * (most + 1)
+    term_sized term = sized (costs_in whole) most bodies_few [] term
+
+  -- each of the first costs no more than the greatest does, if that is a number that code counts to
+  within_greatest : (n : ℕ) → greatest_of n c < 2 ^ 64 - 1 → (i : ℕ) → i < n → c i ≤ greatest_of n c
+  within_greatest zero below i h = absurd (omega (arith, h))
+  within_greatest (suc n) below i h =
+      by (ltb i n) refl (within_greatest n (omega (arith, below)) i)
+    where
+      by : (b : Bool) → ltb i n ≡ b → (i < n → c i ≤ greatest_of n c) → c i ≤ max (capped (c n)) (greatest_of n c)
+      by true is earlier = let before = earlier (ltb-true i n is) in omega (arith, before)
+      by false is earlier =
+          let last = ltb-false i n is in
+          let here : c i ≡ c n = ap c (omega (arith, h, last)) in omega (arith, here, below)
+
+  pub sized_by_greatest : defined_among names.entries ≡ [] → greatest_of count c < 2 ^ 64 - 1 → (term : Sexp)
+      → cost_over whole term ≤ weight term * (greatest_of count c + 1)
+  sized_by_greatest none below term = term_sized none (greatest_of count c) (within_greatest count below) term
 
   -- ---- what the node takes at least
 

@@ -1,13 +1,15 @@
 -- What a contract sees of an interpretation: the definitions that it was read from.
-use Rattle.std.specs.Prelude.{◌≡◌, ◌≤◌, ◌⊎◌, ℕ, [], None}
+use Rattle.std.specs.Prelude.{◌≡◌, ◌≤◌, ◌⊎◌, ◌^◌, ℕ, suc, List, [], ◌∷◌, Option, Some, None, if◌then◌else◌, length}
+use Rattle.std.specs.Prelude.{nat_lt}
 use Rattle.smt_trees.specs.Sexp.{Sexp}
 use Rattle.smt_values.specs.ElementNumbers.{numbered_in}
-use Rattle.smt_machine.specs.Costs.{AreCosts}
+use Rattle.smt_machine.specs.Costs.{AreCosts, cost, greatest_of}
 use Rattle.smt_machine.specs.Memory.{Remembers}
 use Rattle.smt_values.specs.Element.{Naming}
 use Rattle.smt_machine.specs.declared.machine.Machine.{Machine}
-use Rattle.smt_terms.specs.Library.{IsTerm, StandsFor, element_names_of, held_terms_of, terms_of}
+use Rattle.smt_terms.specs.Library.{IsTerm, StandsFor, definitions_of, element_names_of, held_terms_of, terms_of}
 use Rattle.smt_terms.specs.Signature.{AreDistinct, Signature}
+use Rattle.smt_terms.specs.declared.library.Definition.{Definition}
 use Rattle.smt_terms.specs.declared.library.Library.{Library}
 use Rattle.smt_eval.specs.Cost.{cost_over}
 use Rattle.smt_eval.specs.Internal.DefinitionValues.{AllDefined}
@@ -58,6 +60,21 @@ KnowsCosts interpretation library = AreCosts
 -- it keeps none, or those
 abbrev pub KeepsCosts : Interpretation → Library → Type 0
 KeepsCosts interpretation library = (interpretation.costs.items ≡ []) ⊎ KnowsCosts interpretation library
+
+-- the greatest cost of a node of the model, as code counts it
+abbrev pub greatest_cost_of : Interpretation → Library → ℕ
+greatest_cost_of interpretation library = greatest_of (length (held_terms_of interpretation.definitions).rows)
+    (cost (nodes_over (numbers_of interpretation) (held_terms_of interpretation.definitions) (terms_of library)
+    interpretation.declared.items)
+    (arounds_over (held_terms_of interpretation.definitions) (terms_of library)))
+
+-- what a term costs at most for each atom and list in it, where there are no definitions and that is below 2^64
+abbrev pub rate_in : List Definition → ℕ → Option ℕ
+rate_in [] most = if nat_lt (suc most) (2 ^ 64) then Some (suc most) else None
+rate_in (d ∷ ds) most = None
+
+abbrev pub rate_of : Interpretation → Library → Option ℕ
+rate_of interpretation library = rate_in (definitions_of library) (greatest_cost_of interpretation library)
 
 -- a term of the library costs so many at most over the interpretation
 abbrev pub CostsAtMost : ℕ → Library → Interpretation → ℕ → Type 0

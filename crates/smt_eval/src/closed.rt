@@ -1,7 +1,7 @@
 //! Terms that a library has checked, as numbered nodes. This file looks into no node.
 
-ghost use Rattle.std.specs.Prelude.{◌≡◌, ◌≤◌, ◌<◌, ◌+◌, ◌-◌, ◌^◌, length, IfOk, OnOk};
-ghost use Rattle.smt_trees.specs.Sexp.{Sexp};
+ghost use Rattle.std.specs.Prelude.{◌≡◌, ◌≤◌, ◌<◌, ◌+◌, ◌-◌, ◌*◌, ◌^◌, ℕ, length, IfOk, IfSome, OnOk};
+ghost use Rattle.smt_trees.specs.Sexp.{Sexp, weight};
 ghost use Rattle.smt_values.specs.Element.{known_element};
 ghost use Rattle.smt_arrays.specs.Element.{known_plain};
 ghost use Rattle.smt_machine.specs.Costs.{capped, within};
@@ -11,7 +11,7 @@ ghost use Rattle.smt_terms.specs.Signature.{Signature};
 ghost use Rattle.smt_terms.specs.TermsOf.{AreTermsOf};
 ghost use Rattle.smt_eval.specs.Cost.{cost_over};
 ghost use Rattle.smt_eval.specs.Interpretation.{CostsAtMost, Fits, IsInterpretation, KeepsCosts, KnowsCosts};
-ghost use Rattle.smt_eval.specs.Interpretation.{Serves, numbers_of};
+ghost use Rattle.smt_eval.specs.Interpretation.{Serves, numbers_of, rate_of};
 ghost use Rattle.smt_eval.specs.Known.{known_over};
 ghost use Rattle.smt_eval.specs.Least.{least_over};
 ghost use Rattle.smt_eval.specs.NodeValues.{arounds_over, nodes_over};
@@ -21,11 +21,11 @@ ghost use Rattle.smt_eval.specs.Structure.{structure_of};
 use crate::interpretation::Interpretation;
 use crate::laws::{
     nodes_give_the_values_of_their_terms, nodes_have_the_costs_of_their_terms,
-    nodes_take_the_least_of_their_terms, numbers_stand_for_names,
+    nodes_take_the_least_of_their_terms, numbers_stand_for_names, terms_cost_by_their_sizes,
 };
 use crate::tables::tables;
 use smt_faults::Memory;
-use smt_machine::{Machine, Tables, cost_of_term};
+use smt_machine::{Machine, Tables, cost_of_term, greatest_cost};
 use smt_nodes::laws::elements_have_numbers;
 use smt_terms::{Library, TermId};
 use smt_values::Value;
@@ -76,6 +76,31 @@ pub fn cost_within(
     }
     let cost = cost(library, interpretation, term);
     Ok(if cost <= limit { Some(cost) } else { None })
+}
+
+/// What the evaluation of a term costs at most for each atom and list in it, over the structure that an interpretation
+/// gives to the names of a library: one more than the greatest cost of a node of the model. `None` where the library
+/// has definitions, or where that is 2^64 or more.
+///
+/// The interpretation was read over the library as it is now. The call makes one pass over the model's nodes. The only
+/// error is want of memory.
+pub fn cost_by_size(
+    library: &Library<'_>,
+    interpretation: &Interpretation<'_>,
+) -> Result<Option<u64>, Memory>
+    requires fits { Fits interpretation.now library.now }
+    ensures rate { IfOk result (λ rate. rate ≡ rate_of interpretation.now library.now) }
+    ensures bound { (script definitions : Signature) (i : ℕ) (t u : Sexp) → StandsFor library.now script
+        → IsInterpretation interpretation.now script definitions → IsTerm library.now i t → IsTerm library.now i u
+        → IfOk result (λ rate. IfSome rate (λ n. cost_over (structure_of script definitions) t ≤ weight u * n)) }
+{
+    nodes_have_the_costs_of_their_terms();
+    terms_cost_by_their_sizes();
+    if !library.definitions().is_empty() {
+        return Ok(None);
+    }
+    let most = greatest_cost(library.alloc(), tables_of(library, interpretation))?;
+    Ok(most.checked_add(1))
 }
 
 /// What is known of a term of the library over the structure that an interpretation gives to its names;

@@ -3,9 +3,9 @@
 pub mod elements;
 pub mod terms;
 
-ghost use Rattle.std.specs.Prelude.{◌≡◌, ◌≤◌, ◌↔◌, ℕ, ◌+◌, ◌*◌, ◌^◌, List, [], ◌∷◌, Ok, Err, Option, None, length};
+ghost use Rattle.std.specs.Prelude.{◌≡◌, ◌≤◌, ◌<◌, ◌↔◌, ℕ, ◌+◌, ◌-◌, ◌*◌, ◌^◌, List, [], ◌∷◌, Ok, Err, Option, None, length};
 ghost use Rattle.std.specs.Prelude.{All, Some, map, slice_get, true};
-ghost use Rattle.smt_trees.specs.Sexp.{Cons, Sexp, Sexps, append};
+ghost use Rattle.smt_trees.specs.Sexp.{Cons, Sexp, Sexps, append, weight};
 ghost use Rattle.smt_trees.specs.View.{sexp_of};
 ghost use Rattle.smt_theory.specs.Sort.{Sort};
 ghost use Rattle.smt_theory.specs.declared.theories.Theories.{Theories};
@@ -14,7 +14,7 @@ ghost use Rattle.smt_arrays.specs.Element.{Agrees, Element, IsOfSort, Plain};
 ghost use Rattle.smt_values.specs.ElementNumbers.{numbered_in};
 ghost use Rattle.smt_values.specs.Operations.{DivisionByZero};
 ghost use Rattle.smt_forms.specs.Variables.{is_among};
-ghost use Rattle.smt_machine.specs.Costs.{cost};
+ghost use Rattle.smt_machine.specs.Costs.{cost, greatest_of};
 ghost use Rattle.smt_machine.specs.Given.{given};
 ghost use Rattle.smt_machine.specs.Least.{least};
 ghost use Rattle.smt_machine.specs.Nodes.{Frame};
@@ -27,7 +27,7 @@ ghost use Rattle.smt_terms.specs.Denotes.{Denotes, Table};
 ghost use Rattle.smt_terms.specs.Items.{items_before};
 ghost use Rattle.smt_terms.specs.Library.{IsTerm, StandsFor};
 ghost use Rattle.smt_terms.specs.Repeated.{IsRepeated, IsTold};
-ghost use Rattle.smt_terms.specs.Signature.{AreDistinct, Entry, Signature, names_of, unlabelled};
+ghost use Rattle.smt_terms.specs.Signature.{AreDistinct, Entry, Signature, defined_among, names_of, unlabelled};
 ghost use Rattle.smt_terms.specs.TermsOf.{AreTermsOf};
 ghost use Rattle.smt_terms.specs.WellSorted.{AreIntroduced, AreWellSorted};
 ghost use Rattle.smt_eval.specs.Agreement.{AgreesWith, FitsScope};
@@ -255,6 +255,25 @@ pub fn the_least_is_within_the_cost()
     ensures { (theories : Theories) (b : BodyCosts) (variables : List (List ℕ)) (term : Sexp)
         → least_of theories term ≤ cost_of b variables term }
 {}
+
+/// Where a script defines no name, a term costs for each atom and list in it one more than the greatest cost of a node
+/// of the model, at most. The structure is the one that a model gives to the script, as for values.
+pub fn terms_cost_by_their_sizes()
+    ensures { (elements : Naming) (model script : Table) (declared : List ℕ) (names definitions : Signature)
+        (term : Sexp) → AreTermsOf script names → AreTermsOf model definitions
+        → AllDefined definitions.entries → definitions.theories ≡ names.theories → names.elements ≡ None
+        → AreDistinct (structure_of names definitions).entries
+        → GivesBodies declared names definitions model.bodies
+        → defined_among names.entries ≡ []
+        → greatest_of (length model.rows) (cost (nodes_over elements model script declared)
+        (arounds_over model script)) < 2 ^ 64 - 1
+        → cost_over (structure_of names definitions) term
+        ≤ weight term * (greatest_of (length model.rows) (cost (nodes_over elements model script declared)
+        (arounds_over model script)) + 1) }
+{
+    nodes_have_their_values();
+    nodes_have_their_costs();
+}
 
 /// The costs of some terms: `(= (+ x 1) 3)` where `x` is 2; two annotations round `true`; and functions each
 /// of which calls the one before twice.

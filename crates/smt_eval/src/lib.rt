@@ -17,7 +17,7 @@ mod parts;
 mod tables;
 
 pub use blames::blame_of_items;
-pub use closed::{cost, cost_within, eval, eval_by};
+pub use closed::{cost, cost_by_size, cost_within, eval, eval_by};
 pub use interpretation::Interpretation;
 pub use model_fault::{ModelFault, ModelFlaw};
 pub use parts::Parts;

@@ -84,6 +84,17 @@ last_at (y ∷ xs) x (suc j) k (suc n) is at c each last =
     last_at xs x j k n (omega (arith, is)) at (λ i. c (suc i)) (λ i m here. each (suc i) m here) last
 
 -- one more node
+-- the cost of the next node
+pub next_cost : (nodes : List Node) (arounds kept : List ℕ) (number around v : ℕ) (node : Option Node)
+    → length kept ≡ number → around ≡ around_at arounds number → node ≡ slice_get nodes number
+    → v ≡ capped (node_cost (length kept) (cost nodes arounds) around node) → v ≡ capped (cost nodes arounds number)
+next_cost nodes arounds kept number around v node count annotated at is =
+    let c : ℕ → ℕ = cost nodes arounds in
+    is ∙ ap (λ n. capped (node_cost n c around node)) count
+    ∙ ap (λ a. capped (node_cost number c a node)) annotated
+    ∙ ap (λ o. capped (node_cost number c (around_at arounds number) o)) at
+    ∙ ap capped (sym (cost_law nodes arounds number))
+
 pub kept_next : (nodes : List Node) (arounds kept more : List ℕ) (number around v : ℕ) (node : Option Node)
     → AreKept (cost nodes arounds) kept → length kept ≡ number
     → around ≡ around_at arounds number → node ≡ slice_get nodes number
@@ -91,11 +102,7 @@ pub kept_next : (nodes : List Node) (arounds kept more : List ℕ) (number aroun
     → AreKept (cost nodes arounds) more
 kept_next nodes arounds kept more number around v node each count annotated at is all =
     let c : ℕ → ℕ = cost nodes arounds in
-    let value : v ≡ capped (c number) =
-    is ∙ ap (λ n. capped (node_cost n c around node)) count
-    ∙ ap (λ a. capped (node_cost number c a node)) annotated
-    ∙ ap (λ o. capped (node_cost number c (around_at arounds number) o)) at
-    ∙ ap capped (sym (cost_law nodes arounds number)) in
+    let value = next_cost nodes arounds kept number around v node count annotated at is in
     λ j k here. last_at kept v j k number (sym count) (ap (λ xs. slice_get xs j) (sym all) ∙ here)
     (λ i. capped (c i)) each value
 

@@ -1,7 +1,7 @@
 -- How many nodes are evaluated at most for the value of a node, where each annotation round a node counts as
 -- one: the parts, whichever branch is taken, and the body of each name at each of its uses.
-use Rattle.std.specs.Prelude.{◌≡◌, ℕ, ◌+◌, ◌-◌, ◌^◌, List, [], ◌∷◌, Option, Some, None, length, min, nat_lt}
-use Rattle.std.specs.Prelude.{nat_le, slice_get, unwrap_or, if◌then◌else◌}
+use Rattle.std.specs.Prelude.{◌≡◌, ℕ, zero, suc, ◌+◌, ◌-◌, ◌^◌, List, [], ◌∷◌, Option, Some, None, length, max, min}
+use Rattle.std.specs.Prelude.{nat_le, nat_lt, slice_get, unwrap_or, if◌then◌else◌}
 use Rattle.smt_machine.specs.Given.{fill}
 use Rattle.smt_machine.specs.Nodes.{Node, Known, Slot, Apply, Call, Let}
 
@@ -48,6 +48,11 @@ cost nodes arounds =
 -- what code counts to: a cost from here on is this
 abbrev pub capped : ℕ → ℕ
 capped n = min n (2 ^ 64 - 1)
+
+-- the greatest cost of the first so many nodes, as code counts it
+abbrev pub greatest_of : ℕ → (ℕ → ℕ) → ℕ
+greatest_of zero c = 0
+greatest_of (suc n) c = max (capped (c n)) (greatest_of n c)
 
 -- a cost, if it is no more than a limit
 abbrev pub within : ℕ → ℕ → Option ℕ

@@ -2,10 +2,10 @@
 
 ghost use Rattle.std.specs.Prelude.{◌≡◌, ◌+◌, ◌<◌, ℕ, IfOk, length, option_map, slice_get, slice_index, Some};
 ghost use Rattle.smt_nodes.specs.PartsView.{parts_view};
-ghost use Rattle.smt_machine.specs.Costs.{AreCosts, capped, cost, node_cost, part_cost, parts_cost};
+ghost use Rattle.smt_machine.specs.Costs.{AreCosts, capped, cost, greatest_of, node_cost, part_cost, parts_cost};
 ghost use Rattle.smt_machine.specs.Internal.Sums.{AreKept, call_cost, made_cost};
 ghost use Rattle.smt_machine.specs.Internal.Parts.{found, found_around, number_of, numbers_of};
-ghost use Rattle.smt_machine.specs.Tables.{arounds_of, nodes_of, term_cost};
+ghost use Rattle.smt_machine.specs.Tables.{arounds_of, model_count, nodes_of, term_cost};
 
 use crate::parts::{Part, Parts};
 use crate::tables::{Place, Tables};
@@ -35,6 +35,24 @@ pub fn costs(alloc: Global, tables: Tables<'_>) -> Result<Vec<u64>, Memory>
         costs.push_reserved(next);
     }
     Ok(costs)
+}
+
+/// The greatest cost of a node of the model, 0 where it has none; 2^64 - 1 where it is that or more. The only error is
+/// want of memory.
+#[inline(never)]
+pub fn greatest_cost(alloc: Global, tables: Tables<'_>) -> Result<u64, Memory>
+    ensures { IfOk result (λ most. most ≡ greatest_of (model_count tables.entry)
+        (cost (nodes_of tables.entry) (arounds_of tables.entry))) }
+{
+    let count = tables.shift();
+    let mut costs = Vec::with_capacity(alloc, count)?;
+    let mut most = 0;
+    for number in 0..count {
+        let node_cost = cost_at(costs.as_slice(), &tables.model_place(number));
+        costs.push_reserved(node_cost);
+        most = node_cost.max(most);
+    }
+    Ok(most)
 }
 
 /// The cost of a term of the script, from the costs that were counted over these tables; 2^64 - 1 where it is

@@ -26,7 +26,7 @@ pub(crate) struct Found {
 pub(crate) struct Kept {
     alloc: Global,
     found: Vec<Found>,
-    places: Vec<usize>,
+    places: Vec<u32>,
 }
 
 impl Kept {
@@ -61,7 +61,7 @@ impl Kept {
         ensures { result ≡ kept_at self.now number }
     {
         match self.places.get(number) {
-            Some(place) => self.get_at(*place, number),
+            Some(place) => self.get_at(*place as usize, number),
             None => None,
         }
     }
@@ -83,16 +83,21 @@ impl Kept {
             ≡ (if other == number then Some value else kept_at self.old other)) }
         ensures unchanged { OnErr result ((other : ℕ) → kept_at self.new other ≡ kept_at self.old other) }
     {
-        self.make_room(number)?;
         let place = self.found.len();
+        if place > u32::MAX as usize {
+            return Err(Memory);
+        }
+        // (no value is at this place yet, and the one that will be is of this number)
+        self.make_room(number, place as u32)?;
         self.found.push(Found { number, value })?;
-        self.places.as_mut_slice()[number] = place;
+        self.places.as_mut_slice()[number] = place as u32;
         Ok(())
     }
 
-    // Makes room for the place of a number.
+    // Makes room for the place of a number. A number that has no place gets this one, which is that of no value.
     #[tactic(auto, unfolding(crate::specs::Internal::KeptView::kept_at))]
-    fn make_room(&mut self, number: usize) -> Result<(), Memory>
+    fn make_room(&mut self, number: usize, none: u32) -> Result<(), Memory>
+        requires { none ≡ length self.old.found.items }
         ensures room { IfOk result (λ _. number < length self.new.places.items) }
         ensures kept { (other : ℕ) → kept_at self.new other ≡ kept_at self.old other }
         ensures found { self.new.found ≡ self.old.found }
@@ -102,8 +107,6 @@ impl Kept {
             return Err(Memory);
         };
         if self.places.len() < len {
-            // No value is at this place yet, and the one that will be is of the number that it is kept for.
-            let none = self.found.len();
             self.places.resize(len, none)?;
         }
         Ok(())

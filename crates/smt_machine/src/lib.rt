@@ -41,7 +41,7 @@ mod task;
 mod tests;
 mod walk;
 
-pub use counting::{cost_of_node, cost_of_term, costs};
+pub use counting::{cost_of_node, cost_of_term, costs, greatest_cost};
 pub use look::Look;
 pub use machine::Machine;
 pub use smt_faults::Memory;

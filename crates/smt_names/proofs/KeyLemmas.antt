@@ -10,7 +10,8 @@ use Rattle.std.proofs.lemmas.List.{drop-drop}
 use Rattle.std.specs.Prelude.{bytes_eq, bit_xor}
 use Rattle.std.proofs.Math.Dec.{ltb}
 use Rattle.std.specs.Int.{w32, w64, from_le_bytes}
-use Rattle.smt_names.specs.Internal.Keys.{AreBytes, tiny_key, short_key, long_key, hash_after, key_of, mixed_of}
+use Rattle.smt_names.specs.Internal.Keys.{AreBytes, tiny_key, short_key, long_key, key_of, mixed_of}
+use Rattle.smt_names.specs.Internal.Keys.{front_key, lane_after}
 
 pub tiny-one : (xs : List ℕ) (a : ℕ) → length xs ≡ 1 → a ≡ get_or xs 0 0 → a ≡ tiny_key xs
 unfolding tiny_key
@@ -155,36 +156,58 @@ key-same a b p q l s e = by (ltb (length a) 4) refl
 
 -- ## A hash
 
-abbrev pub IsHashed : List ℕ → List ℕ → ℕ → Type 0
-IsHashed name left hash =
-    (k : ℕ) × ((k * 8 + length left ≡ length name) × (left ≡ drop (k * 8) name) × (hash ≡ hash_after name k))
+abbrev pub IsHashed : List ℕ → List ℕ → ℕ → ℕ → Type 0
+IsHashed name left even odd =
+    (k : ℕ) × ((k * 16 + length left ≡ length name) × (left ≡ drop (k * 16) name)
+    × (even ≡ lane_after (length name) 0 name k) × (odd ≡ lane_after 0 8 name k))
 
-pub hash-begun : (name : List ℕ) → IsHashed name name (length name)
-unfolding hash_after
-hash-begun name = (0, (omega arith, refl, refl))
+pub hash-begun : (name : List ℕ) → IsHashed name name (length name) 0
+unfolding lane_after
+hash-begun name = (0, (omega arith, refl, refl, refl))
 
-pub hash-more : (name left : List ℕ) (hash : ℕ) → IsHashed name left hash → 8 ≤ length left
-    → IsHashed name (drop 8 left) (mixed_of (bit_xor hash (from_le_bytes w64 (take 8 left))))
-unfolding hash_after
-hash-more name left hash (k, (l, d, e)) h =
-    let next : k * 8 + 8 ≡ suc k * 8 = omega arith in (
+-- one more step of a hash
+lane-more : (seed at : ℕ) (name left : List ℕ) (k hash : ℕ) → left ≡ drop (k * 16 + at) name
+    → hash ≡ lane_after seed at name k
+    → mixed_of (bit_xor hash (from_le_bytes w64 (take 8 left))) ≡ lane_after seed at name (suc k)
+unfolding lane_after
+lane-more seed at name left k hash d e =
+    ap (λ n. mixed_of (bit_xor n (from_le_bytes w64 (take 8 left)))) e
+    ∙ ap (λ xs. mixed_of (bit_xor (lane_after seed at name k) (from_le_bytes w64 (take 8 xs)))) d
+
+pub hash-more : (name left rest : List ℕ) (even odd : ℕ) → IsHashed name left even odd → 16 ≤ length left
+    → rest ≡ drop 8 left → IsHashed name (drop 8 rest)
+    (mixed_of (bit_xor even (from_le_bytes w64 (take 8 left))))
+    (mixed_of (bit_xor odd (from_le_bytes w64 (take 8 rest))))
+hash-more name left rest even odd (k, (l, d, e, o)) h r =
+    let begun : k * 16 ≡ k * 16 + 0 = omega arith in
+    let next : k * 16 + 8 + 8 ≡ suc k * 16 = omega arith in
+    let behind : rest ≡ drop (k * 16 + 8) name = r ∙ ap (λ xs. drop 8 xs) d ∙ drop-drop 8 (k * 16) name in
+    let shorter = length-drop 8 left in
+    let shortest = length-drop 8 rest in
+    let same = ap (λ (xs : List ℕ). length xs) r in (
       suc k,
       (
-        omega (arith, length-drop 8 left),
-        ap (λ xs. drop 8 xs) d ∙ drop-drop 8 (k * 8) name ∙ ap (λ n. drop n name) next,
-        ap (λ n. mixed_of (bit_xor n (from_le_bytes w64 (take 8 left)))) e
-            ∙ ap (λ xs. mixed_of (bit_xor (hash_after name k) (from_le_bytes w64 (take 8 xs)))) d,
+        omega (arith, shorter, shortest, same),
+        ap (λ xs. drop 8 xs) behind ∙ drop-drop 8 (k * 16 + 8) name ∙ ap (λ n. drop n name) next,
+        lane-more (length name) 0 name left k even (d ∙ ap (λ n. drop n name) begun) e,
+        lane-more 0 8 name rest k odd behind o,
       ),
     )
 
-pub hash-done : (name left : List ℕ) (hash last : ℕ) → IsHashed name left hash → length left < 8
-    → last ≡ from_le_bytes w64 (drop (length name - 8) name) → mixed_of (bit_xor hash last) ≡ long_key name
+pub hash-done : (name left : List ℕ) (even odd first last : ℕ) → IsHashed name left even odd → length left < 16
+    → first ≡ from_le_bytes w64 (take 8 (drop (length name - 16) name))
+    → last ≡ from_le_bytes w64 (drop (length name - 8) name)
+    → mixed_of (bit_xor (bit_xor (mixed_of (bit_xor even first)) odd) last) ≡ long_key name
 unfolding long_key
-hash-done name left hash last (k, (l, d, e)) h is =
-    let all : k ≡ length name / 8 = omega arith in
-    ap (λ n. mixed_of (bit_xor n last)) e
-    ∙ ap (λ n. mixed_of (bit_xor (hash_after name n) last)) all
-    ∙ ap (λ n. mixed_of (bit_xor (hash_after name (length name / 8)) n)) is
+hash-done name left even odd first last (k, (l, d, e, o)) h f is =
+    let all : k ≡ length name / 16 = omega arith in
+    let even_is = e ∙ ap (λ n. lane_after (length name) 0 name n) all in
+    let odd_is = o ∙ ap (λ n. lane_after 0 8 name n) all in
+    ap (λ n. mixed_of (bit_xor (bit_xor (mixed_of (bit_xor n first)) odd) last)) even_is
+    ∙ ap (λ n. mixed_of (bit_xor (bit_xor (mixed_of
+    (bit_xor (lane_after (length name) 0 name (length name / 16)) n)) odd) last)) f
+    ∙ ap (λ n. mixed_of (bit_xor (bit_xor (front_key name) n) last)) odd_is
+    ∙ ap (λ n. mixed_of (bit_xor (bit_xor (front_key name) (lane_after 0 8 name (length name / 16))) n)) is
 
 -- ## Whether two names are the same
 

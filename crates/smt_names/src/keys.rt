@@ -70,18 +70,32 @@ fn last_four(name: &[u8]) -> u32
     }
 }
 
+// Two hashes go side by side, since each step of one waits for the one before.
 #[inline(never)]
 fn long(name: &[u8]) -> u64
     requires { 8 < length name.now }
     ensures { result ≡ long_key name.now }
 {
-    let mut hash = name.len() as u64;
+    let mut even = name.len() as u64;
+    let mut odd = 0;
     let mut left = name;
-    while left.len() >= 8 {
-        hash = mixed(hash ^ first_eight(left));
-        left = behind_eight(left);
+    while left.len() >= 16 {
+        let rest = behind_eight(left);
+        even = mixed(even ^ first_eight(left));
+        odd = mixed(odd ^ first_eight(rest));
+        left = behind_eight(rest);
     }
-    mixed(hash ^ last_eight(name))
+    let front = mixed(even ^ first_eight(last_sixteen(name)));
+    mixed(front ^ odd ^ last_eight(name))
+}
+
+// The last sixteen bytes of a name, or all where there are no more.
+#[inline(always)]
+fn last_sixteen(name: &[u8]) -> &[u8]
+    requires { 8 < length name.now }
+    ensures { result.now ≡ drop (length name.now - 16) name.now }
+{
+    &name[name.len().saturating_sub(16)..]
 }
 
 #[inline(always)]

@@ -6,7 +6,7 @@ use Rattle.std.proofs.lemmas.List.{append-nil, length-append}
 use Rattle.std.specs.List.{All}
 use Rattle.std.specs.Prelude.{nat_le, ◌<◌}
 use Rattle.std.specs.Global.{Vec}
-use Rattle.smt_trees.specs.Sexp.{Sexp, Sexps, Nil}
+use Rattle.smt_trees.specs.Sexp.{Sexp, Sexps, Nil, weight}
 use Rattle.smt_theory.specs.Theories.{theories_named}
 use Rattle.smt_theory.specs.declared.profile.Profile.{Profile}
 use Rattle.smt_theory.specs.declared.theories.Theories.{Theories}
@@ -61,18 +61,18 @@ pub assertions_stay : ContentsAreKept → (c d : Contents) → Extends c d
     → (as' : List Assertion) (bs : List spec.Assertion) → AreAssertions c as' bs → AreAssertions d as' bs
 assertions_stay law c d more [] [] h = tt
 assertions_stay law c d more (a ∷ as') (b ∷ bs) h =
-    (h.0, law.terms c d a.term b.term more h.1, assertions_stay law c d more as' bs h.2)
+    (h.0, law.terms c d a.term b.term more h.1, h.2, assertions_stay law c d more as' bs h.3)
 assertions_stay law c d more [] (b ∷ bs) h = h
 assertions_stay law c d more (a ∷ as') [] h = h
 
 one_more_assertion : (c : Contents) (as' : List Assertion) (bs : List spec.Assertion) (a : Assertion)
     (b : spec.Assertion) → AreAssertions c as' bs → a.command ≡ b.command → IsTermOf c a.term b.term
-    → AreAssertions c (as' ++ a ∷ []) (bs ++ b ∷ [])
-one_more_assertion c [] [] a b h command term = (command, term, tt)
-one_more_assertion c (x ∷ as') (y ∷ bs) a b h command term =
-    (h.0, h.1, one_more_assertion c as' bs a b h.2 command term)
-one_more_assertion c [] (y ∷ bs) a b h command term = absurd h
-one_more_assertion c (x ∷ as') [] a b h command term = absurd h
+    → a.size ≡ weight b.term → AreAssertions c (as' ++ a ∷ []) (bs ++ b ∷ [])
+one_more_assertion c [] [] a b h command term size = (command, term, size, tt)
+one_more_assertion c (x ∷ as') (y ∷ bs) a b h command term size =
+    (h.0, h.1, h.2, one_more_assertion c as' bs a b h.3 command term size)
+one_more_assertion c [] (y ∷ bs) a b h command term size = absurd h
+one_more_assertion c (x ∷ as') [] a b h command term size = absurd h
 
 -- ---- lists
 
@@ -645,10 +645,11 @@ pub assert_effect : ContentsAreKept
     → (old : Stack) (l : Library) (as' : Vec Assertion) (a : Assertion) (term : Sexp)
     → AssertsIn old.library l term
     → ((s : Signature) → library.StandsFor old.library s → IsTermOf (contents_of l) a.term term)
+    → a.size ≡ weight term
     → Extends (contents_of old.library) (contents_of l)
     → as'.items ≡ old.assertions.items ++ a ∷ []
     → HasEffect old (record old { library = l; assertions = as' }) a.command (Assert term)
-assert_effect law old l as' a term asserts stored grown pushed = record {
+assert_effect law old l as' a term asserts stored size grown pushed = record {
   faultless = λ cs h. ap flaw_of (asserts (signature_in_force (profile_of old) cs) h.library).1;
   stands = λ cs h alike.
       let made = asserts (signature_in_force (profile_of old) cs) h.library in
@@ -664,7 +665,7 @@ assert_effect law old l as' a term asserts stored grown pushed = record {
       (record { command = a.command; term = term })
       (assertions_stay law (contents_of old.library) (contents_of l) grown old.assertions.items
       (assertions_in_force (profile_of old) cs) h.assertions) refl
-      (stored (signature_in_force (profile_of old) cs) h.library)));
+      (stored (signature_in_force (profile_of old) cs) h.library) size));
   start = refl;
 }
 

@@ -111,7 +111,7 @@ terms_within law c (b ∷ bs) [] n most h = absurd h
 terms_within law c [] (a ∷ as') n most h = absurd h
 terms_within law c (b ∷ bs) (a ∷ as') n most h =
     All-cons (λ x. x.term < n) a as' (let w = law c a.term b.term h.1 in omega arith)
-    (terms_within law c bs as' n most h.2)
+    (terms_within law c bs as' n most h.3)
 
 note_is_level : TermsHaveNodes → (s : Stack) (l : Level) (cs : List Numbered) (k : ℕ) → HasInForce s cs → NotesAll s l
     → depth_in_force cs ≤ k

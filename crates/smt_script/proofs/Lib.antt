@@ -11,3 +11,4 @@ pub mod LevelLemmas
 pub mod RunLemmas
 pub mod IntroducedLemmas
 pub mod ProfileLemmas
+pub mod WeightLemmas

@@ -66,7 +66,8 @@ are_needed law count c [] (a ∷ as') below h = absurd h
 are_needed law count c (b ∷ bs) (a ∷ as') below h = (
   h.0,
   law.terms count c a.term b.term (All-head (λ x. x.term < count) a as' below) h.1,
-  are_needed law count c bs as' (All-tail (λ x. x.term < count) a as' below) h.2,
+  h.2,
+  are_needed law count c bs as' (All-tail (λ x. x.term < count) a as' below) h.3,
 )
 
 needed_within : (count : ℕ) (c : Contents) (mark : Mark) → mark.nodes ≤ count → IsWithin mark c

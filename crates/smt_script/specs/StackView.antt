@@ -2,7 +2,7 @@
 use Rattle.std.specs.Prelude.{◌≡◌, ◌≤◌, ◌<◌, ◌-◌, ◌⊎◌, ℕ, zero, suc, List, [], ◌∷◌, Bool, true, false, Some}
 use Rattle.std.specs.Prelude.{length, nat_le, if◌then◌else◌, slice_get, take}
 use Rattle.std.specs.List.{All, filter}
-use Rattle.smt_trees.specs.Sexp.{Sexp}
+use Rattle.smt_trees.specs.Sexp.{Sexp, weight}
 use Rattle.smt_theory.specs.declared.profile.Profile.{Profile}
 use Rattle.smt_terms.specs.Contents.{Contents, Extends, IsBelow, IsWithin, contents_of, first_of, needed_of}
 use Rattle.smt_terms.specs.Denotes.{Denotes, Table}
@@ -40,11 +40,12 @@ start_of stack = stack.start
 abbrev pub profile_of : Stack → Profile
 profile_of stack = stack.start.profile
 
--- one by one they are of the same command, and the second's term stands under the first's number
+-- one by one they are of the same command, the second's term stands under the first's number, and has the first's
+-- size
 abbrev pub AreAssertions : Contents → List Assertion → List spec.Assertion → Type 0
 AreAssertions terms [] [] = Unit {0}
 AreAssertions terms (a ∷ as') (b ∷ bs) =
-    (a.command ≡ b.command) × IsTermOf terms a.term b.term × AreAssertions terms as' bs
+    (a.command ≡ b.command) × IsTermOf terms a.term b.term × (a.size ≡ weight b.term) × AreAssertions terms as' bs
 AreAssertions terms _ _ = ⊥
 
 -- what was brought at this level or an outer one

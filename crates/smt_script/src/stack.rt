@@ -28,12 +28,13 @@ use smt_terms::{Library, TermId};
 use smt_theory::{Profile, all_theories};
 use std::alloc::Global;
 
-/// An assertion: the number of the command that made it, from 1, and its term, by number in the stack's
-/// library.
+/// An assertion: the number of the command that made it, from 1; its term, by number in the stack's library; and how
+/// many atoms and lists the term has.
 #[derive(Clone, Copy)]
 pub struct Assertion {
     pub command: u64,
     pub term: TermId,
+    pub size: u32,
 }
 
 /// What is known of the logic, since the start or the last `Reset` (SMT-LIB 2.6, sections 4.1.1 and 4.2.1).

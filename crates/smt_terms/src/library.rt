@@ -340,7 +340,6 @@ impl Library<'_> {
     }
 
     // What a name means, if it is in force.
-    #[inline(always)]
     fn get(&self, name: &[u8]) -> Option<&Entry>
         ensures ranked { option_map (λ e. rank_of e.now) result
             ≡ look_up (names_of_library self.now).ranks name.now }

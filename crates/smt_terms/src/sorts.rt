@@ -236,6 +236,10 @@ impl SortNames {
     pub(crate) fn element_sort(&self, symbol: &[u8]) -> Option<Sort>
         ensures { result ≡ elements.element_sort (sort_names self.now) symbol.now }
     {
+        // Where no sort is declared, a symbol is not searched: it may be long.
+        if self.abbreviations.len() == 0 {
+            return None;
+        }
         let Some(name) = sort_of_element(symbol) else {
             return None;
         };

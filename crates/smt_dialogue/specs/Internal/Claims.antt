@@ -1,5 +1,6 @@
 -- The claims of the check whose window is open, as they are taken one after another.
-use Rattle.std.specs.Prelude.{◌≡◌, ℕ, ◌+◌, List, [], ◌∷◌, ◌++◌, drop, map}
+use Rattle.std.specs.Prelude.{◌≡◌, ℕ, ◌+◌, List, [], ◌∷◌, ◌++◌, Some, None, IfSome, drop, map}
+use Rattle.smt_trees.specs.Sexp.{Sexp, weight}
 use Rattle.smt_theory.specs.declared.profile.Profile.{Profile}
 use Rattle.smt_script.specs.Stack.{Numbered, assertions_in_force, assumptions_in_force}
 use Rattle.smt_script.specs.declared.stack.Assertion.{Assertion}
@@ -20,12 +21,13 @@ claims_after profile pairs = all_claims (assertions_after profile pairs) (assump
 
 abbrev pub of_assertions : List Assertion → List ReadClaim
 of_assertions assertions =
-    map (λ (a : Assertion). record { claim = claiming.Assertion a.command; term = a.term }) assertions
+    map (λ (a : Assertion). record { claim = claiming.Assertion a.command; term = a.term; size = Some a.size })
+    assertions
 
 abbrev pub of_assumptions : ℕ → List ℕ → List ReadClaim
 of_assumptions place [] = []
 of_assumptions place (id ∷ ids) =
-    record { claim = claiming.Assumption place; term = id } ∷ of_assumptions (place + 1) ids
+    record { claim = claiming.Assumption place; term = id; size = None } ∷ of_assumptions (place + 1) ids
 
 -- the claims that are left, each with the number of its term
 abbrev pub claims_left : Claims → List ReadClaim
@@ -38,3 +40,9 @@ AreClaimed terms [] [] = Unit {0}
 AreClaimed terms (a ∷ as') (b ∷ bs) =
     (a.claim ≡ b.claim) × Denotes terms [] 0 0 a.term b.term × AreClaimed terms as' bs
 AreClaimed terms _ _ = ⊥
+
+-- each that has a size has it of a term that stands under its number
+abbrev pub HaveSizes : Table → List ReadClaim → Type 0
+HaveSizes terms [] = Unit {0}
+HaveSizes terms (a ∷ as') =
+    IfSome a.size (λ n. (t : Sexp) × Denotes terms [] 0 0 a.term t × (n ≡ weight t)) × HaveSizes terms as'

@@ -1,9 +1,9 @@
 //! What each command does to what is in force, and the fault of its effect. What levels do is in `levels`.
 //! This file gets the parts of a command, and does not know how the command was written.
 
-ghost use Rattle.std.specs.Prelude.{◌≡◌, ◌∷◌, ◌||◌, ℕ, List, [], None, IfErr, MatchResult, OnOk, OnErr, option_map};
+ghost use Rattle.std.specs.Prelude.{◌≡◌, ◌∷◌, ◌||◌, ℕ, List, [], None, IfErr, IfOk, MatchResult, OnOk, OnErr, option_map};
 ghost use Rattle.std.specs.Str.Parse.{digits_value};
-ghost use Rattle.smt_trees.specs.Sexp.{Sexp};
+ghost use Rattle.smt_trees.specs.Sexp.{Sexp, weight};
 ghost use Rattle.smt_trees.specs.View.{sexp_of, sexps_of};
 ghost use Rattle.smt_forms.specs.Bindings.{named_trees};
 ghost use Rattle.smt_script.specs.Command as commands;
@@ -26,7 +26,7 @@ ghost use Rattle.smt_script.specs.Internal.Effect.{IsEnded, IsRefused, IsUnchang
 
 use crate::command::{Command, Kind};
 use crate::stack::{Assertion, LogicState, Stack};
-use smt_faults::{CommandFault, TermFault};
+use smt_faults::{CommandFault, Memory, TermFault};
 use smt_forms::params_of;
 use smt_terms::laws::{marks_are_kept, terms_are_kept};
 use smt_terms::{Library, TermId};
@@ -316,12 +316,32 @@ impl Stack {
         ensures grown { Extends (contents_of self.old.library) (contents_of self.new.library) }
     {
         contents_are_kept();
+        let size = size_of(term)?;
         let term = self.library.assert(term)?;
-        let command = number;
-        match self.assertions.push(Assertion { command, term }) {
+        let assertion = Assertion {
+            command: number,
+            term,
+            size,
+        };
+        match self.assertions.push(assertion) {
             Ok(()) => Ok(()),
             Err(_) => Err(CommandFault::Memory),
         }
+    }
+}
+
+// How many atoms and lists a tree has. A library has no room for the nodes of 2^32 and more.
+fn size_of(tree: Tree<'_>) -> Result<u32, Memory>
+    ensures { IfOk result (λ size. size ≡ weight (sexp_of tree.entry)) }
+{
+    let Tree::List(parts) = tree else {
+        return Ok(1);
+    };
+    let inside = parts.size();
+    if inside < u32::MAX as usize {
+        Ok(inside as u32 + 1)
+    } else {
+        Err(Memory)
     }
 }
 

@@ -1,5 +1,6 @@
-use Rattle.std.proofs.Common.{◌≡◌, ◌∙◌, ℕ, List, Some, ap, arith, cond, length, length-set, nat_eq, refl}
+use Rattle.std.proofs.Common.{sym, ◌≡◌, ◌∙◌, ℕ, List, Some, ap, arith, cond, length, length-set, nat_eq, refl}
 use Rattle.std.proofs.Common.{slice_get, slice_set, Result, Ok, Err, OnErr}
+use Rattle.std.specs.Global.{Vec}
 use Rattle.std.proofs.lemmas.List.{with_items_is}
 use Rattle.smt_machine.specs.Internal.KeptView.{found_by, kept_at}
 use Rattle.smt_machine.specs.declared.kept.Found.{Found}
@@ -20,8 +21,9 @@ returns-clause-kept c = λ other.
     ∙ ap (λ ps. found_by c.push.new.self.items (slice_get (slice_set ps number c.len-place.result) other) other)
     c.as_mut_slice.ensures.value
     ∙ ap (λ n. found_by c.push.new.self.items (slice_get (slice_set places number n) other) other)
-    (let v = c.make_room.new.self.found in
-    let long : c.len-place.result ≡ length v.items = omega (arith, c.len-place.ensures) in long)
+    (let v = c.args.self.now.found in
+    let long : c.len-place.result ≡ length v.items = omega (arith, c.len-place.ensures) in
+    long ∙ ap (λ (w : Vec Found). length w.items) (sym c.make_room.ensures.found))
     ∙ ap (λ fs. found_by fs (slice_get (slice_set places number (length found)) other) other)
     c.in_ok-push.ensures.items
     ∙ kept_more found places number other c.args.value (nat_eq other number) refl

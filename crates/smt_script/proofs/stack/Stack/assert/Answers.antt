@@ -10,7 +10,7 @@ use Rattle.smt_script.proofs.stack.Stack.assert.Goals as goal
 
 pub returns-in_err-term-clause-refused : goal.returns-in_err-term-clause-refused
 returns-in_err-term-clause-refused c =
-    let p = err_from_is_err_and c.from_residual.result c.from_residual.ensures.1 in
+    let p = err_from_is_err_and c.from_residual-in_err-term.result c.from_residual-in_err-term.ensures.1 in
     let term = sexp_of c.args.term in
     rw p.1
     (λ cs h.
@@ -20,15 +20,16 @@ returns-in_err-term-clause-refused c =
 
 pub returns-in_err-term-clause-unchanged : goal.returns-in_err-term-clause-unchanged
 returns-in_err-term-clause-unchanged c =
-    let p = err_from_is_err_and c.from_residual.result c.from_residual.ensures.1 in
+    let p = err_from_is_err_and c.from_residual-in_err-term.result c.from_residual-in_err-term.ensures.1 in
     rw p.1 (unchanged_by c.args.self.now c.assert.new.self c.args.self.now.assertions
     c.assert.ensures.grown c.assert.ensures.transient refl)
 
 pub returns-in-Ok-clause-effect : goal.returns-in-Ok-clause-effect
 returns-in-Ok-clause-effect c =
     assert_effect c.contents_are_kept.ensures c.args.self.now c.assert.new.self c.push.new.self
-    (record { command = c.args.number; term = c.in_ok-term.term }) (sexp_of c.args.term)
-    c.in_ok-term.ensures.asserted c.in_ok-term.ensures.term c.in_ok-term.ensures.grown c.in-Ok.ensures.items
+    (record { command = c.args.number; term = c.in_ok-term.term; size = c.in_ok-size.size }) (sexp_of c.args.term)
+    c.in_ok-term.ensures.asserted c.in_ok-term.ensures.term c.in_ok-size.ensures c.in_ok-term.ensures.grown
+    c.in-Ok.ensures.items
 
 pub returns-in-Err-clause-unchanged : goal.returns-in-Err-clause-unchanged
 returns-in-Err-clause-unchanged c =
