@@ -14,7 +14,6 @@ import tempfile
 FACTOR = 11_400_714_819_323_198_485
 ALL = (1 << 64) - 1
 LENGTH = 24
-THIRD = int.from_bytes(b"thirdone", "little")
 # The number of names of one key.
 ONE = [0x4142434445464748]
 # What stands in bars: printable, but no bar and no backslash.
@@ -37,8 +36,7 @@ def drawn(count, seed):
 
 def table_hash(middle):
     """What the library's table sees of a name that `chosen` makes with this number: `key` of keys.rt, `hash_of` of hasher.rt, and both halves in one."""
-    key = mixed(mixed(mixed(middle) ^ THIRD) ^ THIRD)
-    spread = mixed(mixed(key))
+    spread = mixed(mixed(mixed(middle)))
     return (spread ^ (spread >> 32)) & 0xFFFF_FFFF
 
 
@@ -56,14 +54,15 @@ def at_one_group(count):
 
 
 def chosen(count, seed, middles):
-    """So many names with these numbers in turn: of three pieces of eight bytes the second brings the hash of the first to the number, and the third
-    is one."""
+    """So many names with these numbers in turn: of three pieces of eight bytes the third brings both hashes of the others to the number."""
     maker, names, allowed = random.Random(seed), set(), set(BYTES)
     while len(names) < count:
-        first = bytes(maker.choice(BYTES) for _ in range(8))
-        second = (mixed(LENGTH ^ int.from_bytes(first, "little")) ^ middles[len(names) % len(middles)]).to_bytes(8, "little")
-        if allowed.issuperset(second):
-            names.add(first + second + THIRD.to_bytes(8, "little"))
+        pieces = [bytes(maker.choice(BYTES) for _ in range(8)) for _ in range(2)]
+        first, second = (int.from_bytes(piece, "little") for piece in pieces)
+        front, odd = mixed(mixed(LENGTH ^ first) ^ second), mixed(second)
+        third = (front ^ odd ^ middles[len(names) % len(middles)]).to_bytes(8, "little")
+        if allowed.issuperset(third):
+            names.add(b"".join(pieces) + third)
     return sorted(names)
 
 
