@@ -152,14 +152,14 @@ $valid
 END
 head -n 1 "$work/wanted" >"$work/wanted_first"
 
-# until_true WHAT COMMAND..: waits until the command succeeds, for ten seconds at most.
+# until_true WHAT COMMAND..: waits until the command succeeds, for forty seconds at most: the machine may be busy.
 until_true() {
     what=$1
     shift
     tries=0
     while ! "$@"; do
         tries=$((tries + 1))
-        [ "$tries" -lt 200 ] || fail "$what: $(cat "$work/output" "$work/errors")"
+        [ "$tries" -lt 800 ] || fail "$what: $(cat "$work/output" "$work/errors")"
         sleep 0.05
     done
 }
@@ -167,6 +167,11 @@ until_true() {
 # Whether the first line stands, and nothing else.
 stands_first() {
     cmp -s "$work/output" "$work/wanted_first"
+}
+
+# Whether more than one line stands.
+stands_second() {
+    [ "$(wc -l <"$work/output")" -gt 1 ]
 }
 
 # begins: the program runs on two named pipes, open as 3 and 4 here, and prints into the file `output`.
@@ -188,7 +193,7 @@ ends() {
 # ended WHAT STATUS LINE: the same where the texts go on.
 ended() {
     status=0
-    wait "$running" || status=$?
+    wait "$running" 2>"$work/waited" || status=$?
     [ "$status" = "$2" ] && [ "$(cat "$work/errors")" = "$3" ] || fail "$1: status $status, $(cat "$work/errors")"
 }
 
@@ -290,13 +295,14 @@ awk 'BEGIN {
 }' >"$work/long_script"
 lines 500 'sat ()' >"$work/long_answers"
 : >"$work/output"
-timeout 5 "$program" --print-success off "$work/long_script" "$work/long_answers" >"$work/output" 2>"$work/errors" &
+timeout 60 "$program" --print-success off "$work/long_script" "$work/long_answers" >"$work/output" 2>"$work/errors" &
 running=$!
 until_true 'a line before the next model' test -s "$work/output"
 kill -0 "$running" || fail 'a line before the next model: the run has ended'
 [ "$(wc -l <"$work/output")" -lt 20 ] || fail 'a line before the next model: it comes with others'
-ended 'a run that is stopped' 124 ''
-[ "$(wc -l <"$work/output")" -gt 1 ] || fail "a run that is stopped: $(cat "$work/output")"
+until_true 'a second line' stands_second
+kill "$running"
+ended 'a run that is stopped' 143 ''
 awk '$0 != "check " NR " at command " 2 * NR + 21 ": sat, confirmed" { exit 1 }' "$work/output" ||
     fail "a run that is stopped: $(cat "$work/output")"
 
