@@ -5,6 +5,8 @@ ghost use Rattle.std.specs.Prelude.{◌≡◌, map};
 ghost use Rattle.std.proofs.Props.{props};
 ghost use Rattle.smt_forms.specs.NamesIn.{names_in};
 
+use crate::library::SHORT;
+use smallvec::SmallVec;
 use smt_faults::Memory;
 use smt_forms::NameSet;
 use smt_nodes::TermId;
@@ -16,7 +18,7 @@ use std::mem;
 /// A label: its name, without bars, and the term that it names, with its sort and its node.
 #[derive(Drop)]
 pub(crate) struct Label<'a> {
-    pub(crate) name: Vec<u8>,
+    pub(crate) name: SmallVec<u8, SHORT>,
     pub(crate) sort: Sort,
     pub(crate) body: Tree<'a>,
     pub(crate) node: TermId,
@@ -100,7 +102,7 @@ impl<'a> Labels<'a> {
         ensures refuses { self.new.refused ≡ self.old.refused }
     {
         let label = Label {
-            name: Vec::from_slice(alloc, name)?,
+            name: SmallVec::from_slice(alloc, name)?,
             sort,
             body: term,
             node,

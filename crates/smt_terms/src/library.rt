@@ -39,6 +39,7 @@ use crate::labels::Labels;
 use crate::library::arguments::Arguments;
 use crate::library::element_names::ElementNames;
 use crate::sorts::SortNames;
+use smallvec::SmallVec;
 use smt_faults::{Memory, TermFault};
 use smt_names::NameMap;
 use smt_nodes::{Node, Nodes, TermId};
@@ -48,6 +49,9 @@ use std::alloc::Global;
 
 // The most names among which a search compares a name with each one.
 const FEW: usize = 8;
+
+/// The most bytes of a defined name that is stored without an allocation of its own.
+pub const SHORT: usize = 16;
 
 /// What a name means: a function of this rank, declared or defined at this place.
 #[derive(Drop)]
@@ -84,7 +88,7 @@ pub struct Declared {
 #[derive(Drop)]
 pub struct Definition {
     /// The bytes of its name, without bars.
-    pub name: Vec<u8>,
+    pub name: SmallVec<u8, SHORT>,
     /// Its parameters in order: the bytes of each name, without bars, and its sort.
     pub params: Vec<(Vec<u8>, Sort)>,
     /// The sort of its result, and of its body.

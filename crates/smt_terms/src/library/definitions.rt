@@ -25,6 +25,7 @@ use crate::labels::Labels;
 use crate::library::params::{named_parameters, sorted_params, sorts_of_variables};
 use crate::library::{Definition, Entry, Found, Library};
 use crate::sorts::are_equal;
+use smallvec::SmallVec;
 use smt_faults::{Memory, TermFault};
 use smt_forms::{Param, Variable};
 use smt_nodes::TermId;
@@ -160,7 +161,7 @@ impl Library<'_> {
         ensures transient { self.new.transient ≡ self.old.transient }
     {
         let definition = Definition {
-            name: Vec::from_slice(self.alloc, name)?,
+            name: SmallVec::from_slice(self.alloc, name)?,
             params: named_parameters(self.alloc, parameters)?,
             result: sort,
         };
@@ -215,8 +216,8 @@ impl Library<'_> {
         ensures nodes { self.new.nodes ≡ self.old.nodes }
         ensures transient { self.new.transient ≡ self.old.transient }
     {
-        let _ = self.definitions.pop();
         let _ = self.bodies.pop();
         let _ = self.ends.pop();
+        let _ = self.definitions.pop();
     }
 }

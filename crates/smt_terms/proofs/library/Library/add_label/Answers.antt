@@ -17,9 +17,9 @@ returns-clause-added c =
     on_ok_weaker c.insert_definition.result
     (λ added bodies s stands fit.
     subst (λ x. HoldsUnder bodies (contents_of c.insert_definition.new.self)
-    (with_entry s (definition x [] l.sort (sexp_of l.body)))) c.as_slice.ensures.value
+    (with_entry s (definition x [] l.sort (sexp_of l.body)))) c.as_slice.ensures
     (added bodies s (sexp_of l.body) stands
-    (ap (λ x. is_plain_operator s.theories x) c.as_slice.ensures.value ∙ fit.free) fit.named))
+    (ap (λ x. is_plain_operator s.theories x) c.as_slice.ensures ∙ fit.free) fit.named))
     c.insert_definition.ensures.added
 
 pub returns-clause-ranks : goal.returns-clause-ranks
@@ -27,12 +27,12 @@ returns-clause-ranks c =
     let l = c.args.label.now in
     on_ok_weaker c.insert_definition.result
     (λ ranks. ranks ∙ ap
-    (λ x. ranks_of_library c.args.self.now ++ (x, rank_of_entry (label_entry l)) ∷ []) c.as_slice.ensures.value)
+    (λ x. ranks_of_library c.args.self.now ++ (x, rank_of_entry (label_entry l)) ∷ []) c.as_slice.ensures)
     c.insert_definition.ensures.ranks
 
 pub returns-clause-names : goal.returns-clause-names
 returns-clause-names c =
     on_ok_weaker c.insert_definition.result
     (λ names. names ∙ ap
-    (λ x. names_of_definitions c.args.self.now.definitions.items ++ x ∷ []) c.as_slice.ensures.value)
+    (λ x. names_of_definitions c.args.self.now.definitions.items ++ x ∷ []) c.as_slice.ensures)
     c.insert_definition.ensures.names

@@ -16,6 +16,19 @@ use Rattle.smt_forms.specs.ScopeView.{scope_view}
 use Rattle.smt_terms.proofs.StandsLemmas.{counted, on_err, stands_defined, undone_push}
 use Rattle.smt_terms.proofs.library.Library.insert_definition.Goals as goal
 
+pub returns-in_err-sorts_of_variables-clause-unchanged : goal.returns-in_err-sorts_of_variables-clause-unchanged
+returns-in_err-sorts_of_variables-clause-unchanged c = on_err c.from_residual-in_err-sorts_of_variables.result (record {
+  theories = refl;
+  elements = refl;
+  abbreviations = refl;
+  ranks = refl;
+  heads = refl;
+  declared = refl;
+  definitions = refl;
+  bodies = refl;
+  rows = nothing_more _ _ refl;
+})
+
 pub returns-in_err-push_definition-clause-unchanged : goal.returns-in_err-push_definition-clause-unchanged
 returns-in_err-push_definition-clause-unchanged c = on_err c.from_residual-in_err-push_definition.result (record {
   theories = ap (λ (z : SortNames). z.theories) c.push_definition.ensures.sorts;
@@ -80,7 +93,7 @@ returns-in-Ok-clause-added c = λ bodies s t stands free node.
     let names : heads_of_library c.push_definition.new.self ≡ heads_of_library old = rw first.names refl in
     stands_defined bodies (contents_of old) (contents_of c.insert.new.self) s c.args.name.now
     (scope_view c.args.parameters.now) _ t c.args.node c.requires.absent free c.requires.apart
-    c.in_ok-from_slice.ensures.items
+    c.in_ok-from_slice.ensures.ok
     c.in_ok-named_parameters.ensures node
     (ap (λ (z : SortNames). z.theories) (then.sorts ∙ first.sorts)) (same_elements (then.elements ∙ first.elements))
     (ap abbreviations_of (then.sorts ∙ first.sorts))
@@ -116,7 +129,7 @@ returns-in-Ok-clause-names c =
     let before = c.args.self.now.definitions.items in
     ap names_of_definitions (c.insert.ensures.definitions ∙ c.in_ok-push_definition.ensures.definitions)
     ∙ map-append (λ (d : Definition). d.name.items) before _
-    ∙ ap (λ (x : List ℕ). names_of_definitions before ++ x ∷ []) c.in_ok-from_slice.ensures.items
+    ∙ ap (λ (x : List ℕ). names_of_definitions before ++ x ∷ []) c.in_ok-from_slice.ensures.ok
 
 pub returns-in-Ok-clause-bodies : goal.returns-in-Ok-clause-bodies
 returns-in-Ok-clause-bodies c = c.insert.ensures.bodies ∙ c.in_ok-push_definition.ensures.bodies

@@ -9,17 +9,17 @@ invariant_of-self c =
     let old = c.args.self.now in
     let ends = ap length old.ended ∙ length-ends 0 old.bodies.items in
     record {
-      paired = ap length c.pop-2.ensures.rest ∙ length-take _ old.bodies.items
+      paired = ap length c.pop.ensures.rest ∙ length-take _ old.bodies.items
           ∙ omega (
             arith,
             old.paired,
             old.bodies.ok,
             old.definitions.ok,
-            ap length c.pop.ensures.rest ∙ length-take
+            ap length c.pop-3.ensures.rest ∙ length-take
                 _ old.definitions.items,
           );
-      ended = c.pop-3.ensures.rest
+      ended = c.pop-2.ensures.rest
           ∙ ends_taken old.ends.items old.bodies.items _ _ old.ended
           (omega (arith, ends, old.ends.ok, old.bodies.ok))
-          ∙ ap (ends_from 0) (sym c.pop-2.ensures.rest);
+          ∙ ap (ends_from 0) (sym c.pop.ensures.rest);
     }
