@@ -374,6 +374,20 @@ printf '%s' 'sat ((define-fun c () U (as @a U)))' >"$work/a"
 grep -qx '    too long: the claims of this check cost 5 steps; --steps sets the limit' "$work/told" || fail 'the cost of an element'
 "$program" --profile wide --steps 5 --print-success off "$work/s" "$work/a" >"$work/told" || fail 'the cost of an element'
 
+# Conditions that stand in one another: each has its own value.
+branch='    it decides which branch of an ite is taken'
+explains - off "$(printf '%s' '(declare-const p Bool)(declare-const q Bool)(declare-const r Bool)' \
+    '(assert (ite (ite (ite (ite p q r) r q) p r) (not r) p))(check-sat)(get-model)')" \
+    'sat ((define-fun p () Bool true)(define-fun q () Bool false)(define-fun r () Bool true))' \
+    's:1:123: check 1, command 5: (check-sat)' \
+    's:1:67: claim, command 4: (assert (ite (ite (ite (ite p q r) r q) p r) (not r) p))' \
+    's:1:67: true: r' '    r = true' 'a:1:61: item r' \
+    's:1:67: true: r' "$branch" '    r = true' 'a:1:61: item r' \
+    's:1:67: false: q' "$branch" '    q = false' 'a:1:33: item q' \
+    's:1:67: false: q' "$branch" '    q = false' 'a:1:33: item q' \
+    's:1:67: true: p' "$branch" '    p = true' 'a:1:6: item p' \
+    'a:1:5: model'
+
 # ---- lists that nest deep, in the profile wide
 explains X2 off "$(printf '%01000001d' 0 | tr 0 '(')" '' 's:1:1000001: fault: a list at a depth over 1,000,000'
 # Their parts are told too.

@@ -52,6 +52,23 @@ pub(crate) struct Part<'a> {
     pub(crate) is_condition: bool,
 }
 
+/// An `ite`, with its condition and its branches.
+#[derive(Clone, Copy)]
+struct Choice<'a> {
+    whole: Part<'a>,
+    condition: Part<'a>,
+    first: Part<'a>,
+    second: Part<'a>,
+}
+
+/// The value of a condition of an `ite`.
+#[derive(Clone, Copy)]
+struct Condition {
+    scope: usize,
+    node: usize,
+    value: Known,
+}
+
 /// A walk down from a claim to the parts that give it its value.
 #[derive(Drop)]
 pub struct Walk<'a, 'l> {
@@ -60,6 +77,8 @@ pub struct Walk<'a, 'l> {
     pub(crate) work: Work<'a, 'l>,
     /// The parts that are left, the first on top.
     left: Vec<Part<'a>>,
+    /// Conditions that were evaluated ahead, each inside the one behind it.
+    conditions: Vec<Condition>,
 }
 
 impl<'a, 'l> Walk<'a, 'l> {
@@ -70,6 +89,7 @@ impl<'a, 'l> Walk<'a, 'l> {
             world,
             work: Work::new(alloc, Evaluator::new(alloc, parts, steps)),
             left: Vec::new(alloc),
+            conditions: Vec::new(alloc),
         }
     }
 
@@ -306,7 +326,7 @@ impl<'a, 'l> Walk<'a, 'l> {
             (Known::False, b"and") => self.push_one(part, args, Known::False, 0),
             (Known::True, b"or") => self.push_one(part, args, Known::True, 0),
             (Known::True | Known::False, b"=>") => self.push_implied(part, args),
-            (Known::True | Known::False, b"ite") => self.push_branch(part, args),
+            (Known::True | Known::False, b"ite") => self.push_branch(part),
             _ => {}
         }
         // (The part added last is on top, where the first has to be.)
@@ -412,30 +432,99 @@ impl<'a, 'l> Walk<'a, 'l> {
         }
     }
 
-    fn push_branch(&mut self, part: Part<'a>, args: Trees<'a>) {
-        let Some((condition, rest)) = args.split_first() else {
+    fn push_branch(&mut self, part: Part<'a>) {
+        let Some(choice) = self.choice(part) else {
             return;
         };
-        let Some(condition) = self.argument(part, 0, condition, Known::Open) else {
-            return;
-        };
-        let value = self.known(condition);
-        let branch = match (value, rest.split_first()) {
-            (Known::True, Some((term, _))) => self.argument(part, 1, term, part.value),
-            (Known::False, Some((_, rest))) => match rest.split_first() {
-                Some((term, _)) => self.argument(part, 2, term, part.value),
-                None => None,
-            },
-            _ => None,
-        };
-        if let Some(branch) = branch {
-            self.push(branch);
+        let value = self.condition_value(choice.condition);
+        match value {
+            Known::True => self.push(choice.first),
+            Known::False => self.push(choice.second),
+            Known::Else | Known::Open => {}
         }
         self.push(Part {
             value,
             is_condition: true,
-            ..condition
+            ..choice.condition
         })
+    }
+
+    // The parts of a part that is an `ite`.
+    fn choice(&self, part: Part<'a>) -> Option<Choice<'a>> {
+        let Tree::List(parts) = part.term else {
+            return None;
+        };
+        let Some((Tree::Symbol(b"ite"), args)) = parts.split_first() else {
+            return None;
+        };
+        let (condition, rest) = args.split_first()?;
+        let (first, rest) = rest.split_first()?;
+        let (second, _) = rest.split_first()?;
+        Some(Choice {
+            whole: part,
+            condition: self.argument(part, 0, condition, Known::Open)?,
+            first: self.argument(part, 1, first, part.value)?,
+            second: self.argument(part, 2, second, part.value)?,
+        })
+    }
+
+    // The value of a condition. Where it is an `ite` too, the walk asks next for the condition in it. So conditions
+    // that stand in one another are evaluated together, the innermost first, and no part of them is evaluated twice.
+    fn condition_value(&mut self, condition: Part<'a>) -> Known {
+        if let Some(value) = self.value_found(condition) {
+            return value;
+        }
+        let mut choices = Vec::new(self.alloc);
+        let mut inner = condition;
+        while choices.len() < MOST {
+            let Some(choice) = self.choice(inner) else {
+                break;
+            };
+            if choices.push(choice).is_err() {
+                self.refuse();
+                break;
+            }
+            inner = choice.condition;
+        }
+        let mut value = self.known(inner);
+        if !choices.is_empty() {
+            self.conditions.clear();
+            self.note(inner, value);
+        }
+        while let Some(choice) = choices.pop() {
+            value = self.value_of_choice(choice, value);
+            self.note(choice.whole, value);
+        }
+        value
+    }
+
+    fn value_found(&self, condition: Part<'a>) -> Option<Known> {
+        for found in self.conditions.as_slice() {
+            if found.node == condition.node && found.scope == condition.scope {
+                return Some(found.value);
+            }
+        }
+        None
+    }
+
+    fn note(&mut self, condition: Part<'a>, value: Known) {
+        let found = Condition {
+            scope: condition.scope,
+            node: condition.node,
+            value,
+        };
+        if self.conditions.push(found).is_err() {
+            self.refuse();
+        }
+    }
+
+    // The value of an `ite` whose condition has this value.
+    fn value_of_choice(&mut self, choice: Choice<'a>, condition: Known) -> Known {
+        match condition {
+            Known::True => self.known(choice.first),
+            Known::False => self.known(choice.second),
+            Known::Else | Known::Open => self.known(choice.whole),
+        }
     }
 }
 
